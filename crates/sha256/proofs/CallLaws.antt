@@ -1,0 +1,31 @@
+-- What a call of the hasher answers and leaves, by its tests.
+use mathlib.Core.Path.{_≡_, refl, sym, ap, _∙_}
+use mathlib.Core.Bool.{Bool, true, false, _&&_}
+use mathlib.Core.List.{List}
+use Prim.Native.Nat.{ℕ, _≤_, _<_}
+use lib.ListN.{length}
+use lib.Dec.{leb, eqb}
+use borrow.Author.Tests.{le-leb, lt-leb, eq-eqb, ne-eqb}
+use Rattle.octets.specs.Choice.{pick}
+use Rattle.sha256.specs.declared.Answer.the-variants.{Done, Length}
+use Rattle.sha256.specs.Hash.{sha256}
+use Rattle.sha256.specs.Call.{longest, fits, answer, after}
+
+module _ (m d : List ℕ) where
+  refused : fits m d ≡ false → (Length ≡ answer m d) × (d ≡ after m d)
+  unfolding answer after pick
+  refused e = (rw e, rw e)
+
+  pub too-long : longest < length m → (Length ≡ answer m d) × (d ≡ after m d)
+  unfolding fits
+  too-long h = refused (rw (lt-leb (length m) longest h))
+
+  pub other-digest : length m ≤ longest → (length d ≡ 32 → ⊥) → (Length ≡ answer m d) × (d ≡ after m d)
+  unfolding fits
+  other-digest h l = refused (rw (le-leb (length m) longest h, ne-eqb (length d) 32 l))
+
+  pub hashed-call : (out : List ℕ) → length m ≤ longest → length d ≡ 32 → out ≡ sha256 m → (Done ≡ answer m d) × (out ≡ after m d)
+  unfolding fits answer after pick
+  hashed-call out h l e =
+      let t : (leb (length m) longest && eqb (length d) 32) ≡ true = rw (le-leb (length m) longest h, eq-eqb (length d) 32 l) in
+      (rw t, rw t e)
