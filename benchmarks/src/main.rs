@@ -1,0 +1,48 @@
+//! The program that `benchmarks/run` times and counts.
+//!
+//!     benchmarks check                  whether all hashers give the same digests
+//!     benchmarks time TRIALS NAME..     prints NAME, LENGTH and the fewest nanoseconds a message
+//!     benchmarks work NAME LENGTH N     hashes N messages and prints nothing
+
+mod clock;
+mod openssl;
+mod sha256;
+mod timing;
+
+use std::process::ExitCode;
+
+const USAGE: &str = "usage: check | time TRIALS NAME.. | work NAME LENGTH N";
+
+fn main() -> ExitCode {
+    let words: Vec<String> = std::env::args().skip(1).collect();
+    let words: Vec<&str> = words.iter().map(String::as_str).collect();
+    match run(&words) {
+        Ok(()) => ExitCode::SUCCESS,
+        Err(message) => {
+            eprintln!("benchmarks: {message}");
+            ExitCode::FAILURE
+        }
+    }
+}
+
+fn run(words: &[&str]) -> Result<(), String> {
+    match words {
+        ["check"] => timing::check(),
+        ["time", trials, names @ ..] => timing::time(number(trials)?, &hashers(names)?),
+        ["work", name, len, times] => timing::work(hasher(name)?, number(len)?, number(times)?),
+        _ => Err(USAGE.to_string()),
+    }
+}
+
+fn number(word: &str) -> Result<usize, String> {
+    word.parse().map_err(|_| format!("{word}: not a number"))
+}
+
+fn hasher(name: &str) -> Result<&'static sha256::Hasher, String> {
+    let named = sha256::HASHERS.iter().find(|hasher| hasher.name == name);
+    named.ok_or_else(|| format!("{name}: no such hasher"))
+}
+
+fn hashers(names: &[&str]) -> Result<Vec<&'static sha256::Hasher>, String> {
+    names.iter().map(|name| hasher(name)).collect()
+}

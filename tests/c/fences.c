@@ -1,0 +1,113 @@
+/*
+ * Reads and writes stay inside the lent buffers: each buffer is lent with its
+ * start, and then with its end, at a page that nobody may touch.
+ */
+#define _DEFAULT_SOURCE
+#include "cedunmi.h"
+
+#include <signal.h>
+#include <stdio.h>
+#include <stdlib.h>
+#include <sys/mman.h>
+#include <sys/wait.h>
+#include <unistd.h>
+
+enum { PAGE = 4096, MESSAGE_ROOM = CMT_SHA256_MESSAGE_MAX + PAGE };
+
+typedef uint64_t sha256(const uint8_t *, size_t, uint8_t *, size_t);
+
+static uint8_t *message_room, *digest_room;
+
+/* Room for `bytes` bytes, whole pages, with a fence on each side. */
+static uint8_t *fenced(size_t bytes)
+{
+    uint8_t *pages = mmap(NULL, bytes + 2 * PAGE, PROT_NONE,
+                          MAP_PRIVATE | MAP_ANONYMOUS, -1, 0);
+    if (pages == MAP_FAILED ||
+        mprotect(pages + PAGE, bytes, PROT_READ | PROT_WRITE) != 0) {
+        perror("fences");
+        exit(2);
+    }
+    return pages + PAGE;
+}
+
+static void touched(int signal)
+{
+    static const char text[] = "fences: a call touched bytes outside its buffers\n";
+    ssize_t written = write(STDERR_FILENO, text, sizeof text - 1);
+    (void)signal;
+    (void)written;
+    _exit(1);
+}
+
+/* Lends both buffers at their starts, then both at their ends. */
+static void lend(sha256 *call, size_t message_len, size_t digest_len)
+{
+    call(message_room, message_len, digest_room, digest_len);
+    call(message_room + MESSAGE_ROOM - message_len, message_len,
+         digest_room + PAGE - digest_len, digest_len);
+}
+
+static void lend_all(sha256 *call)
+{
+    for (size_t len = 0; len <= 400; len++) {
+        lend(call, len, CMT_SHA256_DIGEST_BYTES);
+    }
+    for (size_t len = CMT_SHA256_MESSAGE_MAX - 1; len <= CMT_SHA256_MESSAGE_MAX + 1; len++) {
+        lend(call, len, CMT_SHA256_DIGEST_BYTES);
+    }
+    for (size_t digest_len = 0; digest_len <= 64; digest_len++) {
+        lend(call, 256, digest_len);
+    }
+}
+
+/* Wrong functions, to show that the fences find what they do. */
+
+static uint64_t reads_after(const uint8_t *m, size_t n, uint8_t *d, size_t dn)
+{
+    (void)d, (void)dn;
+    return *(const volatile uint8_t *)(m + n);
+}
+
+static uint64_t reads_before(const uint8_t *m, size_t n, uint8_t *d, size_t dn)
+{
+    (void)n, (void)d, (void)dn;
+    return *(const volatile uint8_t *)(m - 1);
+}
+
+static uint64_t writes_without_looking(const uint8_t *m, size_t n, uint8_t *d, size_t dn)
+{
+    (void)m, (void)n, (void)dn;
+    for (size_t i = 0; i < CMT_SHA256_DIGEST_BYTES; i++) {
+        ((volatile uint8_t *)d)[i] = 0;
+    }
+    return CMT_DONE;
+}
+
+/* Whether the fences find a wrong function, tried in a process of its own. */
+static int found(sha256 *wrong)
+{
+    int status = 0;
+    pid_t child = fork();
+    if (child == 0) {
+        close(STDERR_FILENO);
+        lend_all(wrong);
+        _exit(0);
+    }
+    return child > 0 && waitpid(child, &status, 0) == child && WIFEXITED(status) &&
+           WEXITSTATUS(status) == 1;
+}
+
+int main(void)
+{
+    message_room = fenced(MESSAGE_ROOM);
+    digest_room = fenced(PAGE);
+    signal(SIGSEGV, touched);
+    if (!found(reads_after) || !found(reads_before) || !found(writes_without_looking)) {
+        printf("fences: a wrong function was not found\n");
+        return 1;
+    }
+    lend_all(cmt_sha256);
+    printf("fences: ok\n");
+    return 0;
+}

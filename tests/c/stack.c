@@ -1,0 +1,74 @@
+/*
+ * How much stack a call uses: it is made on a stack of its own that was filled
+ * with one byte, and the deepest byte that then holds another is looked for.
+ * Fails where it is deeper than the header says.
+ */
+#define _XOPEN_SOURCE 700
+#include "cedunmi.h"
+
+#include <stdio.h>
+#include <string.h>
+#include <ucontext.h>
+
+enum { STACK = 65536, KNOWN = 3 * CMT_STACK_BYTES };
+
+static uint8_t stack[STACK];
+static uint8_t message[CMT_SHA256_MESSAGE_MAX];
+static uint8_t digest[CMT_SHA256_DIGEST_BYTES];
+static size_t message_len;
+
+static void sha256(void)
+{
+    cmt_sha256(message, message_len, digest, sizeof digest);
+}
+
+/* Uses at least KNOWN bytes, to show that the measuring finds them. */
+static void known(void)
+{
+    volatile uint8_t room[KNOWN];
+    for (size_t i = 0; i < sizeof room; i++) {
+        room[i] = (uint8_t)i;
+    }
+}
+
+/* The bytes of stack that `call` uses, where they differ from `fill`. */
+static size_t used_over(void (*call)(void), uint8_t fill)
+{
+    static ucontext_t caller, callee;
+    size_t unused = 0;
+    memset(stack, fill, sizeof stack);
+    getcontext(&callee);
+    callee.uc_stack.ss_sp = stack;
+    callee.uc_stack.ss_size = sizeof stack;
+    callee.uc_link = &caller;
+    makecontext(&callee, call, 0);
+    swapcontext(&caller, &callee);
+    while (unused < sizeof stack && stack[unused] == fill) {
+        unused++;
+    }
+    return sizeof stack - unused;
+}
+
+static size_t used(void (*call)(void))
+{
+    size_t first = used_over(call, 0x55);
+    size_t second = used_over(call, 0xaa);
+    return first > second ? first : second;
+}
+
+int main(void)
+{
+    const size_t lengths[] = {0, 1, 55, 56, 64, 119, 120, 256, 4096, sizeof message};
+    size_t most = 0;
+    for (size_t i = 0; i < sizeof lengths / sizeof *lengths; i++) {
+        message_len = lengths[i];
+        size_t bytes = used(sha256);
+        most = bytes > most ? bytes : most;
+    }
+    if (used(known) < KNOWN) {
+        printf("stack: the measuring misses a known use\n");
+        return 1;
+    }
+    printf("stack: cmt_sha256 used %zu bytes, %d are allowed\n", most, CMT_STACK_BYTES);
+    return most > CMT_STACK_BYTES;
+}

@@ -1,0 +1,32 @@
+//! Compares the proved library with an independent implementation and with the
+//! system's own tools: the results of its calls, and every byte of every buffer
+//! that they are lent. It stops at the first difference.
+
+mod difference;
+mod lent;
+mod messages;
+mod random;
+mod sha256;
+mod system;
+
+use cedunmi_sys::{Library, CEDUNMI};
+use difference::Failure;
+use std::process::ExitCode;
+
+/// Makes the comparisons of one subject, and gives their number.
+type Compare = fn(&Library) -> Result<u64, Failure>;
+
+const SUBJECTS: [(&str, Compare); 1] = [("sha256", sha256::compare)];
+
+fn main() -> ExitCode {
+    for (subject, compare) in SUBJECTS {
+        match compare(&CEDUNMI) {
+            Ok(made) => println!("differential: {subject}: {made} comparisons, no difference"),
+            Err(failure) => {
+                eprintln!("differential: {subject}: {failure}");
+                return ExitCode::FAILURE;
+            }
+        }
+    }
+    ExitCode::SUCCESS
+}

@@ -1,0 +1,6 @@
+//! An independent implementation, to compare the proved library with.
+//!
+//! It is written from the published documents, each module from the one that
+//! it names, and shares no code with the proved library.
+
+pub mod sha256;
