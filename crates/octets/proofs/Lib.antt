@@ -1,2 +1,4 @@
 pub mod Bytes
 pub mod Bits
+pub mod Stores
+pub mod HexLaws

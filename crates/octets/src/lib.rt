@@ -1,8 +1,11 @@
-// Work on byte slices: 32-bit words in them, the highest byte first.
+// Work on byte slices: 32-bit words in them, the highest byte first; copies; their hexadecimal form.
+mod hex;
+
+pub use hex::put_hex;
 ghost use mathlib.Core.Path.{_≡_};
 ghost use Prim.Native.Nat.{_+_, _*_, _≤_, _^_};
 ghost use lib.ListN.{length};
-ghost use lib.Seq.{sets};
+ghost use lib.Seq.{sets, paste};
 ghost use Rattle.octets.specs.BigEndian.{be, wordAt};
 
 // Four bytes as a word.
@@ -29,4 +32,14 @@ pub fn put_word(s: &mut [u8], at: usize, x: u32)
     s[at + 1] = (x / 65536 % 256) as u8;
     s[at + 2] = (x / 256 % 256) as u8;
     s[at + 3] = (x % 256) as u8;
+}
+
+// Copies s into d, from byte at on.
+pub fn copy_at(s: &[u8], d: &mut [u8], at: usize)
+    requires { ⌜ at + length (now s) ≤ length (now d) ⌝ }
+    ensures { λ r. ⌜ now (d .exit) ≡ paste (now (d .entry)) at (now (s .entry)) (length (now (s .entry))) ⌝ }
+{
+    for i in 0..s.len() {
+        d[at + i] = s[i];
+    }
 }

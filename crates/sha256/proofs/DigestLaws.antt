@@ -4,10 +4,11 @@ use mathlib.Core.List.{List, [], _∷_, _++_, append-assoc, append-nil}
 use Prim.Native.Nat.{ℕ, zero, suc, _+_, _*_, _/_, _≤_, _<_}
 use native.Mathlib.Omega.{arith}
 use native.Mathlib.Numerals.{add-one}
-use lib.ListN.{length, getD, take, drop, length-append}
-use lib.Seq.{sets, sets-eq, take-at, take-suc, take-all, length-take-le}
+use lib.ListN.{length, getD, take}
+use lib.Seq.{sets, take-suc, take-all}
 use Rattle.octets.specs.BigEndian.{be, bytesOf}
 use Rattle.octets.proofs.Bytes.{length-be, length-bytesOf}
+use Rattle.octets.proofs.Stores.{take-sets}
 use Rattle.sha256.specs.Constants.{initial}
 use Rattle.sha256.specs.Padding.{pad, block}
 use Rattle.sha256.specs.Hash.{added, compress, hashed, sha256}
@@ -32,12 +33,10 @@ pub put-more : (h out out′ : List ℕ) (i : ℕ) → i < length h → i * 4 + 
     → out′ ≡ sets out (i * 4) (be 4 (getD h i 0)) → take ((i + 1) * 4) out′ ≡ bytesOf (take (i + 1) h)
 put-more h out out′ i hi ho e eo =
     let l : length (be 4 (getD h i 0)) ≡ 4 = length-be 4 _ in
-    let k : (i + 1) * 4 ≡ i * 4 + 4 = omega arith in
-    let lt : length (take (i * 4) out) ≡ i * 4 = length-take-le (i * 4) out (omega arith) in
-    let la : length (take (i * 4) out ++ be 4 (getD h i 0)) ≡ i * 4 + 4 = rw length-append (omega arith) in
-    ap₂ take k (eo ∙ sets-eq (be 4 (getD h i 0)) out (i * 4) (omega arith))
-    ∙ take-at (take (i * 4) out ++ be 4 (getD h i 0)) (drop (i * 4 + length (be 4 (getD h i 0))) out) (i * 4 + 4) la
-    ∙ ap (λ v. v ++ be 4 (getD h i 0)) e ∙ sym (ap (λ n. bytesOf (take n h)) (add-one i) ∙ ap bytesOf (take-suc h i 0 hi) ∙ bytesOf-snoc (take i h) (getD h i 0))
+    let k : (i + 1) * 4 ≡ i * 4 + length (be 4 (getD h i 0)) = omega arith in
+    ap₂ take k eo ∙ take-sets out (be 4 (getD h i 0)) (i * 4) (omega arith)
+    ∙ ap (λ v. v ++ be 4 (getD h i 0)) e
+    ∙ sym (ap (λ n. bytesOf (take n h)) (add-one i) ∙ ap bytesOf (take-suc h i 0 hi) ∙ bytesOf-snoc (take i h) (getD h i 0))
 
 pub put-all : (h out : List ℕ) (i : ℕ) → i ≡ 8 → length h ≡ 8 → length out ≡ 32 → take (i * 4) out ≡ bytesOf (take i h) → out ≡ bytesOf h
 put-all h out i ei lh lo e = sym (take-all 32 out (omega arith)) ∙ rw ei at e ∙ ap bytesOf (take-all 8 h (omega arith))

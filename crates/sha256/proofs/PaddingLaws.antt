@@ -5,7 +5,7 @@ use Prim.Native.Nat.{ℕ, zero, suc, _+_, _-_, _*_, _/_, _%_, _^_, _≤_, _<_}
 use native.Mathlib.Omega.{arith}
 use native.Mathlib.Numerals.{add-one}
 use lib.ListN.{length, getD, take, drop, set, replicate, length-append, length-replicate, length-drop, length-take, replicate-append-replicate, drop-of-length-le}
-use lib.Seq.{sets, sets-eq, take-append-le, drop-append-le, take-all, take-take, take-at, drop-at, drop-drop, take-suc, getD-drop, set-at, length-take-le}
+use lib.Seq.{sets, sets-eq, take-append-le, drop-append-le, take-all, take-take, take-at, drop-at, drop-drop, set-at, take-length, paste}
 use Rattle.octets.specs.BigEndian.{be}
 use Rattle.octets.proofs.Bytes.{length-be}
 use Rattle.sha256.specs.Padding.{pad, block}
@@ -50,22 +50,16 @@ unfolding pad
 pad-rest m at z h e =
     drop-append-le at m _ h ∙ ap (λ v. drop at m ++ (0x80 ∷ (replicate v 0 ++ be 8 (length m * 8)))) e
 
--- how the block is filled, byte by byte
-pub filled-more : (x b : List ℕ) (i v : ℕ) → i < length x → length x < 64 → b ≡ take i x ++ replicate (64 - i) 0 → v ≡ getD x i 0
-    → set b i v ≡ take (i + 1) x ++ replicate (64 - (i + 1)) 0
-filled-more x b i v h l e ev =
-    let n : 64 - i ≡ suc (64 - (i + 1)) = omega arith in
-    ap (λ u. set u i v) (e ∙ ap (λ k. take i x ++ replicate k 0) n)
-    ∙ set-at (take i x) 0 (replicate (64 - (i + 1)) 0) v i (length-take-le i x (omega arith))
-    ∙ sym (ap (λ u. u ++ replicate (64 - (i + 1)) 0) (ap (λ k. take k x) (add-one i) ∙ take-suc x i 0 h ∙ ap (λ u. take i x ++ (u ∷ [])) (sym ev))
-    ∙ append-assoc (take i x) (v ∷ []) (replicate (64 - (i + 1)) 0))
-
-pub filled-closed : (x b : List ℕ) (n i : ℕ) → length x ≡ n → i ≡ n → n < 64 → b ≡ take i x ++ replicate (64 - i) 0
-    → set b n 0x80 ≡ closed x (63 - n)
-filled-closed x b n i ex ei l e =
-    let k : 64 - i ≡ suc (63 - n) = omega arith in
-    ap (λ u. set u n 0x80) (e ∙ ap₂ (λ u v. u ++ replicate v 0) (take-all i x (omega arith)) k)
-    ∙ set-at x 0 (replicate (63 - n) 0) 0x80 n ex
+-- the rest copied into a block of zeros, and the byte 0x80 after it
+pub closed-copy : (x b : List ℕ) (n : ℕ) → length x ≡ n → n < 64 → b ≡ paste (replicate 64 0) 0 x (length x) → set b n 0x80 ≡ closed x (63 - n)
+closed-copy x b n l h e =
+    let k : 0 + length x ≡ n = omega arith in
+    let s : 64 ≡ n + (64 - n) = omega arith in
+    let t : 64 - n ≡ suc (63 - n) = omega arith in
+    let zeros : drop {A = ℕ} (0 + length x) (replicate 64 0) ≡ 0 ∷ replicate (63 - n) 0 =
+    ap₂ (λ u v. drop {A = ℕ} u (replicate v 0)) k s ∙ ap (drop n) (sym (replicate-append-replicate n (64 - n) 0))
+    ∙ drop-at (replicate n 0) (replicate (64 - n) 0) n (length-replicate n 0) ∙ ap (λ u. replicate {A = ℕ} u 0) t in
+    ap (λ u. set u n 0x80) (e ∙ ap₂ _++_ (take-length x) zeros) ∙ set-at x 0 (replicate (63 - n) 0) 0x80 n l
 
 -- ---- the last eight bytes
 

@@ -28,9 +28,7 @@ fn last_bytes(m: &[u8], at: usize) -> [u8; 64]
 {
     let n = m.len() - at;
     let mut b = [0u8; 64];
-    for i in 0..n {
-        b[i] = m[at + i];
-    }
+    octets::copy_at(&m[at..], &mut b, 0);
     b[n] = 0x80;
     b
 }
