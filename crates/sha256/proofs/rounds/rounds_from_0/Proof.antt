@@ -1,5 +1,5 @@
 -- `rounds_from_0` meets its contract: sixteen rounds.
-use borrow.Author.Needs.{needs}
+use lib.Dec.{lit<}
 use Rattle.sha256.specs.Hash.{rounds}
 use Rattle.sha256.proofs.RoundLaws.{rounds-split}
 use Rattle.sha256.proofs.Runs.{eight-twos}
@@ -7,28 +7,28 @@ use Rattle.sha256.proofs.rounds.rounds_from_0.Statement.{statement}
 use Rattle.sha256.proofs.rounds.rounds_from_0.Tie as tie
 
 two-rounds-requires : tie.Need-two-rounds-requires
-two-rounds-requires c κs = search needs
+two-rounds-requires c κs = (c .pre, lit< tt)
 
 two-rounds-requires-2 : tie.Need-two-rounds-requires-2
-two-rounds-requires-2 c κs = search needs
+two-rounds-requires-2 c κs = (c .before .pre, lit< tt)
 
 two-rounds-requires-3 : tie.Need-two-rounds-requires-3
-two-rounds-requires-3 c κs = search needs
+two-rounds-requires-3 c κs = (c .before .before .pre, lit< tt)
 
 two-rounds-requires-4 : tie.Need-two-rounds-requires-4
-two-rounds-requires-4 c κs = search needs
+two-rounds-requires-4 c κs = (c .before .before .before .pre, lit< tt)
 
 two-rounds-requires-5 : tie.Need-two-rounds-requires-5
-two-rounds-requires-5 c κs = search needs
+two-rounds-requires-5 c κs = (c .before .before .before .before .pre, lit< tt)
 
 two-rounds-requires-6 : tie.Need-two-rounds-requires-6
-two-rounds-requires-6 c κs = search needs
+two-rounds-requires-6 c κs = (c .before .before .before .before .before .pre, lit< tt)
 
 two-rounds-requires-7 : tie.Need-two-rounds-requires-7
-two-rounds-requires-7 c κs = search needs
+two-rounds-requires-7 c κs = (c .before .before .before .before .before .before .pre, lit< tt)
 
 two-rounds-requires-8 : tie.Need-two-rounds-requires-8
-two-rounds-requires-8 c κs = search needs
+two-rounds-requires-8 c κs = (c .before .before .before .before .before .before .before .pre, lit< tt)
 
 returns : tie.Need-returns
 returns c =

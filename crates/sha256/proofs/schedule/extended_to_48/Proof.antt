@@ -1,5 +1,5 @@
 -- `extended_to_48` meets its contract: sixteen words more.
-use borrow.Author.Needs.{needs}
+use lib.Dec.{lit<, lit≤}
 use Rattle.sha256.specs.Hash.{extended}
 use Rattle.sha256.proofs.Runs.{eight-twos}
 use Rattle.sha256.proofs.ScheduleLaws.{extended-split}
@@ -7,28 +7,28 @@ use Rattle.sha256.proofs.schedule.extended_to_48.Statement.{statement}
 use Rattle.sha256.proofs.schedule.extended_to_48.Tie as tie
 
 extended-twice-requires : tie.Need-extended-twice-requires
-extended-twice-requires c κs = search needs
+extended-twice-requires c κs = (lit≤ tt, lit< tt)
 
 extended-twice-requires-2 : tie.Need-extended-twice-requires-2
-extended-twice-requires-2 c κs = search needs
+extended-twice-requires-2 c κs = (lit≤ tt, lit< tt)
 
 extended-twice-requires-3 : tie.Need-extended-twice-requires-3
-extended-twice-requires-3 c κs = search needs
+extended-twice-requires-3 c κs = (lit≤ tt, lit< tt)
 
 extended-twice-requires-4 : tie.Need-extended-twice-requires-4
-extended-twice-requires-4 c κs = search needs
+extended-twice-requires-4 c κs = (lit≤ tt, lit< tt)
 
 extended-twice-requires-5 : tie.Need-extended-twice-requires-5
-extended-twice-requires-5 c κs = search needs
+extended-twice-requires-5 c κs = (lit≤ tt, lit< tt)
 
 extended-twice-requires-6 : tie.Need-extended-twice-requires-6
-extended-twice-requires-6 c κs = search needs
+extended-twice-requires-6 c κs = (lit≤ tt, lit< tt)
 
 extended-twice-requires-7 : tie.Need-extended-twice-requires-7
-extended-twice-requires-7 c κs = search needs
+extended-twice-requires-7 c κs = (lit≤ tt, lit< tt)
 
 extended-twice-requires-8 : tie.Need-extended-twice-requires-8
-extended-twice-requires-8 c κs = search needs
+extended-twice-requires-8 c κs = (lit≤ tt, lit< tt)
 
 returns : tie.Need-returns
 returns c =
