@@ -24,8 +24,15 @@ module _ (m d : List ℕ) where
   unfolding fits
   other-digest h l = refused (rw (le-leb (length m) longest h, ne-eqb (length d) 32 l))
 
+  both-fit : length m ≤ longest → length d ≡ 32 → fits m d ≡ true
+  unfolding fits
+  both-fit h l = rw (le-leb (length m) longest h, eq-eqb (length d) 32 l)
+
+  -- what a caller with the right lengths finds in the digest
+  pub written : length m ≤ longest → length d ≡ 32 → after m d ≡ sha256 m
+  unfolding after pick
+  written h l = rw (both-fit h l)
+
   pub hashed-call : (out : List ℕ) → length m ≤ longest → length d ≡ 32 → out ≡ sha256 m → (Done ≡ answer m d) × (out ≡ after m d)
-  unfolding fits answer after pick
-  hashed-call out h l e =
-      let t : (leb (length m) longest && eqb (length d) 32) ≡ true = rw (le-leb (length m) longest h, eq-eqb (length d) 32 l) in
-      (rw t, rw t e)
+  unfolding answer pick
+  hashed-call out h l e = (rw (both-fit h l), e ∙ sym (written h l))

@@ -9,7 +9,15 @@ pub type Sha256 = unsafe extern "C" fn(
     digest_len: usize,
 ) -> u64;
 
+/// The prototype of `cmt_table_check`.
+pub type TableCheck = unsafe extern "C" fn(depth: u64, table: *const u8, len: usize) -> u64;
+
+/// The prototype of `cmt_house_table`.
+pub type HouseTable = unsafe extern "C" fn(depth: u64, table: *mut u8, len: usize) -> u64;
+
 extern "C" {
+    fn cmt_table_check(depth: u64, table: *const u8, len: usize) -> u64;
+    fn cmt_house_table(depth: u64, table: *mut u8, len: usize) -> u64;
     fn cmt_sha256(
         message: *const u8,
         message_len: usize,
@@ -21,14 +29,29 @@ extern "C" {
 /// The functions as values, so that a wrong one can stand in for each.
 pub struct Library {
     pub sha256: Sha256,
+    pub table_check: TableCheck,
+    pub house_table: HouseTable,
 }
 
 /// The proved library.
-pub static CEDUNMI: Library = Library { sha256: cmt_sha256 };
+pub static CEDUNMI: Library =
+    Library { sha256: cmt_sha256, table_check: cmt_table_check, house_table: cmt_house_table };
 
 /// Calls `cmt_sha256`.
 pub fn sha256(message: &[u8], digest: &mut [u8]) -> u64 {
     // SAFETY: both slices give a pointer that is not null with its own length, and a `&mut`
     // overlaps no other slice.
     unsafe { cmt_sha256(message.as_ptr(), message.len(), digest.as_mut_ptr(), digest.len()) }
+}
+
+/// Calls `cmt_table_check`.
+pub fn table_check(depth: u64, table: &[u8]) -> u64 {
+    // SAFETY: the slice gives a pointer that is not null with its own length.
+    unsafe { cmt_table_check(depth, table.as_ptr(), table.len()) }
+}
+
+/// Calls `cmt_house_table`.
+pub fn house_table(depth: u64, table: &mut [u8]) -> u64 {
+    // SAFETY: the slice gives a pointer that is not null with its own length.
+    unsafe { cmt_house_table(depth, table.as_mut_ptr(), table.len()) }
 }

@@ -8,6 +8,7 @@ mod messages;
 mod random;
 mod sha256;
 mod system;
+mod tables;
 
 use cedunmi_sys::{Library, CEDUNMI};
 use difference::Failure;
@@ -16,7 +17,7 @@ use std::process::ExitCode;
 /// Makes the comparisons of one subject, and gives their number.
 type Compare = fn(&Library) -> Result<u64, Failure>;
 
-const SUBJECTS: [(&str, Compare); 1] = [("sha256", sha256::compare)];
+const SUBJECTS: [(&str, Compare); 2] = [("sha256", sha256::compare), ("tables", tables::compare)];
 
 fn main() -> ExitCode {
     for (subject, compare) in SUBJECTS {

@@ -4,3 +4,4 @@
 //! it names, and shares no code with the proved library.
 
 pub mod sha256;
+pub mod table;

@@ -3,7 +3,7 @@
 
 use super::{compare, Comparisons, DIGEST, DONE, LONGEST, WRONG_LENGTH};
 use crate::difference::Difference;
-use cedunmi_sys::Library;
+use cedunmi_sys::{Library, CEDUNMI};
 use std::{ptr, slice};
 
 /// What `cmt_sha256` must do, made from the reference.
@@ -35,7 +35,8 @@ unsafe fn right_but(
 
 #[test]
 fn right_passes() {
-    let made = compare(&Library { sha256: right }).unwrap_or_else(|failure| panic!("{failure}"));
+    let made = compare(&Library { sha256: right, ..CEDUNMI })
+        .unwrap_or_else(|failure| panic!("{failure}"));
     assert!(made > 5000);
 }
 
@@ -47,7 +48,8 @@ macro_rules! wrong {
             unsafe extern "C" fn f($m: *const u8, $n: usize, $d: *mut u8, $dn: usize) -> u64 {
                 $body
             }
-            let failure = compare(&Library { sha256: f }).expect_err("a wrong function passed");
+            let failure =
+                compare(&Library { sha256: f, ..CEDUNMI }).expect_err("a wrong function passed");
             assert!(matches!(failure.difference, $difference), "{failure}");
         }
     };
@@ -161,6 +163,7 @@ fn system_tool_finds_a_wrong_digest() {
     unsafe extern "C" fn f(m: *const u8, n: usize, d: *mut u8, dn: usize) -> u64 {
         right_but((m, n, d, dn), |r| r == DONE, d)
     }
-    let failure = Comparisons::of(&Library { sha256: f }).system_tool().expect_err("it passed");
+    let failure =
+        Comparisons::of(&Library { sha256: f, ..CEDUNMI }).system_tool().expect_err("it passed");
     assert!(matches!(failure.difference, Difference::Inside { buffer: "digest", at: 0, .. }));
 }

@@ -1,0 +1,12 @@
+-- The one number that a call returns to C. Definitions only.
+use Prim.Native.Nat.{ℕ, _+_, _*_, _^_}
+use Rattle.parity_table.specs.declared.Answer.{Answer}
+use Rattle.parity_table.specs.Right.{numberOf, valueOf}
+
+-- 01's number in the lowest eight bits, the value that goes with it above them
+abbrev pub packed : ℕ → ℕ → ℕ
+packed number value = number + value * 2 ^ 8
+
+-- the result of a call that reads or writes a table
+abbrev pub tableResult : Answer → ℕ
+tableResult a = packed (numberOf a) (valueOf a)

@@ -1,0 +1,53 @@
+// The parity table of a coded Merkle tree: its reader (`reader`), where its equations stand
+// (`index`), its form as bytes (`wire`), and the house table (`house`).
+pub mod house;
+pub mod index;
+pub mod reader;
+pub mod wire;
+
+ghost use mathlib.Core.Path.{_≡_};
+ghost use Prim.Native.Nat.{_<_};
+ghost use Rattle.parity_table.specs.Shape.{maxDepth, depthFits, kOf};
+
+// The largest depth of a tree.
+pub const MAX_DEPTH: usize = 5;
+
+// The equations of a table of the largest depth.
+pub const MAX_EQUATIONS: usize = 3 * ((4 << MAX_DEPTH) - 4);
+
+// What a reader of a table, or a writer of one, answers.
+pub enum Answer {
+    // the depth is not 1 to the largest
+    Depth,
+    // a buffer's length is wrong
+    Length,
+    // the first wrong word, or the number of words of a list that is short
+    Wrong(usize),
+    // the table is whole
+    Whole,
+}
+
+// The lowest word of each kind that is no member.
+pub const LAYER: u32 = 1 << 30;
+
+pub const EQUATION: u32 = 2 << 30;
+
+pub const END: u32 = 3 << 30;
+
+// A tree may have this depth.
+pub fn depth_fits(depth: usize) -> bool
+    ensures { λ r. ⌜ r ≡ depthFits depth ⌝ }
+{
+    if depth < 1 {
+        return false;
+    }
+    depth <= MAX_DEPTH
+}
+
+// The data symbols of layer j.
+pub fn data_count(j: usize) -> usize
+    requires { ⌜ j < maxDepth ⌝ }
+    ensures { λ r. ⌜ r ≡ kOf j ⌝ }
+{
+    4 << j
+}

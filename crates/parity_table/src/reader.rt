@@ -1,0 +1,177 @@
+// The table reader: word by word from the front, to the first wrong one.
+use crate::Answer;
+use crate::END;
+use crate::EQUATION;
+use crate::LAYER;
+use crate::data_count;
+use crate::depth_fits;
+ghost use mathlib.Core.Path.{_≡_};
+ghost use Prim.Native.Nat.{_+_, _*_, _<_, _≤_, _^_};
+ghost use lib.Dec.{eqb};
+ghost use Rattle.parity_table.specs.Shape.{maxDepth};
+ghost use Rattle.parity_table.specs.Reader.{memberFits, readOf};
+ghost use Rattle.parity_table.specs.Steps.{wordIs, MembersRead, EquationRead, EquationsRead, LayerRead, LayersRead, EndRead};
+
+// A place in the list of words.
+pub struct Cursor {
+    pub at: usize,
+}
+
+// What reading from a place finds.
+pub enum Step {
+    // the words fit, up to this place
+    To(Cursor),
+    // the first wrong word, or the number of words of a list that is short
+    Wrong(usize),
+}
+
+// w is the word of value v of the kind whose words start at base.
+fn is_word(w: u32, base: u32, v: usize) -> bool
+    ensures { λ r. ⌜ r ≡ eqb w (base + v) ⌝ }
+{
+    if w < base {
+        return false;
+    }
+    (w - base) as usize == v
+}
+
+// Word number at is that of value v of the kind whose words start at base.
+fn word_is(ws: &[u32], at: usize, base: u32, v: usize) -> bool
+    ensures { λ r. ⌜ r ≡ wordIs (now (ws .entry)) at (base + v) ⌝ }
+{
+    if at < ws.len() {
+        return is_word(ws[at], base, v);
+    }
+    false
+}
+
+// Number x may be a member after count members, at least low, in an equation whose last is last.
+fn member_fits(last: usize, count: usize, low: usize, x: usize) -> bool
+    ensures { λ r. ⌜ r ≡ memberFits last count low x ⌝ }
+{
+    if x < low {
+        return false;
+    }
+    if x < last {
+        return count < 7;
+    }
+    if x == last {
+        return 0 < count;
+    }
+    false
+}
+
+// The members of an equation whose last member is last.
+fn members(ws: &[u32], c: Cursor, last: usize) -> Step
+    ensures { λ r. ⌜ MembersRead (now (ws .entry)) (c .at) last r ⌝ }
+{
+    let mut at = c.at;
+    let mut count: usize = 0;
+    let mut low: usize = 0;
+    while at < ws.len() {
+        let x = ws[at] as usize;
+        if !member_fits(last, count, low, x) {
+            return Step::Wrong(at);
+        }
+        at += 1;
+        if x == last {
+            return Step::To(Cursor { at });
+        }
+        count += 1;
+        low = x + 1;
+    }
+    Step::Wrong(at)
+}
+
+// Equation e of a layer with k data symbols.
+fn equation(ws: &[u32], c: Cursor, k: usize, e: usize) -> Step
+    requires { ⌜ (k ≤ 4 * 2 ^ maxDepth) × (e < 3 * k) ⌝ }
+    ensures { λ r. ⌜ EquationRead (now (ws .entry)) (c .at) k e r ⌝ }
+{
+    let at = c.at;
+    if !word_is(ws, at, EQUATION, e) {
+        return Step::Wrong(at);
+    }
+    members(ws, Cursor { at: at + 1 }, k + e)
+}
+
+// The equations of a layer with k data symbols.
+fn equations(ws: &[u32], c: Cursor, k: usize) -> Step
+    requires { ⌜ k ≤ 4 * 2 ^ maxDepth ⌝ }
+    ensures { λ r. ⌜ EquationsRead (now (ws .entry)) (c .at) k r ⌝ }
+{
+    let mut next = c;
+    let mut e: usize = 0;
+    while e < 3 * k {
+        match equation(ws, next, k, e) {
+            Step::To(n) => {
+                next = n;
+            }
+            Step::Wrong(i) => {
+                return Step::Wrong(i);
+            }
+        }
+        e += 1;
+    }
+    Step::To(next)
+}
+
+// Layer j.
+fn layer(ws: &[u32], c: Cursor, j: usize) -> Step
+    requires { ⌜ j < maxDepth ⌝ }
+    ensures { λ r. ⌜ LayerRead (now (ws .entry)) (c .at) j r ⌝ }
+{
+    let at = c.at;
+    if !word_is(ws, at, LAYER, j) {
+        return Step::Wrong(at);
+    }
+    equations(ws, Cursor { at: at + 1 }, data_count(j))
+}
+
+// All layers of a table of this depth.
+fn layers(ws: &[u32], depth: usize) -> Step
+    requires { ⌜ depth ≤ maxDepth ⌝ }
+    ensures { λ r. ⌜ LayersRead (now (ws .entry)) depth r ⌝ }
+{
+    let mut next = Cursor { at: 0 };
+    let mut j: usize = 0;
+    while j < depth {
+        match layer(ws, next, j) {
+            Step::To(n) => {
+                next = n;
+            }
+            Step::Wrong(i) => {
+                return Step::Wrong(i);
+            }
+        }
+        j += 1;
+    }
+    Step::To(next)
+}
+
+// The end word, and nothing after it.
+fn end(ws: &[u32], c: Cursor) -> Answer
+    ensures { λ r. ⌜ EndRead (now (ws .entry)) (c .at) r ⌝ }
+{
+    let at = c.at;
+    if !word_is(ws, at, END, at) {
+        return Answer::Wrong(at);
+    }
+    if at + 1 < ws.len() {
+        return Answer::Wrong(at + 1);
+    }
+    Answer::Whole
+}
+
+// Reads a table of this depth.
+pub fn read(ws: &[u32], depth: usize) -> Answer
+    ensures { λ r. ⌜ r ≡ readOf depth (now (ws .entry)) ⌝ }
+{
+    if !depth_fits(depth) {
+        return Answer::Depth;
+    }
+    match layers(ws, depth) {
+        Step::To(c) => end(ws, c),
+        Step::Wrong(i) => Answer::Wrong(i),
+    }
+}

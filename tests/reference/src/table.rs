@@ -1,0 +1,258 @@
+//! Parity tables, written from the sections "Layers", "Parity table", "House
+//! table" and "What stops a call" of 01.
+
+/// The largest depth.
+pub const MAX_DEPTH: u64 = 5;
+
+/// The longest table that comes as bytes.
+pub const MAX_BYTES: usize = 16_384;
+
+/// The kinds of words: the top two bits.
+pub const MEMBER: u32 = 0b00;
+pub const LAYER: u32 = 0b01;
+pub const EQUATION: u32 = 0b10;
+pub const END: u32 = 0b11;
+
+/// What a table stops a call with: the numbers of "What stops a call".
+#[derive(Clone, Copy, Debug, PartialEq, Eq)]
+pub enum Stop {
+    /// 1
+    Depth,
+    /// 2
+    Length,
+    /// 3, with the first wrong word, or the number of words of a list that is
+    /// short.
+    Word(usize),
+}
+
+/// A word of a kind and a value of 30 bits.
+pub fn word(kind: u32, value: usize) -> u32 {
+    assert!(value < 1 << 30);
+    kind << 30 | value as u32
+}
+
+/// The data symbols of a layer.
+pub fn data_symbols(layer: usize) -> usize {
+    4 << layer
+}
+
+/// A table as bytes, four to a word, the highest first.
+pub fn to_bytes(words: &[u32]) -> Vec<u8> {
+    words.iter().flat_map(|word| word.to_be_bytes()).collect()
+}
+
+fn to_words(bytes: &[u8]) -> Vec<u32> {
+    bytes.chunks_exact(4).map(|b| u32::from_be_bytes([b[0], b[1], b[2], b[3]])).collect()
+}
+
+/// Reads a table that comes as bytes.
+pub fn check_bytes(depth: u64, table: &[u8]) -> Result<(), Stop> {
+    let layers = layers_of(depth)?;
+    if table.len() > MAX_BYTES || table.len() % 4 != 0 {
+        return Err(Stop::Length);
+    }
+    read(layers, &to_words(table))
+}
+
+/// Reads a table that comes as words.
+pub fn check_words(depth: u64, table: &[u32]) -> Result<(), Stop> {
+    read(layers_of(depth)?, table)
+}
+
+fn layers_of(depth: u64) -> Result<usize, Stop> {
+    if (1..=MAX_DEPTH).contains(&depth) {
+        Ok(depth as usize)
+    } else {
+        Err(Stop::Depth)
+    }
+}
+
+fn read(layers: usize, words: &[u32]) -> Result<(), Stop> {
+    let mut reader = Reader { words, at: 0 };
+    for layer in 0..layers {
+        reader.opener(LAYER, layer)?;
+        let k = data_symbols(layer);
+        for equation in 0..3 * k {
+            reader.opener(EQUATION, equation)?;
+            reader.members((k + equation) as u32)?;
+        }
+    }
+    reader.opener(END, reader.at)?;
+    reader.nothing()
+}
+
+/// The words, and the place of the next.
+struct Reader<'a> {
+    words: &'a [u32],
+    at: usize,
+}
+
+impl Reader<'_> {
+    /// The next word has this kind and this value.
+    fn opener(&mut self, kind: u32, value: usize) -> Result<(), Stop> {
+        match self.words.get(self.at) {
+            Some(&found) if found >> 30 == kind && (found & 0x3fff_ffff) as usize == value => {
+                self.at += 1;
+                Ok(())
+            }
+            _ => Err(Stop::Word(self.at)),
+        }
+    }
+
+    /// The next words are 2 to 8 members, strictly ascending, up to `last`.
+    fn members(&mut self, last: u32) -> Result<(), Stop> {
+        let mut lowest = 0;
+        for number in 1..=8 {
+            let found = match self.words.get(self.at) {
+                Some(&found) if found >> 30 == MEMBER => found,
+                _ => return Err(Stop::Word(self.at)),
+            };
+            if found < lowest || found > last {
+                return Err(Stop::Word(self.at));
+            }
+            let ends = found == last;
+            if (ends && number == 1) || (!ends && number == 8) {
+                return Err(Stop::Word(self.at));
+            }
+            self.at += 1;
+            if ends {
+                break;
+            }
+            lowest = found + 1;
+        }
+        Ok(())
+    }
+
+    /// No word is left.
+    fn nothing(&self) -> Result<(), Stop> {
+        if self.at < self.words.len() {
+            return Err(Stop::Word(self.at));
+        }
+        Ok(())
+    }
+}
+
+/// The members of equation `e` of the house table in a layer of `k` data
+/// symbols.
+pub fn house_equation(k: usize, e: usize) -> Vec<usize> {
+    let mut members = vec![e % k, (e + 1 + e / k) % k];
+    if e > 0 {
+        members.push(k + e - 1);
+    }
+    members.push(k + e);
+    members.sort_unstable();
+    members
+}
+
+/// The words of the house table of a depth.
+pub fn house(depth: usize) -> Vec<u32> {
+    let layers: Vec<Vec<Vec<usize>>> = (0..depth)
+        .map(|layer| {
+            let k = data_symbols(layer);
+            (0..3 * k).map(|e| house_equation(k, e)).collect()
+        })
+        .collect();
+    write(&layers)
+}
+
+/// The words of a table: its layers, their equations, their members.
+pub fn write(layers: &[Vec<Vec<usize>>]) -> Vec<u32> {
+    let mut words = Vec::new();
+    for (layer, equations) in layers.iter().enumerate() {
+        words.push(word(LAYER, layer));
+        for (equation, members) in equations.iter().enumerate() {
+            words.push(word(EQUATION, equation));
+            words.extend(members.iter().map(|&member| word(MEMBER, member)));
+        }
+    }
+    words.push(word(END, words.len()));
+    words
+}
+
+#[cfg(test)]
+mod tests {
+    use super::*;
+
+    /// Cases 1 and 2.
+    #[test]
+    fn house_table_of_depth_1() {
+        assert_eq!(house_equation(4, 0), [0, 1, 4]);
+        assert_eq!(house_equation(4, 3), [0, 3, 6, 7]);
+        assert_eq!(house_equation(4, 9), [0, 1, 12, 13]);
+        let words = house(1);
+        assert_eq!(words.len(), 61);
+        assert_eq!(words[60], word(END, 60));
+    }
+
+    #[test]
+    fn house_tables_are_whole() {
+        for depth in 1..=5 {
+            let words = house(depth);
+            assert_eq!(words.len(), 5 * 12 * ((1 << depth) - 1) + 1);
+            assert_eq!(check_words(depth as u64, &words), Ok(()));
+            assert_eq!(check_bytes(depth as u64, &to_bytes(&words)), Ok(()));
+        }
+    }
+
+    #[test]
+    fn a_short_list_is_wrong_at_its_end() {
+        let words = house(2);
+        for len in 0..words.len() {
+            assert_eq!(check_words(2, &words[..len]), Err(Stop::Word(len)));
+        }
+    }
+
+    #[test]
+    fn tests_in_their_order() {
+        let bytes = to_bytes(&house(1));
+        assert_eq!(check_bytes(0, &bytes[1..]), Err(Stop::Depth));
+        assert_eq!(check_bytes(6, &bytes), Err(Stop::Depth));
+        assert_eq!(check_bytes(1 << 32 | 1, &bytes), Err(Stop::Depth));
+        assert_eq!(check_bytes(1, &bytes[1..]), Err(Stop::Length));
+        assert_eq!(check_bytes(1, &[0xff; MAX_BYTES + 4]), Err(Stop::Length));
+        assert_eq!(check_bytes(1, &[0xff; MAX_BYTES]), Err(Stop::Word(0)));
+        assert_eq!(check_bytes(1, &[]), Err(Stop::Word(0)));
+    }
+
+    /// The first wrong word of the house table of depth 1 with one word
+    /// replaced.
+    fn replaced(at: usize, by: u32) -> Result<(), Stop> {
+        let mut words = house(1);
+        words[at] = by;
+        check_words(1, &words)
+    }
+
+    #[test]
+    fn members() {
+        // equation 0 is {0, 1, 4}: words 2, 3 and 4
+        assert_eq!(replaced(2, 4), Err(Stop::Word(2)));
+        assert_eq!(replaced(3, 0), Err(Stop::Word(3)));
+        assert_eq!(replaced(3, 3), Ok(()));
+        assert_eq!(replaced(4, 5), Err(Stop::Word(4)));
+        assert_eq!(replaced(4, word(EQUATION, 1)), Err(Stop::Word(4)));
+        // a member after the last
+        assert_eq!(replaced(3, 4), Err(Stop::Word(4)));
+        assert_eq!(replaced(60, word(END, 59)), Err(Stop::Word(60)));
+        // a value of thirty bits, whole
+        assert_eq!(replaced(0, word(LAYER, 1 << 29)), Err(Stop::Word(0)));
+    }
+
+    #[test]
+    fn at_most_eight_members() {
+        let mut layers = vec![(0..12).map(|e| house_equation(4, e)).collect::<Vec<_>>()];
+        layers[0][11] = vec![0, 1, 2, 3, 4, 5, 6, 15];
+        let words = write(&layers);
+        assert_eq!(check_words(1, &words), Ok(()));
+        layers[0][11] = vec![0, 1, 2, 3, 4, 5, 6, 7, 15];
+        let long = write(&layers);
+        let eighth = words.len() - 2;
+        assert_eq!(check_words(1, &long), Err(Stop::Word(eighth)));
+    }
+
+    #[test]
+    fn nothing_follows_the_end() {
+        let mut words = house(1);
+        words.push(word(END, 61));
+        assert_eq!(check_words(1, &words), Err(Stop::Word(61)));
+    }
+}
