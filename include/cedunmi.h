@@ -6,16 +6,23 @@
  *
  * Results. Every call returns one uint64_t. Its low eight bits are a number:
  *
- *   0  done
+ *   0  done, or accepted
+ *   1  stopped: the depth is not 1 to 5
  *   2  stopped: a length is wrong
+ *   3  stopped: the table breaks a rule; the value is the first wrong word, or
+ *      the number of words where the table is short
  *
  * A call that stops changes no byte of any buffer. The bits above the low
- * eight are zero for both of these numbers. Read the number with cmt_number().
+ * eight are the value that goes with the number, zero where there is none.
+ * Read them with cmt_number() and cmt_value().
  *
  * Buffers. Every pointer is followed by its length in bytes. A pointer is not
  * NULL, even where its length is 0, and it points to at least that many bytes.
  * The buffers of one call do not overlap. A call reads and writes only inside
  * them.
+ *
+ * Tables. A parity table is a list of 32-bit words, as big-endian bytes, four
+ * to a word. A depth of 2^32+1 is not taken for 1: depths are 64-bit numbers.
  *
  * Stack. A call uses at most CMT_STACK_BYTES bytes of the caller's stack. This
  * figure is measured, not proved.
@@ -33,20 +40,35 @@ extern "C" {
 /* The numbers that cmt_number() gives. */
 enum {
     CMT_DONE = 0,
-    CMT_WRONG_LENGTH = 2
+    CMT_WRONG_DEPTH = 1,
+    CMT_WRONG_LENGTH = 2,
+    CMT_WRONG_TABLE = 3
 };
 
 /* The most stack that a call uses, in bytes. */
-#define CMT_STACK_BYTES 8192
+#define CMT_STACK_BYTES 32768
 
 /* The longest message that cmt_sha256() takes, and its digest, in bytes. */
 #define CMT_SHA256_MESSAGE_MAX 1048576
 #define CMT_SHA256_DIGEST_BYTES 32
 
+/* The largest depth, and the longest table that a call takes, in bytes. */
+#define CMT_DEPTH_MAX 5
+#define CMT_TABLE_BYTES_MAX 16384
+
+/* The bytes of the house table of a depth from 1 to CMT_DEPTH_MAX. */
+#define CMT_HOUSE_TABLE_BYTES(depth) (4 * (60 * (((size_t)1 << (depth)) - 1) + 1))
+
 /* The number in a result: CMT_DONE, or why the call stopped. */
 static inline uint64_t cmt_number(uint64_t result)
 {
     return result % 256;
+}
+
+/* The value that goes with the number, 0 where there is none. */
+static inline uint64_t cmt_value(uint64_t result)
+{
+    return result / 256;
 }
 
 /*
@@ -60,6 +82,28 @@ static inline uint64_t cmt_number(uint64_t result)
  */
 uint64_t cmt_sha256(const uint8_t *message, size_t message_len,
                     uint8_t *digest, size_t digest_len);
+
+/*
+ * Whether the bytes are a well-formed parity table of this depth.
+ *
+ * CMT_DONE          they are.
+ * CMT_WRONG_DEPTH   the depth is not 1 to CMT_DEPTH_MAX.
+ * CMT_WRONG_LENGTH  table_len is over CMT_TABLE_BYTES_MAX or not a multiple of 4.
+ * CMT_WRONG_TABLE   a rule is broken. cmt_value() is the first wrong word,
+ *                   counted from 0: no well-formed table of this depth begins
+ *                   with the words up to it. Of a table that is only short it
+ *                   is the number of its words.
+ */
+uint64_t cmt_table_check(uint64_t depth, const uint8_t *table, size_t table_len);
+
+/*
+ * Writes the house table of this depth.
+ *
+ * CMT_DONE          the buffer is the table.
+ * CMT_WRONG_DEPTH   the depth is not 1 to CMT_DEPTH_MAX.
+ * CMT_WRONG_LENGTH  table_len is not CMT_HOUSE_TABLE_BYTES(depth).
+ */
+uint64_t cmt_house_table(uint64_t depth, uint8_t *table, size_t table_len);
 
 #ifdef __cplusplus
 }

@@ -3,15 +3,17 @@
 //!     benchmarks check                  whether all hashers give the same digests
 //!     benchmarks time TRIALS NAME..     prints NAME, LENGTH and the fewest nanoseconds a message
 //!     benchmarks work NAME LENGTH N     hashes N messages and prints nothing
+//!     benchmarks table TRIALS           prints NAME, WORDS and the fewest nanoseconds to read a table
 
 mod clock;
 mod openssl;
 mod sha256;
+mod table;
 mod timing;
 
 use std::process::ExitCode;
 
-const USAGE: &str = "usage: check | time TRIALS NAME.. | work NAME LENGTH N";
+const USAGE: &str = "usage: check | time TRIALS NAME.. | work NAME LENGTH N | table TRIALS";
 
 fn main() -> ExitCode {
     let words: Vec<String> = std::env::args().skip(1).collect();
@@ -30,6 +32,7 @@ fn run(words: &[&str]) -> Result<(), String> {
         ["check"] => timing::check(),
         ["time", trials, names @ ..] => timing::time(number(trials)?, &hashers(names)?),
         ["work", name, len, times] => timing::work(hasher(name)?, number(len)?, number(times)?),
+        ["table", trials] => table::time(number(trials)?),
         _ => Err(USAGE.to_string()),
     }
 }

@@ -12,11 +12,11 @@
 #include <sys/wait.h>
 #include <unistd.h>
 
-enum { PAGE = 4096, MESSAGE_ROOM = CMT_SHA256_MESSAGE_MAX + PAGE };
+enum { PAGE = 4096, MESSAGE_ROOM = CMT_SHA256_MESSAGE_MAX + PAGE, TABLE_ROOM = 5 * PAGE };
 
 typedef uint64_t sha256(const uint8_t *, size_t, uint8_t *, size_t);
 
-static uint8_t *message_room, *digest_room;
+static uint8_t *message_room, *digest_room, *table_room;
 
 /* Room for `bytes` bytes, whole pages, with a fence on each side. */
 static uint8_t *fenced(size_t bytes)
@@ -61,6 +61,34 @@ static void lend_all(sha256 *call)
     }
 }
 
+/* Lends a table's bytes at the start of their room, then at its end, to be written and to be read. */
+static void lend_table(uint64_t depth, size_t len)
+{
+    for (size_t start = 0; start <= TABLE_ROOM - len; start += TABLE_ROOM - len) {
+        cmt_house_table(depth, table_room + start, len);
+        cmt_table_check(depth, table_room + start, len);
+        if (len == TABLE_ROOM) {
+            break;
+        }
+    }
+}
+
+/* House tables, whole, cut short at each kind of word, and of lengths that are refused. */
+static void lend_tables(void)
+{
+    for (uint64_t depth = 0; depth <= CMT_DEPTH_MAX + 1; depth++) {
+        for (size_t len = 0; len <= 64; len++) {
+            lend_table(depth, len);
+        }
+        for (uint64_t of = 1; of <= CMT_DEPTH_MAX; of++) {
+            lend_table(depth, CMT_HOUSE_TABLE_BYTES(of));
+        }
+        lend_table(depth, CMT_TABLE_BYTES_MAX);
+        lend_table(depth, CMT_TABLE_BYTES_MAX + 4);
+        lend_table(depth, TABLE_ROOM);
+    }
+}
+
 /* Wrong functions, to show that the fences find what they do. */
 
 static uint64_t reads_after(const uint8_t *m, size_t n, uint8_t *d, size_t dn)
@@ -102,12 +130,14 @@ int main(void)
 {
     message_room = fenced(MESSAGE_ROOM);
     digest_room = fenced(PAGE);
+    table_room = fenced(TABLE_ROOM);
     signal(SIGSEGV, touched);
     if (!found(reads_after) || !found(reads_before) || !found(writes_without_looking)) {
         printf("fences: a wrong function was not found\n");
         return 1;
     }
     lend_all(cmt_sha256);
+    lend_tables();
     printf("fences: ok\n");
     return 0;
 }

@@ -10,16 +10,28 @@
 #include <string.h>
 #include <ucontext.h>
 
-enum { STACK = 65536, KNOWN = 3 * CMT_STACK_BYTES };
+enum { STACK = 262144, KNOWN = 3 * CMT_STACK_BYTES };
 
 static uint8_t stack[STACK];
 static uint8_t message[CMT_SHA256_MESSAGE_MAX];
 static uint8_t digest[CMT_SHA256_DIGEST_BYTES];
+static uint8_t table[CMT_HOUSE_TABLE_BYTES(CMT_DEPTH_MAX)];
 static size_t message_len;
 
 static void sha256(void)
 {
     cmt_sha256(message, message_len, digest, sizeof digest);
+}
+
+static void house_table(void)
+{
+    cmt_house_table(CMT_DEPTH_MAX, table, sizeof table);
+}
+
+/* Follows house_table(), so that the table is read to its end. */
+static void table_check(void)
+{
+    cmt_table_check(CMT_DEPTH_MAX, table, sizeof table);
 }
 
 /* Uses at least KNOWN bytes, to show that the measuring finds them. */
@@ -56,7 +68,8 @@ static size_t used(void (*call)(void))
     return first > second ? first : second;
 }
 
-int main(void)
+/* The most that hashing uses, over messages that end in each kind of block. */
+static size_t used_by_sha256(void)
 {
     const size_t lengths[] = {0, 1, 55, 56, 64, 119, 120, 256, 4096, sizeof message};
     size_t most = 0;
@@ -65,10 +78,24 @@ int main(void)
         size_t bytes = used(sha256);
         most = bytes > most ? bytes : most;
     }
+    return most;
+}
+
+static int over(const char *name, size_t bytes)
+{
+    printf("stack: %s used %zu bytes, %d are allowed\n", name, bytes, CMT_STACK_BYTES);
+    return bytes > CMT_STACK_BYTES;
+}
+
+int main(void)
+{
+    int wrong = 0;
     if (used(known) < KNOWN) {
         printf("stack: the measuring misses a known use\n");
         return 1;
     }
-    printf("stack: cmt_sha256 used %zu bytes, %d are allowed\n", most, CMT_STACK_BYTES);
-    return most > CMT_STACK_BYTES;
+    wrong |= over("cmt_sha256", used_by_sha256());
+    wrong |= over("cmt_house_table", used(house_table));
+    wrong |= over("cmt_table_check", used(table_check));
+    return wrong;
 }

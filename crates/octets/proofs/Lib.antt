@@ -1,4 +1,5 @@
 pub mod Bytes
 pub mod Bits
+pub mod Choice
 pub mod Stores
 pub mod HexLaws

@@ -17,7 +17,7 @@ use Rattle.parity_table.specs.Table.{equationOf, TableOk, WellFormed, Fi
 use Rattle.parity_table.specs.Reader.{layered, run, readOf}
 use Rattle.parity_table.specs.Right.{Right}
 use Rattle.parity_table.specs.Parse.{tableOf, membersOf, indexOf, equationsAbove, numberIn, HasEquation, Located}
-use Rattle.parity_table.proofs.Choice.{by-test, pick-ind, pick-yes, pick-no, and-yes, both}
+use Rattle.octets.proofs.Choice.{by-test, pick-ind, pick-yes, pick-no, and-yes, both}
 use Rattle.parity_table.proofs.Run.{taken-formed, refused-first, run-ends}
 use Rattle.parity_table.proofs.Parse.{formed-rules, members-at, members-take, start-fits, number-lt, starts-count, k-grows, k-small}
 

@@ -18,7 +18,7 @@ use Rattle.parity_table.specs.Shape.{depthFits}
 use Rattle.parity_table.specs.Reader.{layered, run, readOf}
 use Rattle.parity_table.specs.Parse.{indexOf, over, indexedBy, Indexed}
 use Rattle.parity_table.specs.Bytes.{maxBytes, lengthFits, wordsOf, readBytesOf, loadedWords}
-use Rattle.parity_table.proofs.Choice.{by-test, pick-yes, pick-no, and-yes}
+use Rattle.octets.proofs.Choice.{by-test, pick-yes, pick-no, and-yes}
 use Rattle.parity_table.proofs.Run.{run-ends}
 use Rattle.parity_table.proofs.Accepts.{refused-wrong}
 

@@ -9,7 +9,7 @@ use lib.Dec.{ltb}
 use borrow.Author.Tests.{ltb-true, lt-ltb}
 use Rattle.parity_table.specs.Shape.{kOf}
 use Rattle.parity_table.specs.Members.{every, ascending, lastOf}
-use Rattle.parity_table.proofs.Choice.{and-yes, yes-and}
+use Rattle.octets.proofs.Choice.{and-yes, yes-and}
 use Rattle.parity_table.specs.Table.{EquationOk}
 
 -- strictly ascending, from lo on, the last being z

@@ -17,7 +17,7 @@ use Rattle.parity_table.specs.declared.Answer.the-variants.{Depth, Lengt
 use Rattle.parity_table.specs.Shape.{maxDepth, depthFits, kOf}
 use Rattle.parity_table.specs.Table.{word, equationsWords, layersWords, tableWords}
 use Rattle.parity_table.specs.House.{dataOne, dataTwo, houseEquation, houseEquations, houseLayers, houseTable, houseWords, houseRow, houseLayer, houseAnswer}
-use Rattle.parity_table.proofs.Choice.{pick-yes, pick-no, pick-ind}
+use Rattle.octets.proofs.Choice.{pick-yes, pick-no, pick-ind}
 use Rattle.parity_table.proofs.HouseRules.{house-count}
 use Rattle.parity_table.proofs.Writes.{Putting, sets-whole}
 

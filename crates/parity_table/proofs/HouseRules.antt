@@ -12,7 +12,7 @@ use Rattle.parity_table.specs.declared.Answer.the-variants.{Whole}
 use Rattle.parity_table.specs.Shape.{maxDepth, depthFits, kOf}
 use Rattle.parity_table.specs.Reader.{readOf}
 use Rattle.parity_table.specs.Parse.{tableOf}
-use Rattle.parity_table.proofs.Choice.{by-test}
+use Rattle.octets.proofs.Choice.{by-test}
 use Rattle.parity_table.specs.Table.{layerOf, equationOf, word, EquationOk, TableOk, equationsWords, layersWords, tableWords, WellFormed}
 use Rattle.parity_table.specs.House.{dataOne, dataTwo, houseEquation, houseEquations, houseLayers, houseTable, houseWords}
 use Rattle.parity_table.proofs.Rules.{EquationsOk, LayersOk, layers-table}

@@ -1,4 +1,3 @@
-pub mod Choice
 pub mod Chain
 pub mod Rules
 pub mod Run

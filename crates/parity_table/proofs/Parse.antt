@@ -12,7 +12,7 @@ use borrow.Author.Tests.{ltb-true, lt-ltb, le-ltb, le-leb, lt-leb}
 use Rattle.parity_table.specs.Shape.{maxDepth, kOf}
 use Rattle.parity_table.specs.Members.{every}
 use Rattle.parity_table.specs.Table.{layerOf, equationOf, word, EquationOk, TableOk, equationsWords, layersWords, tableWords, WellFormed}
-use Rattle.parity_table.proofs.Choice.{pick-yes, pick-no, pick-ind, and-yes, yes-and}
+use Rattle.octets.proofs.Choice.{pick-yes, pick-no, pick-ind, and-yes, yes-and}
 use Rattle.parity_table.specs.Parse.{Parts, parts, addWord, partsOf, tableOf, membersOf, opensEquation, startsFrom, indexOf, equationsAbove, numberIn}
 use Rattle.parity_table.proofs.Chain.{equation-chain, chain-within}
 use Rattle.parity_table.proofs.Rules.{EquationsOk, LayersOk, table-layers}

@@ -18,7 +18,7 @@ use Rattle.parity_table.specs.Table.{TableOk, layerWord, equationWord, e
 use Rattle.parity_table.specs.House.{houseTable, houseWords}
 use Rattle.parity_table.specs.Reader.{layered, run, readOf}
 use Rattle.parity_table.specs.Bytes.{maxBytes, lengthFits, wordsOf, readBytesOf}
-use Rattle.parity_table.proofs.Choice.{by-test, pick-yes, pick-no, and-yes, yes-and}
+use Rattle.octets.proofs.Choice.{by-test, pick-yes, pick-no, and-yes, yes-and}
 use Rattle.parity_table.proofs.Chain.{equation-chain, chain-within}
 use Rattle.parity_table.proofs.Rules.{EquationsOk, LayersOk, table-layers}
 use Rattle.parity_table.proofs.Parse.{k-small}

@@ -12,7 +12,7 @@ use lib.Pow.{pow-pos}
 use borrow.Author.Tests.{ltb-true, ltb-false, leb-true, eqb-true, lt-ltb, le-ltb, le-leb, eq-eqb}
 use Rattle.octets.specs.Choice.{pick}
 use Rattle.parity_table.specs.Shape.{kOf}
-use Rattle.parity_table.proofs.Choice.{by-test, pick-yes, pick-no, pick-ind, and-yes, yes-and, both}
+use Rattle.octets.proofs.Choice.{by-test, pick-yes, pick-no, pick-ind, and-yes, yes-and, both}
 use Rattle.parity_table.specs.Reader.{Next, Layer, Equation, Member, End, Nothing, layered, opened, memberFits, fits, after, atEnd, run}
 use Rattle.parity_table.specs.declared.Answer.{Answer}
 use Rattle.parity_table.specs.declared.Answer.the-variants.{Wrong, Whole}

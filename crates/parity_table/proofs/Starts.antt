@@ -10,7 +10,7 @@ use lib.Seq.{drop-cons, drop-length, drop-drop, take-suc-set, drop-set-lt, lengt
 use lib.Dec.{ltb}
 use borrow.Author.Tests.{lt-ltb, le-ltb, le-leb, lt-leb}
 use Rattle.octets.specs.Choice.{pick}
-use Rattle.parity_table.proofs.Choice.{pick-yes, pick-no, yes-and}
+use Rattle.octets.proofs.Choice.{pick-yes, pick-no, yes-and}
 use Rattle.parity_table.specs.Table.{word}
 use Rattle.parity_table.specs.Parse.{membersOf, opensEquation, startsFrom, indexOf, over}
 

@@ -16,7 +16,7 @@ use Rattle.parity_table.specs.Shape.{kOf}
 use Rattle.parity_table.specs.Table.{layerWord, equationWord, endWord}
 use Rattle.parity_table.specs.Reader.{Next, Layer, Equation, Member, End, Nothing, layered, opened, memberFits, fits, after, atEnd, run}
 use Rattle.parity_table.specs.Steps.{wordIs}
-use Rattle.parity_table.proofs.Choice.{by-test, pick-yes, pick-no, and-yes}
+use Rattle.octets.proofs.Choice.{by-test, pick-yes, pick-no, and-yes}
 use Rattle.parity_table.proofs.Run.{member-fits, after-goes, after-ends}
 
 -- ---- a turn of the reader, and its end

@@ -1,4 +1,4 @@
-// The house table.
+// The house table, as words and as bytes.
 use crate::Answer;
 use crate::END;
 use crate::EQUATION;
@@ -18,12 +18,14 @@ ghost use Rattle.parity_table.specs.House.{houseWords, houseRow, houseLa
 // The words of the house table of the largest depth: 5·12·(2^D−1)+1.
 const HOUSE_WORDS: usize = 60 * ((1 << MAX_DEPTH) - 1) + 1;
 
+// The lower of two numbers.
 fn low(a: u32, b: u32) -> u32
     ensures { λ r. ⌜ r ≡ min a b ⌝ }
 {
     if a < b { a } else { b }
 }
 
+// The higher of two numbers.
 fn high(a: u32, b: u32) -> u32
     ensures { λ r. ⌜ r ≡ max a b ⌝ }
 {
@@ -72,7 +74,7 @@ fn put_layer(out: &mut [u32], at: usize, j: u32, k: u32) -> usize
     p
 }
 
-// The words of the house table.
+// How many words the house table of this depth has.
 fn word_count(depth: usize) -> usize
     requires { ⌜ depth ≤ maxDepth ⌝ }
     ensures { λ r. ⌜ (r ≡ length (houseWords depth)) × (r ≤ 60 * 2 ^ maxDepth) ⌝ }

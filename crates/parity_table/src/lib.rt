@@ -1,5 +1,5 @@
-// The parity table of a coded Merkle tree: its reader (`reader`), where its equations stand
-// (`index`), its form as bytes (`wire`), and the house table (`house`).
+// The parity table of a coded Merkle tree, a list of 32-bit words: its reader (`reader`), where its
+// equations stand (`index`), its form as bytes (`wire`), and the house table (`house`).
 pub mod house;
 pub mod index;
 pub mod reader;

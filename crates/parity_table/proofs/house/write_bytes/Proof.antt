@@ -6,7 +6,7 @@ use borrow.Author.Needs.{needs}
 use Rattle.parity_table.specs.House.{houseWords}
 use Rattle.parity_table.proofs.HouseParts.{answer-depth, answer-length, answer-whole, house-small}
 use Rattle.parity_table.proofs.Accepts.{depth-is}
-use Rattle.parity_table.proofs.Choice.{not-yes, not-no}
+use Rattle.octets.proofs.Choice.{not-yes, not-no}
 use Rattle.parity_table.proofs.house.write_bytes.Statement.{statement}
 use Rattle.parity_table.proofs.house.write_bytes.Tie as tie
 

@@ -5,7 +5,7 @@ use native.Mathlib.Omega.{arith}
 use borrow.Author.Needs.{needs}
 use Rattle.parity_table.proofs.Steps.{word-inside, stops-end, end-more, end-last}
 use Rattle.parity_table.specs.Table.{endWord}
-use Rattle.parity_table.proofs.Choice.{not-yes, not-no}
+use Rattle.octets.proofs.Choice.{not-yes, not-no}
 use Rattle.parity_table.proofs.reader.end.Statement.{statement}
 use Rattle.parity_table.proofs.reader.end.Tie as tie
 

@@ -5,7 +5,7 @@ use native.Mathlib.Omega.{arith}
 use borrow.Author.Needs.{needs}
 use Rattle.parity_table.proofs.Steps.{word-inside, goes-equation, stops-equation}
 use Rattle.parity_table.specs.Table.{equationWord}
-use Rattle.parity_table.proofs.Choice.{not-yes, not-no}
+use Rattle.octets.proofs.Choice.{not-yes, not-no}
 use Rattle.parity_table.proofs.reader.equation.Statement.{statement}
 use Rattle.parity_table.proofs.reader.equation.Tie as tie
 

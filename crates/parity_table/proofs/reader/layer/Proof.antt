@@ -5,7 +5,7 @@ use native.Mathlib.Omega.{arith}
 use borrow.Author.Needs.{needs}
 use Rattle.parity_table.proofs.Steps.{word-inside, goes-layer, stops-layer}
 use Rattle.parity_table.specs.Table.{layerWord}
-use Rattle.parity_table.proofs.Choice.{not-yes, not-no}
+use Rattle.octets.proofs.Choice.{not-yes, not-no}
 use Rattle.parity_table.proofs.Parse.{k-small}
 use Rattle.parity_table.proofs.reader.layer.Statement.{statement}
 use Rattle.parity_table.proofs.reader.layer.Tie as tie

@@ -4,7 +4,7 @@ use Prim.Native.Nat.{ℕ, _+_, _-_, _≤_}
 use native.Mathlib.Omega.{arith}
 use lib.ListN.{length, getD, drop}
 use Rattle.parity_table.specs.Shape.{kOf}
-use Rattle.parity_table.proofs.Choice.{not-yes, not-no}
+use Rattle.octets.proofs.Choice.{not-yes, not-no}
 use Rattle.parity_table.proofs.Steps.{member-more, member-wrong, member-short, member-last, member-next}
 use Rattle.parity_table.specs.Reader.{Member, memberFits, run}
 use Rattle.parity_table.proofs.reader.members.Statement.{statement}

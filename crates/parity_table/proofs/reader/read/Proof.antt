@@ -5,7 +5,7 @@ use borrow.Author.Needs.{needs}
 use Rattle.parity_table.proofs.Accepts.{depth-is, read-depth, read-run}
 use Rattle.parity_table.specs.Reader.{End}
 use Rattle.parity_table.specs.Steps.{goesOn}
-use Rattle.parity_table.proofs.Choice.{not-yes, not-no}
+use Rattle.octets.proofs.Choice.{not-yes, not-no}
 use Rattle.parity_table.proofs.reader.read.Statement.{statement}
 use Rattle.parity_table.proofs.reader.read.Tie as tie
 

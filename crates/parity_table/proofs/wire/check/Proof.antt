@@ -4,7 +4,7 @@ use Prim.Native.Nat.{_-_}
 use lib.ListN.{length}
 use borrow.Author.Needs.{needs}
 use Rattle.parity_table.proofs.ByteForm.{bytes-depth, bytes-length, bytes-words, quarter-most}
-use Rattle.parity_table.proofs.Choice.{not-yes, not-no}
+use Rattle.octets.proofs.Choice.{not-yes, not-no}
 use Rattle.parity_table.proofs.wire.check.Statement.{statement}
 use Rattle.parity_table.proofs.wire.check.Tie as tie
 

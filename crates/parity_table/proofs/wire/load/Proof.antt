@@ -6,7 +6,7 @@ use lib.ListN.{length}
 use borrow.Author.Needs.{needs}
 use Rattle.parity_table.specs.Shape.{kOf}
 use Rattle.parity_table.proofs.ByteForm.{bytes-depth, bytes-length, bytes-words, loaded-words, quarter-most}
-use Rattle.parity_table.proofs.Choice.{not-yes, not-no}
+use Rattle.octets.proofs.Choice.{not-yes, not-no}
 use Rattle.parity_table.specs.Bytes.{loadedWords}
 use Rattle.parity_table.specs.declared.Answer.{Answer}
 use Rattle.parity_table.specs.Parse.{equationsAbove}
