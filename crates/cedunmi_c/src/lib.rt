@@ -13,11 +13,9 @@ ghost use Rattle.cedunmi_c.specs.Result.{tableResult};
 // The SHA-256 of a message of at most 1,048,576 bytes into a digest of 32. 0: done; 2: a length is wrong, and nothing changed.
 #[no_mangle]
 pub extern "C" fn cmt_sha256(message: &[u8], digest: &mut [u8]) -> u64
-    ensures {
-        λ r.
+    ensures { λ r.
         ⌜ (r ≡ number (answer (now (message .entry)) (now (digest .entry))))
-        × (now (digest .exit) ≡ after (now (message .entry)) (now (digest .entry))) ⌝
-    }
+        × (now (digest .exit) ≡ after (now (message .entry)) (now (digest .entry))) ⌝ }
 {
     match sha256::digest(message, digest) {
         Hashed::Done => 0,
@@ -49,13 +47,11 @@ pub extern "C" fn cmt_table_check(depth: u64, table: &[u8]) -> u64
 // The house table of this depth into exactly as many bytes as it has. 1: the depth; 2: the length; and nothing changed.
 #[no_mangle]
 pub extern "C" fn cmt_house_table(depth: u64, table: &mut [u8]) -> u64
-    ensures {
-        λ r.
+    ensures { λ r.
         ⌜ (r ≡ tableResult (houseAnswer depth (length (now (table .entry))) (length (houseWords depth) * 4)))
         × (now (table .exit)
-            ≡ houseOut (houseAnswer depth (length (now (table .entry))) (length (houseWords depth) * 4)) (bytesOf (houseWords depth))
-                (now (table .entry))) ⌝
-    }
+        ≡ houseOut (houseAnswer depth (length (now (table .entry))) (length (houseWords depth) * 4)) (bytesOf (houseWords depth))
+        (now (table .entry))) ⌝ }
 {
     table_result(parity_table::house::write_bytes(table, depth as usize))
 }
