@@ -3,3 +3,4 @@ pub mod Bits
 pub mod Choice
 pub mod Stores
 pub mod HexLaws
+pub mod ListLaws

@@ -1,3 +1,4 @@
 pub mod BigEndian
+pub mod ByteLists
 pub mod Choice
 pub mod Hex

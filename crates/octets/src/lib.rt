@@ -1,7 +1,11 @@
 // Work on byte slices: 32-bit words in them, the highest byte first; copies; their hexadecimal form.
 mod hex;
+mod lists;
 
 pub use hex::put_hex;
+pub use lists::equal_at;
+pub use lists::fill;
+pub use lists::xor_at;
 ghost use mathlib.Core.Path.{_≡_};
 ghost use Prim.Native.Nat.{_+_, _*_, _≤_, _^_};
 ghost use lib.ListN.{length};

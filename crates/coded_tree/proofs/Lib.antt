@@ -1,0 +1,3 @@
+pub mod ParityLaws
+pub mod HashLaws
+pub mod WriterLaws

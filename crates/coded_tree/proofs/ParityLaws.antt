@@ -1,0 +1,137 @@
+-- The exclusive-or of members, and the parity symbols of a layer, as loops meet them.
+use mathlib.Core.Path.{_≡_, refl, sym, ap, ap₂, _∙_}
+use mathlib.Core.Bool.{true}
+use mathlib.Core.List.{List, [], _∷_}
+use Prim.Native.Nat.{ℕ, zero, suc, _+_, _-_, _*_, _≤_, _<_}
+use native.Mathlib.Omega.{arith}
+use native.Mathlib.Numerals.{add-one}
+use lib.ListN.{length, getD, take, drop, drop-of-length-le}
+use lib.Seq.{drop-cons, paste}
+use lib.Dec.{ltb, eqb}
+use borrow.Author.Tests.{ltb-true, eq-eqb, ne-eqb}
+use Rattle.octets.specs.ByteLists.{xors}
+use Rattle.octets.proofs.Choice.{pick-yes, pick-no, pick-ind, and-yes, yes-and}
+use Rattle.octets.proofs.ListLaws.{length-part, length-xors}
+use Rattle.parity_table.specs.Shape.{kOf, nOf}
+use Rattle.parity_table.specs.declared.Answer.the-variants.{Whole}
+use Rattle.parity_table.specs.Members.{every}
+use Rattle.parity_table.specs.Table.{layerOf, equationOf}
+use Rattle.parity_table.specs.Reader.{readOf}
+use Rattle.parity_table.specs.Parse.{tableOf, Located}
+use Rattle.parity_table.proofs.Rules.{members-below}
+use Rattle.parity_table.proofs.Accepts.{accepted-table}
+use Rattle.model.specs.Shape.{tree, places, place}
+use Rattle.model.specs.Symbols.{symbolIn, zeros, xorOf, others, symAt, putAt}
+use Rattle.model.specs.Writer.{parities}
+use Rattle.model.proofs.Bytes.{xors-comm, xors-assoc, sym-zeros}
+use Rattle.model.proofs.Members.{length-xorOf}
+
+-- ---- elements of a list of which all pass a test
+
+pub every-at : (n : ℕ) (xs : List ℕ) → every (λ x. ltb x n) xs ≡ true → (i : ℕ) → i < length xs → getD xs i 0 < n
+unfolding every
+every-at n [] a i h = absurd (omega arith)
+every-at n (x ∷ xs) a zero h = ltb-true x n (and-yes (ltb x n) _ a .0)
+every-at n (x ∷ xs) a (suc i) h = every-at n xs (and-yes (ltb x n) _ a .1) i (omega arith)
+
+-- ---- a symbol of a layer, where the code finds it
+
+-- places, with base the first place of layer j
+module _ (t : List ℕ) (j base : ℕ) (eb : base ≡ places tree j) where
+  pub symAt-there : (y : ℕ) → symAt tree t j y ≡ take 256 (drop (256 * (base + y)) t)
+  unfolding symAt symbolIn place
+  symAt-there y = ap (λ b. take 256 (drop (256 * (b + y)) t)) (sym eb)
+
+  pub symAt-full : 256 * (base + nOf j) ≤ length t → (y : ℕ) → y < nOf j → length (symAt tree t j y) ≡ 256
+  symAt-full room y h = ap length (symAt-there y) ∙ length-part t (256 * (base + y)) 256 (omega arith)
+
+  pub putAt-there : (x : ℕ) (v w : List ℕ) → length v ≡ 256 → w ≡ paste t (256 * (base + x)) v (length v) → w ≡ putAt tree t j x v
+  unfolding putAt place
+  putAt-there x v w l e = e ∙ ap₂ (λ b n. paste t (256 * (b + x)) v n) eb l
+
+-- ---- the exclusive-or of the members other than x
+
+module _ (ms : List ℕ) (g : ℕ → List ℕ) (x : ℕ) where
+  -- what is left from member i on
+  abbrev pub left : ℕ → List ℕ
+  left i = xorOf g (others x (drop i ms))
+
+  cut : (i : ℕ) → i < length ms → drop i ms ≡ getD ms i 0 ∷ drop (i + 1) ms
+  cut i h = drop-cons ms i 0 h ∙ ap (λ n. getD ms i 0 ∷ drop n ms) (sym (add-one i))
+
+  pub left-skip : (i : ℕ) → i < length ms → getD ms i 0 ≡ x → left i ≡ left (i + 1)
+  unfolding others
+  left-skip i h e =
+      ap (λ l. xorOf g (others x l)) (cut i h) ∙ ap (xorOf g) (pick-yes (eqb (getD ms i 0) x) _ _ (eq-eqb (getD ms i 0) x e))
+
+  pub left-take : (i : ℕ) → i < length ms → (getD ms i 0 ≡ x → ⊥) → left i ≡ xors (g (getD ms i 0)) (left (i + 1))
+  unfolding others xorOf
+  left-take i h e =
+      ap (λ l. xorOf g (others x l)) (cut i h) ∙ ap (xorOf g) (pick-no (eqb (getD ms i 0) x) _ _ (ne-eqb (getD ms i 0) x e))
+
+  pub left-none : (i : ℕ) (a : List ℕ) → length ms ≤ i → length a ≡ 256 → xors a (left i) ≡ a
+  unfolding others xorOf
+  left-none i a h l = ap (λ q. xors a (xorOf g (others x q))) (drop-of-length-le ms h) ∙ sym-zeros a l
+
+  every-others : (n : ℕ) → every (λ y. ltb y n) ms ≡ true → every (λ y. ltb y n) (others x ms) ≡ true
+  unfolding every others
+  every-others n a = kept ms a
+    where
+      kept : (q : List ℕ) → every (λ y. ltb y n) q ≡ true → every (λ y. ltb y n) (others x q) ≡ true
+      kept [] b = refl
+      kept (y ∷ ys) b =
+          pick-ind (λ q. every (λ y. ltb y n) q ≡ true) (eqb y x) (λ t. kept ys (and-yes (ltb y n) _ b .1))
+          (λ t. yes-and (and-yes (ltb y n) _ b .0) (kept ys (and-yes (ltb y n) _ b .1)))
+
+  pub length-left : (n : ℕ) → ((y : ℕ) → y < n → length (g y) ≡ 256) → every (λ y. ltb y n) ms ≡ true → length (xorOf g (others x ms)) ≡ 256
+  length-left n h a = length-xorOf g n h (others x ms) (every-others n a)
+
+  pub left-all : (n : ℕ) → ((y : ℕ) → y < n → length (g y) ≡ 256) → every (λ y. ltb y n) ms ≡ true → xors zeros (left 0) ≡ left 0
+  left-all n h a = xors-comm zeros (left 0) ∙ sym-zeros (left 0) (length-left n h a)
+
+  -- a turn that takes a member in
+  pub turn-take : (i : ℕ) (a b : List ℕ) → i < length ms → (getD ms i 0 ≡ x → ⊥) → xors a (left i) ≡ left 0 → b ≡ xors a (g (getD ms i 0))
+      → xors b (left (i + 1)) ≡ left 0
+  turn-take i a b h e inv eb = ap (λ q. xors q (left (i + 1))) eb ∙ xors-assoc a (g (getD ms i 0)) (left (i + 1)) ∙ ap (xors a) (sym (left-take i h e)) ∙ inv
+
+  pub turn-skip : (i : ℕ) (a : List ℕ) → i < length ms → getD ms i 0 ≡ x → xors a (left i) ≡ left 0 → xors a (left (i + 1)) ≡ left 0
+  turn-skip i a h e inv = ap (xors a) (sym (left-skip i h e)) ∙ inv
+
+-- ---- the parity symbols of a layer, one after the other
+
+pub parities-next : (j e : ℕ) (es : List (List ℕ)) (t u : List ℕ) → e < length es
+    → u ≡ putAt tree t j (kOf j + e) (xorOf (symAt tree t j) (others (kOf j + e) (getD es e [])))
+    → parities tree j e (drop e es) t ≡ parities tree j (e + 1) (drop (e + 1) es) u
+unfolding parities
+parities-next j e es t u h eu =
+    ap (λ q. parities tree j e q t) (drop-cons es e [] h) ∙ ap₂ (λ n v. parities tree j n (drop n es) v) (sym (add-one e)) (sym eu)
+
+pub parities-none : (j e : ℕ) (es : List (List ℕ)) (t : List ℕ) → length es ≤ e → parities tree j e (drop e es) t ≡ t
+unfolding parities
+parities-none j e es t h = ap (λ q. parities tree j e q t) (drop-of-length-le es h)
+
+-- ---- an equation of the table, where the code finds it
+
+-- the words of equation e of layer j
+pub members-there : (ws : List ℕ) (j e at size : ℕ) → Located ws j e at size → take (at + size - at) (drop at ws) ≡ equationOf (tableOf ws) j e
+members-there ws j e at size x = let n : at + size - at ≡ size = omega arith in ap (λ m. take m (drop at ws)) n ∙ x .members
+
+module _ (d : ℕ) (ws : List ℕ) (r : readOf d ws ≡ Whole) (j e k : ℕ) (hj : j < d) (ek : k ≡ kOf j) (he : e < 3 * kOf j) (ms : List ℕ)
+    (em : ms ≡ equationOf (tableOf ws) j e) where
+  pub members-inside : every (λ y. ltb y (nOf j)) ms ≡ true
+  members-inside = ap (every (λ y. ltb y (nOf j))) em ∙ members-below d (tableOf ws) (accepted-table d ws r) j e hj he
+
+  pub parity-inside : k + e < nOf j
+  unfolding nOf
+  parity-inside = omega arith
+
+  pub parity-step : (t u : List ℕ) → u ≡ putAt tree t j (k + e) (xorOf (symAt tree t j) (others (k + e) ms))
+      → parities tree j e (drop e (layerOf (tableOf ws) j)) t ≡ parities tree j (e + 1) (drop (e + 1) (layerOf (tableOf ws) j)) u
+  unfolding equationOf
+  parity-step t u eu =
+      parities-next j e (layerOf (tableOf ws) j) t u (omega (arith, accepted-table d ws r .equations j hj))
+      (eu ∙ ap₂ (λ c l. putAt tree t j (c + e) (xorOf (symAt tree t j) (others (c + e) l))) ek em)
+
+pub layer-done : (d : ℕ) (ws : List ℕ) → readOf d ws ≡ Whole → (j e : ℕ) → j < d → 3 * kOf j ≤ e → (t : List ℕ)
+    → parities tree j e (drop e (layerOf (tableOf ws) j)) t ≡ t
+layer-done d ws r j e hj he t = parities-none j e (layerOf (tableOf ws) j) t (omega (arith, accepted-table d ws r .equations j hj))

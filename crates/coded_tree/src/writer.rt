@@ -1,0 +1,62 @@
+// The whole tree from a block, and the block back from a tree.
+use crate::first_place;
+use crate::hashes::put_hashes;
+use crate::hashes::put_root;
+use crate::parity::put_parities;
+use parity_table::data_count;
+ghost use mathlib.Core.Path.{_≡_};
+ghost use Prim.Native.Nat.{_+_, _-_, _*_, _≤_};
+ghost use lib.ListN.{length};
+ghost use Rattle.parity_table.specs.Shape.{kOf, maxDepth};
+ghost use Rattle.parity_table.specs.Parse.{Indexed, tableOf};
+ghost use Rattle.model.specs.Shape.{tree as shape, places};
+ghost use Rattle.model.specs.Writer.{code, writeTree, writtenRoot, writtenMarks, blockOf};
+ghost use Rattle.symbol_hash.specs.SymbolHash.{symbolHash};
+
+// Codes a tree whose base has its data symbols: layer by layer upward, the parity symbols, then their hashes into the layer above.
+fn code_layers(tree: &mut [u8], depth: usize, words: &[u32], starts: &[usize])
+    requires { ⌜ Indexed depth (now words) (now starts) × (length (now tree) ≡ 256 * places shape depth) ⌝ }
+    ensures { λ r. ⌜ now (tree .exit) ≡ code shape symbolHash (tableOf (now (words .entry))) depth (now (tree .entry)) ⌝ }
+{
+    let mut j = depth - 1;
+    while 0 < j {
+        put_parities(tree, depth, words, starts, j);
+        put_hashes(tree, j - 1);
+        j -= 1;
+    }
+    put_parities(tree, depth, words, starts, 0);
+}
+
+// Writes the tree of the block, every mark, and the root.
+pub fn write(
+    depth: usize,
+    words: &[u32],
+    starts: &[usize],
+    block: &[u8],
+    tree: &mut [u8],
+    marks: &mut [u8],
+    root: &mut [u8],
+)
+    requires { ⌜ Indexed depth (now words) (now starts) × (length (now block) ≡ 256 * kOf (depth - 1))
+        × (length (now tree) ≡ 256 * places shape depth) × (length (now marks) ≡ places shape depth) × (length (now root) ≡ 512) ⌝ }
+    ensures { λ r.
+        ⌜ (now (tree .exit) ≡ writeTree shape symbolHash (tableOf (now (words .entry))) (now (block .entry)) (now (tree .entry)))
+        × (now (marks .exit) ≡ writtenMarks shape depth)
+        × (now (root .exit) ≡ writtenRoot shape symbolHash (now (tree .exit))) ⌝ }
+{
+    octets::copy_at(block, tree, 256 * first_place(depth - 1));
+    code_layers(tree, depth, words, starts);
+    octets::fill(marks, 1);
+    put_root(tree, root);
+}
+
+// Copies the base's data symbols, in order, into the block.
+pub fn read_block(depth: usize, tree: &[u8], block: &mut [u8])
+    requires { ⌜ (1 ≤ depth) × (depth ≤ maxDepth) × (length (now tree) ≡ 256 * places shape depth)
+        × (length (now block) ≡ 256 * kOf (depth - 1)) ⌝ }
+    ensures { λ r. ⌜ now (block .exit) ≡ blockOf shape depth (now (tree .entry)) ⌝ }
+{
+    let from = 256 * first_place(depth - 1);
+    let to = from + block.len();
+    octets::copy_at(&tree[from..to], block, 0);
+}

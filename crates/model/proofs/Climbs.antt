@@ -1,0 +1,36 @@
+-- What the answer of a climb says, and when it is that the way leads to the root.
+use mathlib.Core.Path.{_≡_, refl, ap, _∙_}
+use mathlib.Core.Bool.{Bool, true}
+use Prim.Native.Nat.{ℕ, zero, suc, _+_, _≤_, _<_}
+use native.Mathlib.Omega.{arith}
+use lib.Dec.{eqb}
+use borrow.Author.Tests.{eqb-true, eqb-false}
+use Rattle.octets.proofs.Choice.{by-test, pick-yes, pick-ind}
+use Rattle.model.specs.Climb.{Climb, leads, breaks, climb, Says}
+
+module _ (fits : ℕ → Bool) (layer : ℕ → ℕ) where
+  -- one symbol more in front, which fits
+  more : (x m : ℕ) → fits x ≡ true → (c : Climb) → Says fits layer (suc x) m c → Says fits layer x (suc m) c
+  more x m t leads s = λ y a b. by-test (eqb y x) (λ u. ap fits (eqb-true y x u) ∙ t) (λ u. s y (omega (arith, eqb-false y x u)) (omega arith))
+  more x m t (breaks j) (y, first, e) = (
+    y,
+    record {
+      from = omega (arith, first .from);
+      upto = omega (arith, first .upto);
+      unfit = first .unfit;
+      before = λ z a b. by-test (eqb z x) (λ u. ap fits (eqb-true z x u) ∙ t) (λ u. first .before z (omega (arith, eqb-false z x u)) b);
+    },
+    e,
+  )
+
+  pub climb-says : (m x : ℕ) → Says fits layer x m (climb fits layer x m)
+  unfolding climb
+  climb-says zero x = λ y a b. absurd (omega arith)
+  climb-says (suc m) x =
+      pick-ind (Says fits layer x (suc m)) (fits x) (λ t. more x m t (climb fits layer (suc x) m) (climb-says m (suc x)))
+      (λ t. (x, record { from = omega arith; upto = omega arith; unfit = t; before = λ z a b. absurd (omega arith) }, refl))
+
+  pub climb-leads : (m x : ℕ) → ((y : ℕ) → x ≤ y → y < x + m → fits y ≡ true) → climb fits layer x m ≡ leads
+  unfolding climb
+  climb-leads zero x h = refl
+  climb-leads (suc m) x h = pick-yes (fits x) _ _ (h x (omega arith) (omega arith)) ∙ climb-leads m (suc x) (λ y a b. h y (omega arith) (omega arith))

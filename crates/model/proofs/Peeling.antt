@@ -1,0 +1,337 @@
+-- The peeling of a layer keeps what is promised of each end.
+use mathlib.Core.Path.{_≡_, refl, sym, ap, ap₂, _∙_, subst}
+use mathlib.Core.Logic.{_⊎_, inl, inr, _≢_}
+use mathlib.Core.Bool.{Bool, true, false, not, _&&_, false≢true}
+use mathlib.Core.List.{List, _++_, append-assoc}
+use Prim.Native.Nat.{ℕ, zero, suc, _+_, _-_, _*_, _≤_, _<_}
+use native.Mathlib.Omega.{arith}
+use lib.ListN.{length, getD, take, drop, set, length-set, length-append}
+use lib.Seq.{getD-set-other, take-append-seam, drop-append-seam, take-at, drop-at}
+use lib.Dec.{leb, ltb, eqb}
+use borrow.Author.Tests.{ltb-true, leb-true, eqb-true, eqb-false}
+use Rattle.parity_table.specs.Members.{every, lastOf}
+use Rattle.parity_table.specs.Table.{layerOf, equationOf}
+use Rattle.parity_table.specs.Parse.{over}
+use Rattle.octets.proofs.Choice.{by-test, and-yes, yes-and, both, not-yes}
+use Rattle.model.specs.Shape.{Shape, ShapeOk, place, places}
+use Rattle.octets.specs.ByteLists.{xors}
+use Rattle.model.specs.Symbols.{symbolIn, xorOf, zeros, others, count, firstOf, committed, symAt, putAt}
+use Rattle.model.specs.Fault.{proofBytes, verdict, proofLayer, proofEquation, proofWithheld}
+use Rattle.model.specs.Repair.{End, working, whole, fault, unavailable, twins, going, St, useEq, writeFault, writeTwins, absentAt, storeSym, fitsAt, takeable, restOf, step, peel}
+use Rattle.model.specs.Ends.{gapAt, filledIn, filled, Always, EndOk}
+use Rattle.model.proofs.Bytes.{same-yes, same-no, sym-self}
+use Rattle.model.proofs.Members.{length-xorOf, xorOf-cong}
+use Rattle.model.proofs.Counts.{isIt, firstOf-passes, every-at, every-others, every-member, ascending-once, xorOf-others, others-differ, none-absent, others-held, every-both, last-member, first-member}
+use Rattle.model.proofs.Tables.{TableLaws}
+use Rattle.model.proofs.Flat.{put-length, put-there, symAt-length}
+use Rattle.model.proofs.FaultWriter.{GoodProof, proof-good}
+use Rattle.model.proofs.Steps.{act-ind, form-ind, refute-ind, step-ind}
+use Rattle.model.proofs.Peel.{Inv, inv-use, inv-store}
+use Rattle.model.proofs.Frame.{room, put-keep, put-after, mark-after, byte-keep, mark-keep, mark-there, tally-one-more, Keeps, committed-keep, hash-keep, complete-keep, gap-keep, filled-keep, drained-keep}
+
+-- a stop: what always holds, and the end's own promise
+pub record Stop (S : Shape) (H : ℕ → ℕ → List ℕ → List ℕ) (root : List ℕ) (tbl : List (List (List ℕ))) (t₀ m₀ o₀ : List ℕ) (st : St) (en : End) : Type 0 where
+  pub always : Always S H root tbl t₀ m₀ (st .tree) (st .marks) (st .stored) (st .entered)
+  pub ends : EndOk S H root tbl t₀ m₀ o₀ st en
+
+module _ (S : Shape) (sh : ShapeOk S) (H : ℕ → ℕ → List ℕ → List ℕ) (root : List ℕ) (tbl : List (List (List ℕ))) (ok : TableLaws S tbl) (t₀ m₀ o₀ : List ℕ) (ho : length o₀ ≡ 12 + 256 * (8 * length tbl - 1))
+    (j : ℕ) (hj : j < length tbl) (m₁ : List ℕ) where
+  -- in the peeling of layer j; m₁ are the marks with which it began
+  pub record Mid (st : St) : Type 0 where
+    pub last : st .entered ≡ suc j
+    pub always : Always S H root tbl t₀ m₀ (st .tree) (st .marks) (st .stored) (suc j)
+    pub inv : Inv S H root tbl ok j hj (absentAt S m₁ j) (st .marks) (st .used)
+    pub gap-is : (i : ℕ) → i < S .n j → absentAt S m₁ j i ≡ gapAt S H root t₀ m₀ (st .tree) j i
+    pub used-holds : (e : ℕ) → e < length (layerOf tbl j) → eqb (getD (st .used) e 0) 0 ≡ false → xorOf (symAt S (st .tree) j) (equationOf tbl j e) ≡ zeros
+    pub out-kept : st .out ≡ o₀
+
+  abbrev pub Stage : St → End → Type 0
+  Stage st working = Mid st
+  Stage st whole = ⊥
+  Stage st (fault l e x n) = Stop S H root tbl t₀ m₀ o₀ st (fault l e x n)
+  Stage st (unavailable l) = Stop S H root tbl t₀ m₀ o₀ st (unavailable l)
+  Stage st (twins l x) = Stop S H root tbl t₀ m₀ o₀ st (twins l x)
+
+  abbrev pub StageSt : St → Type 0
+  StageSt st = Stage st (st .end)
+
+  pub mid-of : (st : St) (en : End) → going en ≡ true → Stage st en → Mid st
+  unfolding going
+  mid-of st working g s = s
+  mid-of st whole g s = absurd s
+  mid-of st (fault l e x n) g s = absurd (false≢true g)
+  mid-of st (unavailable l) g s = absurd (false≢true g)
+  mid-of st (twins l x) g s = absurd (false≢true g)
+
+  mid-use : (st : St) (e : ℕ) → e < length (layerOf tbl j) → count (absentAt S (st .marks) j) (equationOf tbl j e) ≡ 0 → xorOf (symAt S (st .tree) j) (equationOf tbl j e) ≡ zeros → Mid st → Mid (useEq e st)
+  unfolding useEq
+  mid-use st e h c z i =
+      record {
+        last = i .last;
+        always = i .always;
+        inv = inv-use S H root tbl ok j hj (absentAt S m₁ j) (st .marks) (st .used) e h c (i .inv);
+        gap-is = i .gap-is;
+        used-holds = λ q k t. by-test (eqb q e)
+            (λ u. subst (λ (n : ℕ). xorOf (symAt S (st .tree) j) (equationOf tbl j n) ≡ zeros) (sym (eqb-true q e u)) z)
+            (λ u. i .used-holds q k (sym (ap (λ (v : ℕ). eqb v 0) (getD-set-other (st .used) e q 1 0 (eqb-false q e u))) ∙ t));
+        out-kept = i .out-kept;
+      }
+
+  -- the one absent member of an equation is stored
+  module _ (st : St) (i : Mid st) (e : ℕ) (he : e < length (layerOf tbl j)) (c : count (absentAt S (st .marks) j) (equationOf tbl j e) ≡ 1) where
+    abbrev a : ℕ → Bool
+    a = absentAt S (st .marks) j
+
+    abbrev ms : List ℕ
+    ms = equationOf tbl j e
+
+    abbrev x : ℕ
+    x = firstOf a ms
+
+    abbrev v : List ℕ
+    v = xorOf (symAt S (st .tree) j) (others x ms)
+
+    x-absent : a x ≡ true
+    x-absent = firstOf-passes a ms (omega arith)
+
+    x-below : x < S .n j
+    x-below = ltb-true x (S .n j) (every-at (λ y. ltb y (S .n j)) a ms (ok .within j e hj he) (omega arith))
+
+    tl : length (st .tree) ≡ 256 * places S (length tbl)
+    tl = i .always .sized .tree-length
+
+    ml : length (st .marks) ≡ places S (length tbl)
+    ml = i .always .sized .marks-length
+
+    sym-full : (y : ℕ) → y < S .n j → length (symAt S (st .tree) j y) ≡ 256
+    sym-full y h = symAt-length S (st .tree) j y (room S (length tbl) (st .tree) (st .marks) tl ml j y hj h)
+
+    v-full : length v ≡ 256
+    v-full = length-xorOf (symAt S (st .tree) j) (S .n j) sym-full (others x ms) (every-others (λ y. ltb y (S .n j)) x ms (ok .within j e hj he))
+
+    abbrev t′ : List ℕ
+    t′ = putAt S (st .tree) j x v
+
+    abbrev m′ : List ℕ
+    m′ = set (st .marks) (place S j x) 1
+
+    here : symAt S t′ j x ≡ v
+    here = put-there S (st .tree) j x v (room S (length tbl) (st .tree) (st .marks) tl ml j x hj x-below) v-full
+
+    keep : (l y : ℕ) → y < S .n l → (l ≢ j) ⊎ (y ≢ x) → symAt S t′ l y ≡ symAt S (st .tree) l y
+    keep = put-keep S (length tbl) (st .tree) (st .marks) tl ml j x hj x-below v v-full
+
+    kept-mark : (l y : ℕ) → y < S .n l → (l ≢ j) ⊎ (y ≢ x) → absentAt S m′ l y ≡ absentAt S (st .marks) l y
+    kept-mark = mark-keep S (length tbl) (st .tree) (st .marks) tl ml j x hj x-below 1
+
+    held-now : absentAt S m′ j x ≡ false
+    held-now = mark-there S (length tbl) (st .tree) (st .marks) tl ml j x hj x-below 1
+
+    keeps-above : (l : ℕ) → l < j → Keeps S sh H root tbl ok (st .tree) t′ l
+    keeps-above l h k y b hy = keep k y hy (inl (λ q. omega arith))
+
+    same-committed : (y : ℕ) → committed S root (symAt S t′) j y ≡ committed S root (symAt S (st .tree)) j y
+    same-committed y = committed-keep S sh H root tbl ok (st .tree) t′ j y (λ k z q b. keep k z b (inl (λ r. omega arith)))
+
+    is-gap : gapAt S H root t₀ m₀ (st .tree) j x ≡ true
+    is-gap = sym (i .gap-is x x-below) ∙ i .inv .inside x x-absent
+
+    same-gap : (y : ℕ) → gapAt S H root t₀ m₀ t′ j y ≡ gapAt S H root t₀ m₀ (st .tree) j y
+    same-gap y = gap-keep S sh H root tbl ok t₀ m₀ (st .tree) t′ j y (λ k z q b. keep k z b (inl (λ r. omega arith)))
+
+    one-more : filledIn S H root t₀ m₀ t′ m′ j ≡ suc (filledIn S H root t₀ m₀ (st .tree) (st .marks) j)
+    unfolding filledIn
+    one-more =
+        tally-one-more _ _ (S .n j) x x-below
+        (ap (λ (b : Bool). gapAt S H root t₀ m₀ (st .tree) j x && not b) x-absent ∙ ap (λ (b : Bool). b && false) is-gap)
+        (yes-and (same-gap x ∙ is-gap) (ap not held-now))
+        (λ y h n. ap₂ (λ (b d : Bool). b && not d) (same-gap y) (kept-mark j y h (inr n)))
+
+    module _ (fit : H j x v ≡ committed S root (symAt S (st .tree)) j x) where
+      held-here : (y : ℕ) → y < S .n j → absentAt S m′ j y ≡ false → H j y (symAt S t′ j y) ≡ committed S root (symAt S t′) j y
+      held-here y hy ab =
+          by-test (eqb y x)
+          (λ u. subst (λ (z : ℕ). H j z (symAt S t′ j z) ≡ committed S root (symAt S t′) j z) (sym (eqb-true y x u)) (ap (H j x) here ∙ fit ∙ sym (same-committed x)))
+          (λ u. let n : (j ≢ j) ⊎ (y ≢ x) = inr (eqb-false y x u) in
+          ap (H j y) (keep j y hy n) ∙ i .always .held j y (omega arith) hy (sym (kept-mark j y hy n) ∙ ab) ∙ sym (same-committed y))
+
+      always-store : Always S H root tbl t₀ m₀ t′ m′ (suc (st .stored)) (suc j)
+      unfolding filled
+      always-store =
+          record {
+            in-depth = i .always .in-depth;
+            sized = record {
+              tree-length = put-length S (st .tree) j x v (room S (length tbl) (st .tree) (st .marks) tl ml j x hj x-below) v-full ∙ tl;
+              marks-length = length-set (st .marks) (place S j x) 1 ∙ ml;
+            };
+            untouched = put-after S (length tbl) (st .tree) (st .marks) tl ml j x hj x-below v v-full ∙ i .always .untouched;
+            unmarked = mark-after S (length tbl) (st .tree) (st .marks) tl ml j x hj x-below 1 ∙ i .always .unmarked;
+            counted = omega (arith, i .always .counted, one-more, filled-keep S sh H root tbl ok t₀ m₀ (st .tree) t′ (st .marks) m′ j (λ l h. keeps-above l h) (λ l h y hy. kept-mark l y hy (inl (λ q. omega arith))));
+            above = λ l h. complete-keep S sh H root tbl ok (st .tree) t′ (st .marks) m′ l (omega arith) (keeps-above l (omega arith)) (λ y hy. kept-mark l y hy (inl (λ q. omega arith))) (i .always .above l h);
+            drained = λ l h. drained-keep S sh H root tbl ok t₀ m₀ (st .tree) t′ l (λ k y q hy. keep k y hy (inl (λ z. omega arith))) (i .always .drained l h);
+            held = λ l y h hy ab. by-test (eqb l j)
+                (λ u. subst (λ (z : ℕ). y < S .n z → absentAt S m′ z y ≡ false → H z y (symAt S t′ z y) ≡ committed S root (symAt S t′) z y) (sym (eqb-true l j u)) (held-here y) hy ab)
+                (λ u. let hl : l < j = omega (arith, eqb-false l j u) in
+                hash-keep S sh H root tbl ok (st .tree) t′ l y (keeps-above l hl) hy (i .always .held l y h hy (sym (kept-mark l y hy (inl (λ q. omega arith))) ∙ ab)));
+            kept = λ l y h hy g. by-test (eqb l j)
+                (λ u. subst (λ (z : ℕ). y < S .n z → gapAt S H root t₀ m₀ t′ z y ≡ false → (absentAt S m′ z y ≡ false) × (symAt S t′ z y ≡ symAt S t₀ z y)) (sym (eqb-true l j u))
+                (λ hz gz. by-test (eqb y x)
+                (λ w. both (same-gap x ∙ is-gap) (sym (ap (gapAt S H root t₀ m₀ t′ j) (eqb-true y x w)) ∙ gz))
+                (λ w. let ne : (j ≢ j) ⊎ (y ≢ x) = inr (eqb-false y x w) in
+                let (p, q) = i .always .kept j y (omega arith) hz (sym (same-gap y) ∙ gz) in (kept-mark j y hz ne ∙ p, keep j y hz ne ∙ q))) hy g)
+                (λ u. let nl : (l ≢ j) ⊎ (y ≢ x) = inl (eqb-false l j u) in
+                let (p, q) = i .always .kept l y h hy (sym (gap-keep S sh H root tbl ok t₀ m₀ (st .tree) t′ l y (λ k z e w. keep k z w (inl (λ r. omega arith)))) ∙ g) in
+                (kept-mark l y hy nl ∙ p, keep l y hy nl ∙ q));
+            cleared = λ l y h hy n. by-test (eqb l j)
+                (λ u. subst (λ (z : ℕ). y < S .n z → absentAt S m′ z y ≡ true → (getD m′ (place S z y) 0 ≡ 0) × (symAt S t′ z y ≡ zeros)) (sym (eqb-true l j u))
+                (λ hz nz. by-test (eqb y x)
+                (λ w. both nz (ap (absentAt S m′ j) (eqb-true y x w) ∙ held-now))
+                (λ w. let ne : (j ≢ j) ⊎ (y ≢ x) = inr (eqb-false y x w) in
+                let (p, q) = i .always .cleared j y (omega arith) hz (sym (kept-mark j y hz ne) ∙ nz) in
+                (byte-keep S (length tbl) (st .tree) (st .marks) tl ml j x hj x-below 1 j y hz ne ∙ p, keep j y hz ne ∙ q))) hy n)
+                (λ u. let nl : (l ≢ j) ⊎ (y ≢ x) = inl (eqb-false l j u) in
+                let (p, q) = i .always .cleared l y h hy (sym (kept-mark l y hy nl) ∙ n) in
+                (byte-keep S (length tbl) (st .tree) (st .marks) tl ml j x hj x-below 1 l y hy nl ∙ p, keep l y hy nl ∙ q));
+          }
+
+      -- the equation now holds
+      now-holds : xorOf (symAt S t′ j) ms ≡ zeros
+      now-holds =
+          let within : every (λ y. ltb y (S .n j)) ms ≡ true = ok .within j e hj he in
+          let once : count (isIt x) ms ≡ 1 = omega (arith, ascending-once x ms (ok .ascend j e hj he), first-member a ms (omega arith)) in
+          let rest : xorOf (symAt S t′ j) (others x ms) ≡ v =
+          xorOf-cong (symAt S t′ j) (symAt S (st .tree) j) (λ y. not (eqb y x) && ltb y (S .n j))
+          (λ y b. let (b₁, b₂) = and-yes (not (eqb y x)) (ltb y (S .n j)) b in
+          keep j y (ltb-true y (S .n j) b₂) (inr (eqb-false y x (not-yes (eqb y x) b₁))))
+          (others x ms) (every-both (λ y. not (eqb y x)) (λ y. ltb y (S .n j)) (others x ms) (others-differ x ms) (every-others (λ y. ltb y (S .n j)) x ms within)) in
+          xorOf-others (symAt S t′ j) x ms once ∙ ap₂ xors here rest ∙ sym-self v v-full
+
+      -- an equation used before holds still
+      still-holds : (q : ℕ) → q < length (layerOf tbl j) → eqb (getD (st .used) q 0) 0 ≡ false → xorOf (symAt S t′ j) (equationOf tbl j q) ≡ zeros
+      still-holds q hq t =
+          xorOf-cong (symAt S t′ j) (symAt S (st .tree) j) (λ y. not (a y) && ltb y (S .n j))
+          (λ y b. let (b₁, b₂) = and-yes (not (a y)) (ltb y (S .n j)) b in
+          keep j y (ltb-true y (S .n j) b₂) (inr (λ r. both (ap a r ∙ x-absent) (not-yes (a y) b₁))))
+          (equationOf tbl j q) (every-both (λ y. not (a y)) (λ y. ltb y (S .n j)) (equationOf tbl j q) (none-absent a (equationOf tbl j q) (i .inv .done q hq t)) (ok .within j q hj hq))
+          ∙ i .used-holds q hq t
+
+      mid-store : Mid (storeSym S j e x v st)
+      unfolding storeSym
+      mid-store =
+          record {
+            last = i .last;
+            always = always-store;
+            inv = inv-store S H root tbl ok j hj (absentAt S m₁ j) (st .marks) (st .used) e he c (i .inv);
+            gap-is = λ y hy. i .gap-is y hy ∙ sym (same-gap y);
+            used-holds = λ q k t. by-test (eqb q e)
+                (λ u. subst (λ (n : ℕ). xorOf (symAt S t′ j) (equationOf tbl j n) ≡ zeros) (sym (eqb-true q e u)) now-holds)
+                (λ u. still-holds q k (sym (ap (λ (w : ℕ). eqb w 0) (getD-set-other (st .used) e q 1 0 (eqb-false q e u))) ∙ t));
+            out-kept = i .out-kept;
+          }
+
+  -- ---- stops
+
+  pub always-at : (st : St) → Mid st → Always S H root tbl t₀ m₀ (st .tree) (st .marks) (st .stored) (st .entered)
+  always-at st i = subst (λ (d : ℕ). Always S H root tbl t₀ m₀ (st .tree) (st .marks) (st .stored) d) (sym (i .last)) (i .always)
+
+  full-at : (st : St) → Mid st → (l y : ℕ) → l ≤ j → y < S .n l → length (symAt S (st .tree) l y) ≡ 256
+  full-at st i l y h hy =
+      symAt-length S (st .tree) l y (room S (length tbl) (st .tree) (st .marks) (i .always .sized .tree-length) (i .always .sized .marks-length) l y (omega arith) hy)
+
+  stop-fault : (st : St) → Mid st → (e x : ℕ) → e < length (layerOf tbl j) → 1 ≤ count (isIt x) (equationOf tbl j e)
+      → every (λ y. not (absentAt S (st .marks) j y)) (others x (equationOf tbl j e)) ≡ true
+      → H j x (xorOf (symAt S (st .tree) j) (others x (equationOf tbl j e))) ≢ committed S root (symAt S (st .tree)) j x
+      → StageSt (writeFault j e x (proofBytes S (symAt S (st .tree)) j e x (equationOf tbl j e)) st)
+  unfolding writeFault
+  stop-fault st i e x he mem good unfit =
+      let ms : List ℕ = equationOf tbl j e in
+      let a : ℕ → Bool = absentAt S (st .marks) j in
+      let p : List ℕ = proofBytes S (symAt S (st .tree)) j e x ms in
+      let g : GoodProof S H root tbl j e x p =
+      proof-good S sh H root (symAt S (st .tree)) j (full-at st i) (λ l y h hy. i .always .above l (omega arith) .hashed y hy) tbl ok hj e x he mem
+      (λ y. not (a y) && ltb y (S .n j))
+      (every-both (λ y. not (a y)) (λ y. ltb y (S .n j)) (others x ms) good (every-others (λ y. ltb y (S .n j)) x ms (ok .within j e hj he)))
+      (λ y b. ltb-true y (S .n j) (and-yes (not (a y)) (ltb y (S .n j)) b .1))
+      (λ y b. let (b₁, b₂) = and-yes (not (a y)) (ltb y (S .n j)) b in i .always .held j y (omega arith) (ltb-true y (S .n j) b₂) (not-yes (a y) b₁))
+      unfit in
+      let front : take (length p) (over p (st .out)) ≡ p = take-append-seam p (drop (length p) (st .out)) in
+      record {
+        always = always-at st i;
+        ends = record {
+          last = i .last;
+          room = omega (arith, g .fits);
+          sized = ap length front;
+          accepts = ap (verdict S H root tbl) front ∙ g .accepts;
+          head = (ap proofLayer front ∙ g .layer-is, ap proofEquation front ∙ g .equation-is, ap proofWithheld front ∙ g .withheld-is);
+          out-rest = drop-append-seam p (drop (length p) (st .out)) ∙ ap (drop (length p)) (i .out-kept);
+        };
+      }
+
+  stop-twins : (st : St) → Mid st → (e x : ℕ) → e < length (layerOf tbl j) → 1 ≤ count (isIt x) (equationOf tbl j e)
+      → count (absentAt S (st .marks) j) (equationOf tbl j e) ≡ 0
+      → xorOf (symAt S (st .tree) j) (equationOf tbl j e) ≢ zeros
+      → H j x (xorOf (symAt S (st .tree) j) (others x (equationOf tbl j e))) ≡ committed S root (symAt S (st .tree)) j x
+      → StageSt (writeTwins j x (symAt S (st .tree) j x) (xorOf (symAt S (st .tree) j) (others x (equationOf tbl j e))) st)
+  unfolding writeTwins symbolIn
+  stop-twins st i e x he mem c bad fit =
+      let ms : List ℕ = equationOf tbl j e in
+      let a : ℕ → Bool = absentAt S (st .marks) j in
+      let s : List ℕ = symAt S (st .tree) j x in
+      let v : List ℕ = xorOf (symAt S (st .tree) j) (others x ms) in
+      let once : count (isIt x) ms ≡ 1 = omega (arith, ascending-once x ms (ok .ascend j e hj he)) in
+      let below : x < S .n j = ltb-true x (S .n j) (every-member (λ y. ltb y (S .n j)) x ms (ok .within j e hj he) mem) in
+      let is-held : a x ≡ false = not-yes (a x) (every-member (λ y. not (a y)) x ms (none-absent a ms c) mem) in
+      let ls : length s ≡ 256 = full-at st i j x (omega arith) below in
+      let lv : length v ≡ 256 =
+      length-xorOf (symAt S (st .tree) j) (S .n j) (λ y l. full-at st i j y (omega arith) l) (others x ms) (every-others (λ y. ltb y (S .n j)) x ms (ok .within j e hj he)) in
+      let both-length : length (s ++ v) ≡ 512 = omega (arith, length-append s v) in
+      let rest : List ℕ = drop (length (s ++ v)) (st .out) in
+      let split : (s ++ v) ++ rest ≡ s ++ (v ++ rest) = append-assoc s v rest in
+      let first : take 256 (drop 0 ((s ++ v) ++ rest)) ≡ s = ap (take 256) split ∙ take-at s (v ++ rest) 256 ls in
+      let second : take 256 (drop 256 ((s ++ v) ++ rest)) ≡ v = ap (λ (l : List ℕ). take 256 (drop 256 l)) split ∙ ap (take 256) (drop-at s (v ++ rest) 256 ls) ∙ take-at v rest 256 lv in
+      record {
+        always = always-at st i;
+        ends = record {
+          last = i .last;
+          in-layer = below;
+          marked = is-held;
+          room = omega (arith, ok .deep);
+          sized = (ap length first ∙ ls, ap length second ∙ lv);
+          first-is = first;
+          differ = λ q. bad (xorOf-others (symAt S (st .tree) j) x ms once ∙ ap (xors s) (sym (sym first ∙ q ∙ second)) ∙ sym-self s ls);
+          hash-first = ap (H j x) first ∙ i .always .held j x (omega arith) below is-held;
+          hash-second = ap (H j x) second ∙ fit;
+          out-rest = drop-at (s ++ v) rest 512 both-length ∙ ap₂ (λ (n : ℕ) (o : List ℕ). drop n o) both-length (i .out-kept);
+        };
+      }
+
+  -- ---- a turn, and all turns
+
+  stage-step : (st : St) → StageSt st → StageSt (step S H root tbl j st)
+  unfolding takeable fitsAt restOf useEq storeSym
+  stage-step st s =
+      step-ind S H root tbl StageSt j st (λ t. s)
+      (λ e he tk g.
+      let i : Mid st = mid-of st (st .end) g s in
+      let a : ℕ → Bool = absentAt S (st .marks) j in
+      let ms : List ℕ = equationOf tbl j e in
+      let few : count a ms ≤ 1 = leb-true (count a ms) 1 (and-yes (eqb (getD (st .used) e 0) 0) (leb (count a ms) 1) tk .1) in
+      act-ind S H root tbl StageSt j e ms st
+      (λ c z. mid-use st e he c z i)
+      (λ c bad.
+      let x : ℕ = lastOf ms 0 in
+      let mem : 1 ≤ count (isIt x) ms = last-member ms 0 (ok .some-member j e hj he) in
+      refute-ind S H root tbl StageSt j e ms x (restOf S j ms x st) st
+      (λ t. stop-twins st i e x he mem c bad (same-yes _ _ t))
+      (λ t. stop-fault st i e x he mem (every-others (λ y. not (a y)) x ms (none-absent a ms c)) (same-no t)))
+      (λ pos.
+      let x : ℕ = firstOf a ms in
+      let one : count a ms ≡ 1 = omega arith in
+      form-ind S H root tbl StageSt j e ms x (restOf S j ms x st) st
+      (λ t. mid-store st i e he one (same-yes _ _ t))
+      (λ t. stop-fault st i e x he (first-member a ms pos) (others-held a x ms one refl) (same-no t))))
+
+  pub stage-peel : (f : ℕ) (st : St) → StageSt st → StageSt (peel S H root tbl j f st)
+  unfolding peel
+  stage-peel zero st s = s
+  stage-peel (suc f) st s = stage-peel f (step S H root tbl j st) (stage-step st s)

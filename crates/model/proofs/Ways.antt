@@ -1,0 +1,54 @@
+-- The way up from a symbol: the numbers that it reaches, and what its check says.
+use mathlib.Core.Path.{_≡_, refl, ap, _∙_, subst}
+use mathlib.Core.List.{List}
+use Prim.Native.Nat.{ℕ, zero, suc, _-_, _/_, _%_, _≤_, _<_}
+use native.Mathlib.Omega.{arith}
+use Rattle.model.specs.Shape.{Shape, ShapeOk}
+use Rattle.model.specs.Symbols.{symbolIn, slot, committed}
+use Rattle.model.specs.Climb.{leads, Says}
+use Rattle.model.specs.Fault.{reached, wayFits, wayCheck}
+use Rattle.model.proofs.Bytes.{same-yes, yes-same}
+use Rattle.model.proofs.Shapes.{up-lt}
+use Rattle.model.proofs.Climbs.{climb-says, climb-leads}
+
+-- ---- numbers
+
+module _ (S : Shape) (j i : ℕ) where
+  -- the number at layer l is that at the layer below, modulo the k of layer l
+  pub reached-up : (l : ℕ) → suc l ≤ j → reached S j i (j - suc l) % S .k l ≡ reached S j i (j - l)
+  unfolding reached
+  reached-up l h =
+      let e : suc (j - suc l) ≡ j - l = omega arith in
+      let u : l ≡ j - suc (j - suc l) = omega arith in
+      ap (λ (n : ℕ). reached S j i (j - suc l) % S .k n) u ∙ ap (reached S j i) e
+
+  pub reached-lt : ShapeOk S → i < S .n j → (x : ℕ) → x ≤ j → reached S j i x < S .n (j - x)
+  unfolding reached
+  reached-lt sh h zero k = let e : j ≡ j - 0 = omega arith in subst (λ (l : ℕ). i < S .n l) e h
+  reached-lt sh h (suc x) k = up-lt S sh (j - suc x) (reached S j i x)
+
+-- ---- the hash that symbols above, w by layer, have for a symbol is the committed one where the one above it is f's
+
+pub committed-same : (S : Shape) (root : List ℕ) (w : ℕ → List ℕ) (f : ℕ → ℕ → List ℕ) (l m : ℕ) → ((u : ℕ) → suc u ≡ l → w u ≡ f u (m % S .k u))
+    → committed S root (λ u i. w u) l m ≡ committed S root f l m
+unfolding committed
+committed-same S root w f zero m above = refl
+committed-same S root w f (suc l) m above = ap (λ (s : List ℕ). slot s (m / S .k l)) (above l refl)
+
+-- ---- the check
+
+module _ (S : Shape) (H : ℕ → ℕ → List ℕ → List ℕ) (root : List ℕ) (j i : ℕ) (c : List ℕ) where
+  -- symbol x of the way, at layer l with number m
+  abbrev pub WayFit : ℕ → ℕ → ℕ → Type 0
+  WayFit x l m = H l m (symbolIn c x) ≡ committed S root (λ u n. symbolIn c (j - u)) l m
+
+  pub way-fits : wayCheck S H root j i c ≡ leads → (x : ℕ) → x ≤ j → WayFit x (j - x) (reached S j i x)
+  unfolding wayCheck wayFits
+  way-fits e x h =
+      let says : Says (wayFits S H root j i c) (λ x. j - x) 0 (suc j) leads =
+      subst (Says (wayFits S H root j i c) (λ x. j - x) 0 (suc j)) e (climb-says (wayFits S H root j i c) (λ x. j - x) (suc j) 0) in
+      same-yes _ _ (says x (omega arith) (omega arith))
+
+  pub fits-way : ((x : ℕ) → x ≤ j → WayFit x (j - x) (reached S j i x)) → wayCheck S H root j i c ≡ leads
+  unfolding wayCheck wayFits
+  fits-way all = climb-leads (wayFits S H root j i c) (λ x. j - x) (suc j) 0 (λ x a h. yes-same (all x (omega arith)))

@@ -1,0 +1,10 @@
+pub mod Shape
+pub mod Symbols
+pub mod Coded
+pub mod Writer
+pub mod Climb
+pub mod Sampling
+pub mod SampleCheck
+pub mod Fault
+pub mod Repair
+pub mod Ends

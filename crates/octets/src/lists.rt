@@ -1,0 +1,37 @@
+// Parts of byte slices: filled, compared, and taken together by exclusive-or.
+ghost use mathlib.Core.Path.{_≡_};
+ghost use Prim.Native.Nat.{_+_, _≤_};
+ghost use lib.ListN.{length, take, drop, replicate};
+ghost use Rattle.octets.specs.ByteLists.{same, xors};
+
+// Every byte of s becomes x.
+pub fn fill(s: &mut [u8], x: u8)
+    ensures { λ r. ⌜ now (s .exit) ≡ replicate (length (now (s .entry))) x ⌝ }
+{
+    for i in 0..s.len() {
+        s[i] = x;
+    }
+}
+
+// Whether the bytes of s are those of t from byte at on.
+pub fn equal_at(s: &[u8], t: &[u8], at: usize) -> bool
+    requires { ⌜ at + length (now s) ≤ length (now t) ⌝ }
+    ensures { λ r. ⌜ r ≡ same (now (s .entry)) (take (length (now (s .entry))) (drop at (now (t .entry)))) ⌝ }
+{
+    for i in 0..s.len() {
+        if s[i] != t[at + i] {
+            return false;
+        }
+    }
+    true
+}
+
+// The exclusive-or of s and the bytes of t from byte at on, into s.
+pub fn xor_at(s: &mut [u8], t: &[u8], at: usize)
+    requires { ⌜ at + length (now s) ≤ length (now t) ⌝ }
+    ensures { λ r. ⌜ now (s .exit) ≡ xors (now (s .entry)) (take (length (now (s .entry))) (drop at (now (t .entry)))) ⌝ }
+{
+    for i in 0..s.len() {
+        s[i] = s[i] ^ t[at + i];
+    }
+}

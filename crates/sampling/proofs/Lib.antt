@@ -1,0 +1,3 @@
+pub mod SymbolLaws
+pub mod SamplerLaws
+pub mod CheckLaws

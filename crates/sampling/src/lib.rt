@@ -1,0 +1,25 @@
+// The cores of the sampler and of the sample checker, for a depth, a base symbol number and lengths
+// that are known to be right.
+mod checker;
+mod sampler;
+pub mod symbols;
+
+pub use checker::check;
+pub use sampler::first_absent;
+pub use sampler::take;
+
+// What the search for a needed symbol that is absent finds.
+pub enum Found {
+    // the lowest index in the sample of such a symbol
+    At(usize),
+    // none: each is marked held
+    Nothing,
+}
+
+// What the check of a sample finds.
+pub enum Way {
+    // every hash leads to the root
+    Leads,
+    // the first layer, going up, of a symbol with another hash
+    Breaks(usize),
+}
