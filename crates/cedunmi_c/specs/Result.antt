@@ -2,6 +2,8 @@
 use Prim.Native.Nat.{ℕ, _+_, _*_, _^_}
 use Rattle.parity_table.specs.declared.Answer.{Answer}
 use Rattle.parity_table.specs.Right.{numberOf, valueOf}
+use Rattle.cedunmi.specs.declared.Answer.{Answer as Called}
+use Rattle.cedunmi.specs.Stops as stops
 
 -- 01's number in the lowest eight bits, the value that goes with it above them
 abbrev pub packed : ℕ → ℕ → ℕ
@@ -10,3 +12,7 @@ packed number value = number + value * 2 ^ 8
 -- the result of a call that reads or writes a table
 abbrev pub tableResult : Answer → ℕ
 tableResult a = packed (numberOf a) (valueOf a)
+
+-- the result of any other call
+abbrev pub callResult : Called → ℕ
+callResult a = packed (stops.numberOf a) (stops.valueOf a)

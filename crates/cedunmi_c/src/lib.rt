@@ -1,4 +1,6 @@
 // The C interface, declared in include/cedunmi.h: numbers and byte slices in, one number out.
+use cedunmi::Answer as Called;
+use cedunmi::Stop;
 use parity_table::Answer;
 use sha256::Answer as Hashed;
 ghost use mathlib.Core.Path.{_≡_};
@@ -8,7 +10,11 @@ ghost use Rattle.octets.specs.BigEndian.{bytesOf};
 ghost use Rattle.sha256.specs.Call.{answer, after, number};
 ghost use Rattle.parity_table.specs.Bytes.{maxBytes, readBytesOf};
 ghost use Rattle.parity_table.specs.House.{houseWords, houseAnswer, houseOut};
-ghost use Rattle.cedunmi_c.specs.Result.{tableResult};
+ghost use Rattle.cedunmi_c.specs.Result.{tableResult, callResult};
+ghost use Rattle.parity_table.specs.Bytes.{wordsOf};
+ghost use Rattle.cedunmi.specs.Stops.{valueOf};
+ghost use Rattle.cedunmi.specs.Sample.{sampleChecked, sampleTaken, sampleLeft};
+ghost use Rattle.cedunmi.specs.Volume.{blockRead, blockLeft, treeWritten, treeLeft, marksLeft, rootLeft};
 
 // The SHA-256 of a message of at most 1,048,576 bytes into a digest of 32. 0: done; 2: a length is wrong, and nothing changed.
 #[no_mangle]
@@ -54,4 +60,92 @@ pub extern "C" fn cmt_house_table(depth: u64, table: &mut [u8]) -> u64
         (now (table .entry))) ⌝ }
 {
     table_result(parity_table::house::write_bytes(table, depth as usize))
+}
+
+// The number of a stop, with its value above it.
+fn stop_result(s: Stop) -> u64
+    requires { ⌜ valueOf (Called.Stopped s) ≤ 4096 ⌝ }
+    ensures { λ r. ⌜ r ≡ callResult (Called.Stopped s) ⌝ }
+{
+    match s {
+        Stop::Depth => 1,
+        Stop::Length => 2,
+        Stop::Table(i) => 3 + i as u64 * 256,
+        Stop::Mark(p) => 4 + p as u64 * 256,
+        Stop::Number => 5,
+        Stop::Hash => 7,
+        Stop::Absent(x) => 9 + x as u64 * 256,
+    }
+}
+
+fn call_result(a: Called) -> u64
+    requires { ⌜ valueOf a ≤ 4096 ⌝ }
+    ensures { λ r. ⌜ r ≡ callResult a ⌝ }
+{
+    match a {
+        Called::Done => 0,
+        Called::Stopped(s) => stop_result(s),
+    }
+}
+
+// Writes the tree of a block, its marks and its root. 1: the depth; 2: a length; 3: the table's first wrong word.
+#[no_mangle]
+pub extern "C" fn cmt_tree_write(
+    depth: u64,
+    table: &[u8],
+    block: &[u8],
+    tree: &mut [u8],
+    marks: &mut [u8],
+    root: &mut [u8],
+) -> u64
+    ensures { λ r.
+        ⌜ (r ≡ callResult (treeWritten depth (now (table .entry)) (now (block .entry)) (now (tree .entry)) (now (marks .entry)) (now (root .entry))))
+        × (now (tree .exit)
+        ≡ treeLeft (treeWritten depth (now (table .entry)) (now (block .entry)) (now (tree .entry)) (now (marks .entry)) (now (root .entry)))
+        (wordsOf (now (table .entry))) (now (block .entry)) (now (tree .entry)))
+        × (now (marks .exit)
+        ≡ marksLeft (treeWritten depth (now (table .entry)) (now (block .entry)) (now (tree .entry)) (now (marks .entry)) (now (root .entry))) depth
+        (now (marks .entry)))
+        × (now (root .exit)
+        ≡ rootLeft (treeWritten depth (now (table .entry)) (now (block .entry)) (now (tree .entry)) (now (marks .entry)) (now (root .entry)))
+        (now (tree .exit)) (now (root .entry))) ⌝ }
+{
+    call_result(cedunmi::volume::write_tree(depth as usize, table, block, tree, marks, root))
+}
+
+// Copies the block out of a tree. 1: the depth; 2: a length; 4: the lowest bad mark; 9: the first absent data symbol of the base.
+#[no_mangle]
+pub extern "C" fn cmt_block_read(depth: u64, tree: &[u8], marks: &[u8], block: &mut [u8]) -> u64
+    ensures { λ r.
+        ⌜ (r ≡ callResult (blockRead depth (now (tree .entry)) (now (marks .entry)) (now (block .entry))))
+        × (now (block .exit)
+        ≡ blockLeft (blockRead depth (now (tree .entry)) (now (marks .entry)) (now (block .entry))) depth (now (tree .entry)) (now (block .entry))) ⌝ }
+{
+    call_result(cedunmi::volume::read_block(depth as usize, tree, marks, block))
+}
+
+// Takes a sample of a base symbol. 1: the depth; 2: a length; 4: the lowest bad mark; 5: the number; 9: the first absent symbol of the sample.
+#[no_mangle]
+pub extern "C" fn cmt_sample_take(
+    depth: u64,
+    number: u64,
+    tree: &[u8],
+    marks: &[u8],
+    sample: &mut [u8],
+) -> u64
+    ensures { λ r.
+        ⌜ (r ≡ callResult (sampleTaken depth number (now (tree .entry)) (now (marks .entry)) (now (sample .entry))))
+        × (now (sample .exit)
+        ≡ sampleLeft (sampleTaken depth number (now (tree .entry)) (now (marks .entry)) (now (sample .entry))) depth number
+        (now (tree .entry)) (now (sample .entry))) ⌝ }
+{
+    call_result(cedunmi::sample::take(depth as usize, number as usize, tree, marks, sample))
+}
+
+// Checks a sample of a base symbol against the root. 1: the depth; 2: a length; 5: the number; 7: a hash doesn't lead to the root.
+#[no_mangle]
+pub extern "C" fn cmt_sample_check(depth: u64, number: u64, root: &[u8], sample: &[u8]) -> u64
+    ensures { λ r. ⌜ r ≡ callResult (sampleChecked depth number (now (root .entry)) (now (sample .entry))) ⌝ }
+{
+    call_result(cedunmi::sample::check(depth as usize, number as usize, root, sample))
 }
