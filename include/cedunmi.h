@@ -11,6 +11,11 @@
  *   2  stopped: a length is wrong
  *   3  stopped: the table breaks a rule; the value is the first wrong word, or
  *      the number of words where the table is short
+ *   4  stopped: a mark is neither 0 nor 1; the value is the lowest such place
+ *   5  stopped: the base has no symbol of this number
+ *   7  stopped: a hash doesn't lead to the root
+ *   9  stopped: a needed symbol is absent; the value is the index in the sample
+ *      of the first, or, reading a block, its base number
  *
  * A call that stops changes no byte of any buffer. The bits above the low
  * eight are the value that goes with the number, zero where there is none.
@@ -42,7 +47,11 @@ enum {
     CMT_DONE = 0,
     CMT_WRONG_DEPTH = 1,
     CMT_WRONG_LENGTH = 2,
-    CMT_WRONG_TABLE = 3
+    CMT_WRONG_TABLE = 3,
+    CMT_WRONG_MARK = 4,
+    CMT_WRONG_NUMBER = 5,
+    CMT_WRONG_HASH = 7,
+    CMT_ABSENT = 9
 };
 
 /* The most stack that a call uses, in bytes. */
@@ -58,6 +67,13 @@ enum {
 
 /* The bytes of the house table of a depth from 1 to CMT_DEPTH_MAX. */
 #define CMT_HOUSE_TABLE_BYTES(depth) (4 * (60 * (((size_t)1 << (depth)) - 1) + 1))
+
+/* The lengths of a tree's buffers at a depth from 1 to CMT_DEPTH_MAX, in bytes. */
+#define CMT_MARKS_BYTES(depth) (16 * (((size_t)1 << (depth)) - 1))
+#define CMT_TREE_BYTES(depth) (256 * CMT_MARKS_BYTES(depth))
+#define CMT_BLOCK_BYTES(depth) (256 * ((size_t)4 << ((depth) - 1)))
+#define CMT_SAMPLE_BYTES(depth) (256 * (2 * (size_t)(depth) - 1))
+#define CMT_ROOT_BYTES 512
 
 /* The number in a result: CMT_DONE, or why the call stopped. */
 static inline uint64_t cmt_number(uint64_t result)
@@ -104,6 +120,52 @@ uint64_t cmt_table_check(uint64_t depth, const uint8_t *table, size_t table_len)
  * CMT_WRONG_LENGTH  table_len is not CMT_HOUSE_TABLE_BYTES(depth).
  */
 uint64_t cmt_house_table(uint64_t depth, uint8_t *table, size_t table_len);
+
+/*
+ * Codes a block: writes its tree, a mark of 1 for every symbol, and its root.
+ *
+ * CMT_DONE          all three are written.
+ * CMT_WRONG_DEPTH   the depth is not 1 to CMT_DEPTH_MAX.
+ * CMT_WRONG_LENGTH  a buffer has another length than this depth asks, or the
+ *                   table's is over CMT_TABLE_BYTES_MAX or no multiple of 4.
+ * CMT_WRONG_TABLE   the table breaks a rule, as for cmt_table_check().
+ */
+uint64_t cmt_tree_write(uint64_t depth, const uint8_t *table, size_t table_len,
+                        const uint8_t *block, size_t block_len,
+                        uint8_t *tree, size_t tree_len,
+                        uint8_t *marks, size_t marks_len,
+                        uint8_t *root, size_t root_len);
+
+/*
+ * Reads the block back: copies the base's data symbols, each of which must be
+ * marked held.
+ *
+ * Stops with 1, 2, 4 (the lowest place with a mark that is neither 0 nor 1) or
+ * 9 (the number of the base's first absent data symbol).
+ */
+uint64_t cmt_block_read(uint64_t depth, const uint8_t *tree, size_t tree_len,
+                        const uint8_t *marks, size_t marks_len,
+                        uint8_t *block, size_t block_len);
+
+/*
+ * Takes a sample of a base symbol. It looks at marks and never at hashes.
+ *
+ * Stops with 1, 2, 4, 5 (the base has no symbol of this number) or 9 (the index
+ * in the sample of the first symbol that is absent).
+ */
+uint64_t cmt_sample_take(uint64_t depth, uint64_t number,
+                         const uint8_t *tree, size_t tree_len,
+                         const uint8_t *marks, size_t marks_len,
+                         uint8_t *sample, size_t sample_len);
+
+/*
+ * Checks a sample of a base symbol against the root.
+ *
+ * CMT_DONE: every hash in it leads to the root. Stops with 1, 2, 5 or 7.
+ */
+uint64_t cmt_sample_check(uint64_t depth, uint64_t number,
+                          const uint8_t *root, size_t root_len,
+                          const uint8_t *sample, size_t sample_len);
 
 #ifdef __cplusplus
 }

@@ -16,6 +16,11 @@ static uint8_t stack[STACK];
 static uint8_t message[CMT_SHA256_MESSAGE_MAX];
 static uint8_t digest[CMT_SHA256_DIGEST_BYTES];
 static uint8_t table[CMT_HOUSE_TABLE_BYTES(CMT_DEPTH_MAX)];
+static uint8_t block[CMT_BLOCK_BYTES(CMT_DEPTH_MAX)];
+static uint8_t tree[CMT_TREE_BYTES(CMT_DEPTH_MAX)];
+static uint8_t marks[CMT_MARKS_BYTES(CMT_DEPTH_MAX)];
+static uint8_t root[CMT_ROOT_BYTES];
+static uint8_t sample[CMT_SAMPLE_BYTES(CMT_DEPTH_MAX)];
 static size_t message_len;
 
 static void sha256(void)
@@ -32,6 +37,29 @@ static void house_table(void)
 static void table_check(void)
 {
     cmt_table_check(CMT_DEPTH_MAX, table, sizeof table);
+}
+
+/* These follow house_table() and each other, so that each does all its work. */
+static void tree_write(void)
+{
+    cmt_tree_write(CMT_DEPTH_MAX, table, sizeof table, block, sizeof block, tree,
+                   sizeof tree, marks, sizeof marks, root, sizeof root);
+}
+
+static void block_read(void)
+{
+    cmt_block_read(CMT_DEPTH_MAX, tree, sizeof tree, marks, sizeof marks, block, sizeof block);
+}
+
+static void sample_take(void)
+{
+    cmt_sample_take(CMT_DEPTH_MAX, 7, tree, sizeof tree, marks, sizeof marks, sample,
+                    sizeof sample);
+}
+
+static void sample_check(void)
+{
+    cmt_sample_check(CMT_DEPTH_MAX, 7, root, sizeof root, sample, sizeof sample);
 }
 
 /* Uses at least KNOWN bytes, to show that the measuring finds them. */
@@ -97,5 +125,9 @@ int main(void)
     wrong |= over("cmt_sha256", used_by_sha256());
     wrong |= over("cmt_house_table", used(house_table));
     wrong |= over("cmt_table_check", used(table_check));
+    wrong |= over("cmt_tree_write", used(tree_write));
+    wrong |= over("cmt_block_read", used(block_read));
+    wrong |= over("cmt_sample_take", used(sample_take));
+    wrong |= over("cmt_sample_check", used(sample_check));
     return wrong;
 }

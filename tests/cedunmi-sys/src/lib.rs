@@ -1,6 +1,13 @@
 //! The functions of `include/cedunmi.h`: the one place that declares them for
 //! Rust. Nothing holds these declarations to the header but their reader.
 
+mod trees;
+
+pub use trees::{
+    block_read, sample_check, sample_take, tree_write, BlockRead, SampleCheck, SampleTake,
+    TreeWrite,
+};
+
 /// The prototype of `cmt_sha256`.
 pub type Sha256 = unsafe extern "C" fn(
     message: *const u8,
@@ -31,11 +38,22 @@ pub struct Library {
     pub sha256: Sha256,
     pub table_check: TableCheck,
     pub house_table: HouseTable,
+    pub tree_write: TreeWrite,
+    pub block_read: BlockRead,
+    pub sample_take: SampleTake,
+    pub sample_check: SampleCheck,
 }
 
 /// The proved library.
-pub static CEDUNMI: Library =
-    Library { sha256: cmt_sha256, table_check: cmt_table_check, house_table: cmt_house_table };
+pub static CEDUNMI: Library = Library {
+    sha256: cmt_sha256,
+    table_check: cmt_table_check,
+    house_table: cmt_house_table,
+    tree_write: trees::cmt_tree_write,
+    block_read: trees::cmt_block_read,
+    sample_take: trees::cmt_sample_take,
+    sample_check: trees::cmt_sample_check,
+};
 
 /// Calls `cmt_sha256`.
 pub fn sha256(message: &[u8], digest: &mut [u8]) -> u64 {

@@ -3,12 +3,18 @@
 //! that they are lent. It stops at the first difference.
 
 mod difference;
+mod inputs;
 mod lent;
 mod messages;
 mod random;
+mod results;
+#[cfg(test)]
+mod right;
+mod samples;
 mod sha256;
 mod system;
 mod tables;
+mod trees;
 
 use cedunmi_sys::{Library, CEDUNMI};
 use difference::Failure;
@@ -17,7 +23,12 @@ use std::process::ExitCode;
 /// Makes the comparisons of one subject, and gives their number.
 type Compare = fn(&Library) -> Result<u64, Failure>;
 
-const SUBJECTS: [(&str, Compare); 2] = [("sha256", sha256::compare), ("tables", tables::compare)];
+const SUBJECTS: &[(&str, Compare)] = &[
+    ("sha256", sha256::compare),
+    ("tables", tables::compare),
+    ("trees", trees::compare),
+    ("samples", samples::compare),
+];
 
 fn main() -> ExitCode {
     for (subject, compare) in SUBJECTS {

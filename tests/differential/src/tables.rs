@@ -1,21 +1,21 @@
 //! `cmt_table_check` and `cmt_house_table` beside the reference.
 
-mod lists;
+pub mod lists;
 
 #[cfg(test)]
 mod mutants;
 
-use crate::difference::{Difference, Failure};
+use crate::difference::Failure;
 use crate::lent::{Lent, ALIGNMENTS};
 use crate::random::Random;
+use crate::results::{number, same};
 use cedunmi_sys::{HouseTable, Library, TableCheck};
 use lists::{alterations, random_damage, random_table, table_of, WORD_KINDS};
-use reference::table::{self, Stop, MAX_BYTES, MAX_DEPTH};
+use reference::table::{self, MAX_BYTES, MAX_DEPTH};
 
 const DONE: u64 = 0;
 const WRONG_DEPTH: u64 = 1;
 const WRONG_LENGTH: u64 = 2;
-const WRONG_WORD: u64 = 3;
 
 /// The depths at which every list is read, those that there are not too.
 const DEPTHS: std::ops::RangeInclusive<u64> = 0..=7;
@@ -214,24 +214,5 @@ impl Comparisons {
             call: format!("house table of depth {depth}, {len} bytes at {alignment}"),
             difference,
         })
-    }
-}
-
-/// The one number of a result: 01's number in the lowest eight bits, the first
-/// wrong word above.
-fn number(result: Result<(), Stop>) -> u64 {
-    match result {
-        Ok(()) => DONE,
-        Err(Stop::Depth) => WRONG_DEPTH,
-        Err(Stop::Length) => WRONG_LENGTH,
-        Err(Stop::Word(at)) => WRONG_WORD + 256 * at as u64,
-    }
-}
-
-fn same(expected: u64, found: u64) -> Result<(), Difference> {
-    if expected == found {
-        Ok(())
-    } else {
-        Err(Difference::Result { expected, found })
     }
 }

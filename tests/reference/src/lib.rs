@@ -3,5 +3,8 @@
 //! It is written from the published documents, each module from the one that
 //! it names, and shares no code with the proved library.
 
+pub mod sample;
 pub mod sha256;
+pub mod stop;
 pub mod table;
+pub mod tree;

@@ -1,6 +1,8 @@
 //! Parity tables, written from the sections "Layers", "Parity table", "House
 //! table" and "What stops a call" of 01.
 
+use crate::stop::Stop;
+
 /// The largest depth.
 pub const MAX_DEPTH: u64 = 5;
 
@@ -12,18 +14,6 @@ pub const MEMBER: u32 = 0b00;
 pub const LAYER: u32 = 0b01;
 pub const EQUATION: u32 = 0b10;
 pub const END: u32 = 0b11;
-
-/// What a table stops a call with: the numbers of "What stops a call".
-#[derive(Clone, Copy, Debug, PartialEq, Eq)]
-pub enum Stop {
-    /// 1
-    Depth,
-    /// 2
-    Length,
-    /// 3, with the first wrong word, or the number of words of a list that is
-    /// short.
-    Word(usize),
-}
 
 /// A word of a kind and a value of 30 bits.
 pub fn word(kind: u32, value: usize) -> u32 {
@@ -45,21 +35,34 @@ fn to_words(bytes: &[u8]) -> Vec<u32> {
     bytes.chunks_exact(4).map(|b| u32::from_be_bytes([b[0], b[1], b[2], b[3]])).collect()
 }
 
+/// The members of each equation of each layer.
+pub type Layers = Vec<Vec<Vec<usize>>>;
+
 /// Reads a table that comes as bytes.
 pub fn check_bytes(depth: u64, table: &[u8]) -> Result<(), Stop> {
     let layers = layers_of(depth)?;
-    if table.len() > MAX_BYTES || table.len() % 4 != 0 {
-        return Err(Stop::Length);
-    }
-    read(layers, &to_words(table))
+    byte_length(table)?;
+    read(layers, &to_words(table), |_, _| ())
 }
 
 /// Reads a table that comes as words.
 pub fn check_words(depth: u64, table: &[u32]) -> Result<(), Stop> {
-    read(layers_of(depth)?, table)
+    read(layers_of(depth)?, table, |_, _| ())
 }
 
-fn layers_of(depth: u64) -> Result<usize, Stop> {
+/// The equations of a table that comes as bytes.
+pub fn equations(depth: u64, table: &[u8]) -> Result<Layers, Stop> {
+    let layers = layers_of(depth)?;
+    byte_length(table)?;
+    let mut found = vec![Vec::new(); layers];
+    read(layers, &to_words(table), |layer, members| {
+        found[layer].push(members.iter().map(|&member| member as usize).collect());
+    })?;
+    Ok(found)
+}
+
+/// The layers of a depth.
+pub fn layers_of(depth: u64) -> Result<usize, Stop> {
     if (1..=MAX_DEPTH).contains(&depth) {
         Ok(depth as usize)
     } else {
@@ -67,14 +70,29 @@ fn layers_of(depth: u64) -> Result<usize, Stop> {
     }
 }
 
-fn read(layers: usize, words: &[u32]) -> Result<(), Stop> {
+/// The length of a table that comes as bytes.
+pub fn byte_length(table: &[u8]) -> Result<(), Stop> {
+    if table.len() > MAX_BYTES || table.len() % 4 != 0 {
+        return Err(Stop::Length);
+    }
+    Ok(())
+}
+
+/// Reads a table, and hands on the members of each equation with its layer.
+fn read(
+    layers: usize,
+    words: &[u32],
+    mut equation_of: impl FnMut(usize, &[u32]),
+) -> Result<(), Stop> {
     let mut reader = Reader { words, at: 0 };
     for layer in 0..layers {
         reader.opener(LAYER, layer)?;
         let k = data_symbols(layer);
         for equation in 0..3 * k {
             reader.opener(EQUATION, equation)?;
+            let first = reader.at;
             reader.members((k + equation) as u32)?;
+            equation_of(layer, &words[first..reader.at]);
         }
     }
     reader.opener(END, reader.at)?;
@@ -146,7 +164,7 @@ pub fn house_equation(k: usize, e: usize) -> Vec<usize> {
 
 /// The words of the house table of a depth.
 pub fn house(depth: usize) -> Vec<u32> {
-    let layers: Vec<Vec<Vec<usize>>> = (0..depth)
+    let layers: Layers = (0..depth)
         .map(|layer| {
             let k = data_symbols(layer);
             (0..3 * k).map(|e| house_equation(k, e)).collect()
@@ -192,6 +210,14 @@ mod tests {
             assert_eq!(check_words(depth as u64, &words), Ok(()));
             assert_eq!(check_bytes(depth as u64, &to_bytes(&words)), Ok(()));
         }
+    }
+
+    #[test]
+    fn equations_are_those_written() {
+        let words = house(3);
+        let layers = equations(3, &to_bytes(&words)).unwrap();
+        assert_eq!(layers[2][47], house_equation(16, 47));
+        assert_eq!(write(&layers), words);
     }
 
     #[test]

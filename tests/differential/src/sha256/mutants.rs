@@ -3,22 +3,8 @@
 
 use super::{compare, Comparisons, DIGEST, DONE, LONGEST, WRONG_LENGTH};
 use crate::difference::Difference;
-use cedunmi_sys::{Library, CEDUNMI};
-use std::{ptr, slice};
-
-/// What `cmt_sha256` must do, made from the reference.
-unsafe extern "C" fn right(m: *const u8, n: usize, d: *mut u8, dn: usize) -> u64 {
-    if n > LONGEST || dn != DIGEST {
-        return WRONG_LENGTH;
-    }
-    write_digest(m, n, d);
-    DONE
-}
-
-unsafe fn write_digest(m: *const u8, n: usize, d: *mut u8) {
-    let digest = reference::sha256::sha256(slice::from_raw_parts(m, n));
-    ptr::copy_nonoverlapping(digest.as_ptr(), d, DIGEST);
-}
+use crate::right::{sha256 as right, write_digest, RIGHT};
+use cedunmi_sys::Library;
 
 /// `right`, and then a change to the byte at a pointer, where the result is a hit.
 unsafe fn right_but(
@@ -35,8 +21,7 @@ unsafe fn right_but(
 
 #[test]
 fn right_passes() {
-    let made = compare(&Library { sha256: right, ..CEDUNMI })
-        .unwrap_or_else(|failure| panic!("{failure}"));
+    let made = compare(&RIGHT).unwrap_or_else(|failure| panic!("{failure}"));
     assert!(made > 5000);
 }
 
@@ -49,7 +34,7 @@ macro_rules! wrong {
                 $body
             }
             let failure =
-                compare(&Library { sha256: f, ..CEDUNMI }).expect_err("a wrong function passed");
+                compare(&Library { sha256: f, ..RIGHT }).expect_err("a wrong function passed");
             assert!(matches!(failure.difference, $difference), "{failure}");
         }
     };
@@ -164,6 +149,6 @@ fn system_tool_finds_a_wrong_digest() {
         right_but((m, n, d, dn), |r| r == DONE, d)
     }
     let failure =
-        Comparisons::of(&Library { sha256: f, ..CEDUNMI }).system_tool().expect_err("it passed");
+        Comparisons::of(&Library { sha256: f, ..RIGHT }).system_tool().expect_err("it passed");
     assert!(matches!(failure.difference, Difference::Inside { buffer: "digest", at: 0, .. }));
 }

@@ -1,42 +1,18 @@
 //! Functions that are wrong in one way each. The comparison must find every
 //! one of them.
 
-use super::{compare, number};
+use super::compare;
 use crate::difference::Difference;
-use cedunmi_sys::{HouseTable, Library, TableCheck, CEDUNMI};
-use reference::table::{self, check_bytes, Stop};
-use std::{ptr, slice};
-
-/// What `cmt_table_check` must do, made from the reference.
-unsafe extern "C" fn right_check(depth: u64, t: *const u8, n: usize) -> u64 {
-    number(check_bytes(depth, slice::from_raw_parts(t, n)))
-}
-
-/// What `cmt_house_table` must do, made from the reference.
-unsafe extern "C" fn right_house(depth: u64, t: *mut u8, n: usize) -> u64 {
-    house_by(depth, t, n, table::house)
-}
-
-unsafe fn house_by(depth: u64, t: *mut u8, n: usize, words: fn(usize) -> Vec<u32>) -> u64 {
-    if !(1..=table::MAX_DEPTH).contains(&depth) {
-        return 1;
-    }
-    let bytes = table::to_bytes(&words(depth as usize));
-    if bytes.len() != n {
-        return 2;
-    }
-    ptr::copy_nonoverlapping(bytes.as_ptr(), t, n);
-    0
-}
-
-fn library(table_check: TableCheck, house_table: HouseTable) -> Library {
-    Library { table_check, house_table, ..CEDUNMI }
-}
+use crate::results::number;
+use crate::right::{house_by, house_table as right_house, table_check as right_check, RIGHT};
+use cedunmi_sys::Library;
+use reference::stop::Stop;
+use reference::table::{self, check_bytes};
+use std::slice;
 
 #[test]
 fn right_passes() {
-    let made =
-        compare(&library(right_check, right_house)).unwrap_or_else(|failure| panic!("{failure}"));
+    let made = compare(&RIGHT).unwrap_or_else(|failure| panic!("{failure}"));
     assert!(made > 20_000);
 }
 
@@ -49,7 +25,8 @@ macro_rules! wrong_check {
                 let $bytes = slice::from_raw_parts(t, n);
                 number($body)
             }
-            let failure = compare(&library(f, right_house)).expect_err("a wrong check passed");
+            let failure =
+                compare(&Library { table_check: f, ..RIGHT }).expect_err("a wrong check passed");
             assert!(matches!(failure.difference, Difference::Result { .. }), "{failure}");
         }
     };
@@ -108,7 +85,7 @@ struct Rules {
     end: bool,
 }
 
-const RIGHT: Rules =
+const RULES: Rules =
     Rules { members: (2, 8), ascent: 1, above: 0, value: (1 << 30) - 1, end: true };
 
 /// Reads a table of depth 1 by these rules, another depth by 01's.
@@ -162,35 +139,35 @@ fn opener(rules: &Rules, words: &[u32], at: &mut usize, kind: u32, v: u32) -> Re
 #[test]
 fn right_rules_pass() {
     unsafe extern "C" fn f(depth: u64, t: *const u8, n: usize) -> u64 {
-        number(read_by(&RIGHT, depth, slice::from_raw_parts(t, n)))
+        number(read_by(&RULES, depth, slice::from_raw_parts(t, n)))
     }
-    compare(&library(f, right_house)).unwrap_or_else(|failure| panic!("{failure}"));
+    compare(&Library { table_check: f, ..RIGHT }).unwrap_or_else(|failure| panic!("{failure}"));
 }
 
 wrong_check!(nine_members, |depth, bytes| {
-    read_by(&Rules { members: (2, 9), ..RIGHT }, depth, bytes)
+    read_by(&Rules { members: (2, 9), ..RULES }, depth, bytes)
 });
 
 wrong_check!(seven_members, |depth, bytes| {
-    read_by(&Rules { members: (2, 7), ..RIGHT }, depth, bytes)
+    read_by(&Rules { members: (2, 7), ..RULES }, depth, bytes)
 });
 
 wrong_check!(one_member, |depth, bytes| {
-    read_by(&Rules { members: (1, 8), ..RIGHT }, depth, bytes)
+    read_by(&Rules { members: (1, 8), ..RULES }, depth, bytes)
 });
 
-wrong_check!(not_descending, |depth, bytes| read_by(&Rules { ascent: 0, ..RIGHT }, depth, bytes));
+wrong_check!(not_descending, |depth, bytes| read_by(&Rules { ascent: 0, ..RULES }, depth, bytes));
 
 wrong_check!(a_member_above_the_last, |depth, bytes| {
-    read_by(&Rules { above: 1, ..RIGHT }, depth, bytes)
+    read_by(&Rules { above: 1, ..RULES }, depth, bytes)
 });
 
 wrong_check!(a_value_of_29_bits, |depth, bytes| {
-    read_by(&Rules { value: (1 << 29) - 1, ..RIGHT }, depth, bytes)
+    read_by(&Rules { value: (1 << 29) - 1, ..RULES }, depth, bytes)
 });
 
 wrong_check!(end_value_free, |depth, bytes| {
-    read_by(&Rules { end: false, ..RIGHT }, depth, bytes)
+    read_by(&Rules { end: false, ..RULES }, depth, bytes)
 });
 
 #[test]
@@ -202,7 +179,7 @@ fn a_byte_of_the_table_is_written() {
         }
         result
     }
-    let failure = compare(&library(f, right_house)).expect_err("a wrong check passed");
+    let failure = compare(&Library { table_check: f, ..RIGHT }).expect_err("a wrong check passed");
     assert!(matches!(failure.difference, Difference::Inside { at: 0, .. }), "{failure}");
 }
 
@@ -217,7 +194,7 @@ fn house_table_of_another_formula() {
     unsafe extern "C" fn f(depth: u64, t: *mut u8, n: usize) -> u64 {
         house_by(depth, t, n, words)
     }
-    let failure = compare(&library(right_check, f)).expect_err("a wrong table passed");
+    let failure = compare(&Library { house_table: f, ..RIGHT }).expect_err("a wrong table passed");
     assert!(matches!(failure.difference, Difference::Inside { at: 95, .. }), "{failure}");
 }
 
@@ -229,6 +206,6 @@ fn house_table_in_a_longer_buffer() {
             other => other,
         }
     }
-    let failure = compare(&library(right_check, f)).expect_err("a wrong writer passed");
+    let failure = compare(&Library { house_table: f, ..RIGHT }).expect_err("a wrong writer passed");
     assert!(matches!(failure.difference, Difference::Result { .. }), "{failure}");
 }

@@ -1,0 +1,124 @@
+use super::*;
+use crate::table::{house, to_bytes};
+use crate::tree::{block_len, write};
+
+struct Written {
+    tree: Vec<u8>,
+    marks: Vec<u8>,
+    root: Vec<u8>,
+}
+
+/// A tree of the house table.
+fn written(depth: usize) -> Written {
+    let block: Vec<u8> = (0..block_len(depth)).map(|i| (i * i / 7 + i / 256) as u8).collect();
+    let (mut tree, mut marks) =
+        (vec![0; SYMBOL * tree_symbols(depth)], vec![0; tree_symbols(depth)]);
+    let mut root = vec![0; ROOT];
+    let table = to_bytes(&house(depth));
+    write(depth as u64, &table, &block, &mut tree, &mut marks, &mut root).unwrap();
+    Written { tree, marks, root }
+}
+
+fn sample_of(w: &Written, depth: usize, number: usize) -> Vec<u8> {
+    let mut sample = vec![0; sample_len(depth)];
+    take(depth as u64, number as u64, &w.tree, &w.marks, &mut sample).unwrap();
+    sample
+}
+
+#[test]
+fn members_of_a_sample() {
+    assert_eq!(members(1, 15), [(0, 15)]);
+    assert_eq!(members(2, 31), [(1, 31), (0, 3), (0, 4 + 7)]);
+    assert_eq!(members(3, 61), [(2, 61), (1, 5), (1, 8 + 13), (0, 1), (0, 4 + 1)]);
+}
+
+/// Each data symbol of a sample is the one that the hashes below stand in.
+#[test]
+fn members_stand_under_the_next_data_symbol() {
+    for depth in 1..=5 {
+        for number in 0..symbols(depth - 1) {
+            let members = members(depth, number);
+            for &(layer, symbol) in &members {
+                if let Committed::Above { symbol: above, .. } = committed(layer, symbol) {
+                    assert_eq!(members[data_index(depth, layer - 1)], (layer - 1, above));
+                }
+            }
+        }
+    }
+}
+
+#[test]
+fn samples_of_a_written_tree_pass() {
+    for depth in 1..=5 {
+        let w = written(depth);
+        for number in 0..symbols(depth - 1) {
+            let sample = sample_of(&w, depth, number);
+            assert_eq!(check(depth as u64, number as u64, &w.root, &sample), Ok(()));
+        }
+    }
+}
+
+/// Any byte of any symbol: a hash from below, the hash beside it, or another.
+#[test]
+fn a_damaged_sample_is_refused() {
+    for depth in 1..=5 {
+        let w = written(depth);
+        let number = symbols(depth - 1) - 3;
+        let sample = sample_of(&w, depth, number);
+        for at in 0..sample.len() {
+            let mut damaged = sample.clone();
+            damaged[at] ^= 1 << (at % 8);
+            let result = check(depth as u64, number as u64, &w.root, &damaged);
+            assert_eq!(result, Err(Stop::Hash));
+        }
+    }
+}
+
+/// Of the root only the hashes of the sample's symbols in layer 0 count.
+#[test]
+fn a_damaged_root() {
+    let w = written(2);
+    let sample = sample_of(&w, 2, 31);
+    for at in 0..ROOT {
+        let mut damaged = w.root.clone();
+        damaged[at] ^= 0x10;
+        let counts = at / HASH == 3 || at / HASH == 11;
+        let expected = if counts { Err(Stop::Hash) } else { Ok(()) };
+        assert_eq!(check(2, 31, &damaged, &sample), expected);
+    }
+}
+
+#[test]
+fn tests_of_the_sampler_in_their_order() {
+    let w = written(2);
+    let mut sample = vec![9; sample_len(2)];
+    let mut take_of =
+        |depth, number, marks: &[u8]| take(depth, number, &w.tree, marks, &mut sample);
+    let mut marks = w.marks.clone();
+    marks[place(0, 11)] = 0;
+    assert_eq!(take_of(2, 31, &marks), Err(Stop::Absent(2)));
+    assert_eq!(take_of(2, 30, &marks), Ok(()));
+    marks[place(0, 3)] = 0;
+    assert_eq!(take_of(2, 31, &marks), Err(Stop::Absent(1)));
+    marks[place(1, 31)] = 0;
+    assert_eq!(take_of(2, 31, &marks), Err(Stop::Absent(0)));
+    assert_eq!(take_of(2, 32, &marks), Err(Stop::Number));
+    assert_eq!(take_of(2, 1 << 32 | 1, &marks), Err(Stop::Number));
+    marks[47] = 2;
+    assert_eq!(take_of(2, 32, &marks), Err(Stop::Mark(47)));
+    assert_eq!(take_of(2, 32, &marks[1..]), Err(Stop::Length));
+    assert_eq!(take_of(6, 32, &marks[1..]), Err(Stop::Depth));
+}
+
+#[test]
+fn tests_of_the_check_in_their_order() {
+    let w = written(2);
+    let mut sample = sample_of(&w, 2, 31);
+    sample[0] ^= 1;
+    assert_eq!(check(2, 31, &w.root, &sample), Err(Stop::Hash));
+    assert_eq!(check(2, 32, &w.root, &sample), Err(Stop::Number));
+    assert_eq!(check(2, 1 << 32 | 31, &w.root, &sample), Err(Stop::Number));
+    assert_eq!(check(2, 32, &w.root[1..], &sample), Err(Stop::Length));
+    assert_eq!(check(2, 32, &w.root, &sample[1..]), Err(Stop::Length));
+    assert_eq!(check(0, 32, &w.root, &sample[1..]), Err(Stop::Depth));
+}

@@ -1,0 +1,163 @@
+//! The coded Merkle tree, written from the sections "Layers", "Parity table"
+//! and "What stops a call" of 01.
+
+use crate::sha256::sha256;
+use crate::stop::Stop;
+use crate::table::{self, byte_length, data_symbols, layers_of};
+
+/// The bytes of a symbol, of a hash and of a root.
+pub const SYMBOL: usize = 256;
+pub const HASH: usize = 32;
+pub const ROOT: usize = 512;
+
+type Symbol = [u8; SYMBOL];
+
+/// The symbols of a layer.
+pub fn symbols(layer: usize) -> usize {
+    4 * data_symbols(layer)
+}
+
+/// The symbols of a tree.
+pub fn tree_symbols(depth: usize) -> usize {
+    16 * ((1 << depth) - 1)
+}
+
+/// The place of a symbol: its index in the tree and in the marks.
+pub fn place(layer: usize, symbol: usize) -> usize {
+    tree_symbols(layer) + symbol
+}
+
+/// The bytes of a tree, or of a sample, that hold the symbol of an index.
+pub fn symbol_at(bytes: &[u8], index: usize) -> &[u8] {
+    &bytes[SYMBOL * index..SYMBOL * (index + 1)]
+}
+
+/// The bytes of the block of a depth.
+pub fn block_len(depth: usize) -> usize {
+    SYMBOL * data_symbols(depth - 1)
+}
+
+/// Where the hash of a symbol stands.
+#[derive(Debug, PartialEq, Eq)]
+pub enum Committed {
+    /// In the root, from this byte on.
+    Root { at: usize },
+    /// In this data symbol of the layer above, from this byte on.
+    Above { symbol: usize, at: usize },
+}
+
+/// Where the hash of a symbol of a layer stands.
+pub fn committed(layer: usize, symbol: usize) -> Committed {
+    if layer == 0 {
+        return Committed::Root { at: HASH * symbol };
+    }
+    let s = symbols(layer) / 8;
+    Committed::Above { symbol: symbol % s, at: HASH * (symbol / s) }
+}
+
+/// Codes a block: fills the tree, its marks and its root.
+pub fn write(
+    depth: u64,
+    table: &[u8],
+    block: &[u8],
+    tree: &mut [u8],
+    marks: &mut [u8],
+    root: &mut [u8],
+) -> Result<(), Stop> {
+    let layers = layers_of(depth)?;
+    byte_length(table)?;
+    exactly(block.len(), block_len(layers))?;
+    exactly(tree.len(), SYMBOL * tree_symbols(layers))?;
+    exactly(marks.len(), tree_symbols(layers))?;
+    exactly(root.len(), ROOT)?;
+    let equations = table::equations(depth, table)?;
+
+    let mut data: Vec<Symbol> = block.chunks(SYMBOL).map(symbol_of).collect();
+    for layer in (0..layers).rev() {
+        let coded = code(&data, &equations[layer]);
+        let start = SYMBOL * place(layer, 0);
+        tree[start..start + SYMBOL * coded.len()].copy_from_slice(&coded.concat());
+        if layer > 0 {
+            data = hashes_above(layer, &coded);
+        } else {
+            root.copy_from_slice(&hashes(&coded));
+        }
+    }
+    marks.fill(1);
+    Ok(())
+}
+
+/// Copies the block out of a tree.
+pub fn read_block(depth: u64, tree: &[u8], marks: &[u8], block: &mut [u8]) -> Result<(), Stop> {
+    let layers = layers_of(depth)?;
+    exactly(tree.len(), SYMBOL * tree_symbols(layers))?;
+    exactly(marks.len(), tree_symbols(layers))?;
+    exactly(block.len(), block_len(layers))?;
+    marks_in_form(marks)?;
+    let base = layers - 1;
+    if let Some(absent) = (0..data_symbols(base)).find(|&i| marks[place(base, i)] == 0) {
+        return Err(Stop::Absent(absent));
+    }
+    for (i, data) in block.chunks_mut(SYMBOL).enumerate() {
+        data.copy_from_slice(symbol_at(tree, place(base, i)));
+    }
+    Ok(())
+}
+
+/// A length is the one that it must be.
+pub fn exactly(len: usize, right: usize) -> Result<(), Stop> {
+    if len == right {
+        Ok(())
+    } else {
+        Err(Stop::Length)
+    }
+}
+
+/// Every mark is 0 or 1.
+pub fn marks_in_form(marks: &[u8]) -> Result<(), Stop> {
+    match marks.iter().position(|&mark| mark > 1) {
+        Some(lowest) => Err(Stop::Mark(lowest)),
+        None => Ok(()),
+    }
+}
+
+fn symbol_of(bytes: &[u8]) -> Symbol {
+    let mut symbol = [0; SYMBOL];
+    symbol.copy_from_slice(bytes);
+    symbol
+}
+
+/// The symbols of a layer: its data, and the parity that makes each equation
+/// hold. The last member of an equation is the one that it gives.
+fn code(data: &[Symbol], equations: &[Vec<usize>]) -> Vec<Symbol> {
+    let mut coded = data.to_vec();
+    for members in equations {
+        let mut parity = [0; SYMBOL];
+        for &member in &members[..members.len() - 1] {
+            for (byte, other) in parity.iter_mut().zip(coded[member]) {
+                *byte ^= other;
+            }
+        }
+        coded.push(parity);
+    }
+    coded
+}
+
+/// The hashes of symbols, in order.
+fn hashes(coded: &[Symbol]) -> Vec<u8> {
+    coded.iter().flat_map(|symbol| sha256(symbol)).collect()
+}
+
+/// The data symbols above a layer: the hashes of its symbols.
+fn hashes_above(layer: usize, coded: &[Symbol]) -> Vec<Symbol> {
+    let mut above = vec![[0; SYMBOL]; data_symbols(layer - 1)];
+    for (i, bytes) in coded.iter().enumerate() {
+        if let Committed::Above { symbol, at } = committed(layer, i) {
+            above[symbol][at..at + HASH].copy_from_slice(&sha256(bytes));
+        }
+    }
+    above
+}
+
+#[cfg(test)]
+mod tests;

@@ -1,0 +1,196 @@
+use super::*;
+use crate::table::{house, house_equation, to_bytes, write as write_table};
+
+/// A written tree with the buffers that hold it.
+struct Written {
+    tree: Vec<u8>,
+    marks: Vec<u8>,
+    root: Vec<u8>,
+}
+
+/// Buffers of the right lengths, of other bytes.
+fn lent(depth: usize) -> Written {
+    let tree = vec![0xaa; SYMBOL * tree_symbols(depth)];
+    Written { tree, marks: vec![0xbb; tree_symbols(depth)], root: vec![0xcc; ROOT] }
+}
+
+fn written(depth: usize, words: &[u32], block: &[u8]) -> Written {
+    let mut w = lent(depth);
+    let table = to_bytes(words);
+    write(depth as u64, &table, block, &mut w.tree, &mut w.marks, &mut w.root).unwrap();
+    w
+}
+
+fn block_of(depth: usize) -> Vec<u8> {
+    (0..block_len(depth)).map(|i| (i * i / 7 + i / 256) as u8).collect()
+}
+
+/// The block of 01's cases.
+fn cases_block() -> Vec<u8> {
+    [1, 2, 4, 8].iter().flat_map(|&byte| [byte; SYMBOL]).collect()
+}
+
+/// Case 3.
+#[test]
+fn symbols_of_the_cases_tree() {
+    let w = written(1, &house(1), &cases_block());
+    for (symbol, byte) in [(5, 0x05), (7, 0x00), (9, 0x0f)] {
+        assert_eq!(symbol_at(&w.tree, symbol), [byte; SYMBOL]);
+    }
+}
+
+/// Case 8.
+#[test]
+fn depths() {
+    for depth in [0, 6, 1 << 32 | 1, u64::MAX] {
+        let mut w = lent(1);
+        let table = to_bytes(&house(1));
+        let stop = write(depth, &table, &cases_block(), &mut w.tree, &mut w.marks, &mut w.root);
+        assert_eq!(stop, Err(Stop::Depth));
+        assert_eq!(read_block(depth, &w.tree, &w.marks, &mut [0; 3]), Err(Stop::Depth));
+    }
+    assert_eq!(tree_symbols(5), 496);
+}
+
+/// Case 10.
+#[test]
+fn place_of_a_hash() {
+    assert_eq!(committed(1, 31), Committed::Above { symbol: 3, at: 224 });
+    assert_eq!(committed(0, 15), Committed::Root { at: 480 });
+    let w = written(2, &house(2), &block_of(2));
+    let hash = sha256(symbol_at(&w.tree, place(1, 31)));
+    assert_eq!(symbol_at(&w.tree, 3)[224..], hash);
+}
+
+/// What the program `listing` prints.
+#[test]
+fn listing() {
+    let w = written(1, &house(1), &cases_block());
+    let mut lines = vec![format!("tree 1 {}", w.marks.len())];
+    for number in 0..w.marks.len() {
+        lines.push(format!("{number} {:02X}", symbol_at(&w.tree, number)[0]));
+    }
+    let expected = "tree 1 16,0 01,1 02,2 04,3 08,4 03,5 05,6 09,7 00,8 05,9 0F,10 0A,11 00,\
+        12 09,13 0A,14 0C,15 00";
+    assert_eq!(lines.join(","), expected);
+}
+
+/// Every equation holds, every hash stands in its place, and the block comes
+/// back.
+#[test]
+fn written_trees_are_correctly_coded() {
+    for depth in 1..=5 {
+        let words = house(depth);
+        let block = block_of(depth);
+        let w = written(depth, &words, &block);
+        let layers = table::equations(depth as u64, &to_bytes(&words)).unwrap();
+        for (layer, equations) in layers.iter().enumerate() {
+            for members in equations {
+                for byte in 0..SYMBOL {
+                    let sum = members.iter().fold(0, |sum, &member| {
+                        sum ^ symbol_at(&w.tree, place(layer, member))[byte]
+                    });
+                    assert_eq!(sum, 0);
+                }
+            }
+            for symbol in 0..symbols(layer) {
+                let hash = sha256(symbol_at(&w.tree, place(layer, symbol)));
+                assert_eq!(hash, committed_hash(&w, layer, symbol));
+            }
+        }
+        assert!(w.marks.iter().all(|&mark| mark == 1));
+        let mut back = vec![0; block.len()];
+        read_block(depth as u64, &w.tree, &w.marks, &mut back).unwrap();
+        assert_eq!(back, block);
+    }
+}
+
+/// The SHA-256 of the root of each depth with the house table, by Python's
+/// hashlib.
+#[test]
+fn roots_by_another_implementation() {
+    let expected = [
+        "4f044b39f38e51aff4cb1f79aaf46753d9f8689c2e6be1fa0071a1f33f2d5a23",
+        "88f5d1b10b77f9da6a5a704f5e463fc71a89f45c17893af049c5a998bde768ac",
+        "de16359339f52c0279d13e0859a67b66636d6a1075f851d6b834cd5cfeaf1df0",
+        "314798f148451ac47457477bb5f61558a88d9380ad8fdf1044185c286dd1dc88",
+        "5c684b01529fc751539c8f79657adbbb56293f6c1d99d4d3d834e47e291b3f70",
+    ];
+    for (depth, expected) in (1..=5).zip(expected) {
+        let w = written(depth, &house(depth), &block_of(depth));
+        let digest: String = sha256(&w.root).iter().map(|byte| format!("{byte:02x}")).collect();
+        assert_eq!(digest, expected);
+    }
+}
+
+fn committed_hash(w: &Written, layer: usize, symbol: usize) -> &[u8] {
+    match committed(layer, symbol) {
+        Committed::Root { at } => &w.root[at..at + HASH],
+        Committed::Above { symbol, at } => {
+            &symbol_at(&w.tree, place(layer - 1, symbol))[at..at + HASH]
+        }
+    }
+}
+
+/// Another table gives another tree.
+#[test]
+fn the_table_decides_the_parity() {
+    let mut layers = vec![(0..12).map(|e| house_equation(4, e)).collect::<Vec<_>>()];
+    layers[0][0] = vec![2, 4];
+    let w = written(1, &write_table(&layers), &cases_block());
+    assert_eq!(symbol_at(&w.tree, 4), [4; SYMBOL]);
+    assert_eq!(symbol_at(&w.tree, 5), [2; SYMBOL]);
+}
+
+/// What the writer stops with for these lengths of table, block, tree, marks
+/// and root at depth 1. A table of another length is no table.
+fn stop_of(depth: u64, lens: [usize; 5]) -> Option<Stop> {
+    let mut table = to_bytes(&house(1));
+    table.resize(lens[0], 0);
+    let mut tree = vec![1; lens[2]];
+    let mut marks = vec![2; lens[3]];
+    let mut root = vec![3; lens[4]];
+    let result = write(depth, &table, &vec![0; lens[1]], &mut tree, &mut marks, &mut root);
+    if result.is_err() {
+        let kept = tree.iter().all(|&b| b == 1) && marks.iter().all(|&b| b == 2);
+        assert!(kept && root.iter().all(|&b| b == 3));
+    }
+    result.err()
+}
+
+#[test]
+fn tests_of_the_writer_in_their_order() {
+    let right = [244, 1024, 4096, 16, 512];
+    assert_eq!(stop_of(1, right), None);
+    for buffer in 0..5 {
+        let mut lens = right;
+        lens[buffer] += 1;
+        assert_eq!(stop_of(1, lens), Some(Stop::Length));
+        assert_eq!(stop_of(6, lens), Some(Stop::Depth));
+        lens[0] = 248;
+        let last = if buffer == 0 { Stop::Word(61) } else { Stop::Length };
+        assert_eq!(stop_of(1, lens), Some(last));
+    }
+    assert_eq!(stop_of(1, [0, 1024, 4096, 16, 512]), Some(Stop::Word(0)));
+}
+
+#[test]
+fn tests_of_reading_back_in_their_order() {
+    let w = written(2, &house(2), &block_of(2));
+    let mut block = vec![7; block_len(2)];
+    let mut read = |marks: &[u8]| read_block(2, &w.tree, marks, &mut block);
+    let mut marks = w.marks.clone();
+    marks[place(1, 8)] = 0;
+    marks[place(0, 3)] = 0;
+    assert_eq!(read(&marks), Ok(()));
+    marks[place(1, 7)] = 0;
+    marks[place(1, 2)] = 0;
+    assert_eq!(read(&marks), Err(Stop::Absent(2)));
+    marks[place(1, 31)] = 255;
+    assert_eq!(read(&marks), Err(Stop::Mark(47)));
+    marks[5] = 2;
+    assert_eq!(read(&marks), Err(Stop::Mark(5)));
+    assert_eq!(read(&marks[1..]), Err(Stop::Length));
+    assert_eq!(read_block(2, &w.tree, &marks, &mut [0; 2047]), Err(Stop::Length));
+    assert_eq!(read_block(2, &w.tree[1..], &marks, &mut [0; 2048]), Err(Stop::Length));
+}
