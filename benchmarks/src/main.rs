@@ -4,16 +4,18 @@
 //!     benchmarks time TRIALS NAME..     prints NAME, LENGTH and the fewest nanoseconds a message
 //!     benchmarks work NAME LENGTH N     hashes N messages and prints nothing
 //!     benchmarks table TRIALS           prints NAME, WORDS and the fewest nanoseconds to read a table
+//!     benchmarks tree TRIALS            prints NAME, DEPTH, BYTES and the fewest nanoseconds to write a tree
 
 mod clock;
 mod openssl;
 mod sha256;
 mod table;
 mod timing;
+mod tree;
 
 use std::process::ExitCode;
 
-const USAGE: &str = "usage: check | time TRIALS NAME.. | work NAME LENGTH N | table TRIALS";
+const USAGE: &str = "usage: check | time TRIALS NAME.. | work NAME LENGTH N | table TRIALS | tree TRIALS";
 
 fn main() -> ExitCode {
     let words: Vec<String> = std::env::args().skip(1).collect();
@@ -33,6 +35,7 @@ fn run(words: &[&str]) -> Result<(), String> {
         ["time", trials, names @ ..] => timing::time(number(trials)?, &hashers(names)?),
         ["work", name, len, times] => timing::work(hasher(name)?, number(len)?, number(times)?),
         ["table", trials] => table::time(number(trials)?),
+        ["tree", trials] => tree::time(number(trials)?),
         _ => Err(USAGE.to_string()),
     }
 }
