@@ -29,9 +29,14 @@ fn list(block: &[u8]) {
     let mut marks = [0u8; 16];
     let mut root = [0u8; 512];
     parity_table::house::write_bytes(&mut table, 1);
-    if let cedunmi::Answer::Done =
-        cedunmi::volume::write_tree(1, &table, block, &mut tree, &mut marks, &mut root)
-    {
+    if let cedunmi::Answer::Done = cedunmi::volume::write_tree(
+        1,
+        &table,
+        block,
+        &mut tree,
+        &mut marks,
+        &mut root,
+    ) {
         print_tree(&tree);
     }
 }
