@@ -29,8 +29,33 @@ pub fn depths_to_ask(made_for: usize) -> Vec<u64> {
     (0..=7).chain(large(made_for)).chain([u64::MAX]).collect()
 }
 
+/// Gives a random symbol a mark that is none.
+pub fn spoil_mark(marks: &mut [u8], random: &mut Random) {
+    let at = random.below(marks.len());
+    marks[at] = BAD_MARKS[random.below(BAD_MARKS.len())];
+}
+
+/// Copies of an input, in each of which one buffer has another length, those
+/// of `more` among them.
+pub fn with_other_lengths<I: Clone, const N: usize>(
+    right: &I,
+    buffers: impl Fn(&mut I) -> [&mut Vec<u8>; N],
+    more: &[usize],
+) -> Vec<I> {
+    let mut inputs = Vec::new();
+    for buffer in 0..N {
+        let len = buffers(&mut right.clone())[buffer].len();
+        for other in other_lengths(len).into_iter().chain(more.iter().copied()) {
+            let mut input = right.clone();
+            buffers(&mut input)[buffer].resize(other, 1);
+            inputs.push(input);
+        }
+    }
+    inputs
+}
+
 /// Other lengths than a buffer has: by one, by a symbol, far shorter, longer.
-pub fn other_lengths(len: usize) -> Vec<usize> {
+fn other_lengths(len: usize) -> Vec<usize> {
     let lengths = [len.wrapping_sub(1), len + 1, len.wrapping_sub(SYMBOL), len + SYMBOL];
     let mut lengths: Vec<usize> = lengths.into_iter().filter(|&l| l < 1 << 30).collect();
     lengths.extend([0, 2 * len + 4]);

@@ -3,8 +3,8 @@
 
 use super::{base_symbols, wrong_numbers};
 use crate::difference::Failure;
-use crate::inputs::{by_one, depths_to_ask, large, lend, other_lengths, Buffer, Coded};
-use crate::inputs::{DEPTHS, MADE_FOR};
+use crate::inputs::{by_one, depths_to_ask, large, lend, Buffer, Coded};
+use crate::inputs::{with_other_lengths, DEPTHS, MADE_FOR};
 use crate::random::Random;
 use crate::results::number;
 use crate::tables::lists::random_table;
@@ -217,13 +217,8 @@ impl Comparisons {
     fn lengths(&mut self) -> Result<(), Failure> {
         for depth in DEPTHS {
             let right = Input::new(depth, &mut self.random);
-            for buffer in 0..2 {
-                let len = right.clone().buffers()[buffer].len();
-                for other in other_lengths(len) {
-                    let mut input = right.clone();
-                    input.buffers()[buffer].resize(other, 1);
-                    self.make("a length", &input)?;
-                }
+            for input in with_other_lengths(&right, Input::buffers, &[]) {
+                self.make("a length", &input)?;
             }
         }
         Ok(())

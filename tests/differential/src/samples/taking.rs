@@ -2,8 +2,8 @@
 
 use super::{base_symbols, wrong_numbers};
 use crate::difference::Failure;
-use crate::inputs::{by_one, depths_to_ask, large, lend, other_lengths, Buffer, Coded};
-use crate::inputs::{BAD_MARKS, DEPTHS, MADE_FOR};
+use crate::inputs::{by_one, depths_to_ask, large, lend, Buffer, Coded};
+use crate::inputs::{spoil_mark, with_other_lengths, BAD_MARKS, DEPTHS, MADE_FOR};
 use crate::random::Random;
 use crate::results::number;
 use crate::tables::lists::random_table;
@@ -130,8 +130,7 @@ impl Comparisons {
                 input.marks.fill_with(|| self.random.below(8).min(1) as u8);
                 self.make("random marks", &input)?;
                 for _ in 0..1 + turn % 3 {
-                    let at = self.random.below(input.marks.len());
-                    input.marks[at] = BAD_MARKS[self.random.below(BAD_MARKS.len())];
+                    spoil_mark(&mut input.marks, &mut self.random);
                 }
                 self.make("some bad marks", &input)?;
             }
@@ -168,13 +167,8 @@ impl Comparisons {
     fn lengths(&mut self) -> Result<(), Failure> {
         for depth in DEPTHS {
             let right = Input::new(depth, &mut self.random);
-            for buffer in 0..3 {
-                let len = right.clone().buffers()[buffer].len();
-                for other in other_lengths(len) {
-                    let mut input = right.clone();
-                    input.buffers()[buffer].resize(other, 1);
-                    self.make("a length", &input)?;
-                }
+            for input in with_other_lengths(&right, Input::buffers, &[]) {
+                self.make("a length", &input)?;
             }
         }
         Ok(())
@@ -197,8 +191,7 @@ impl Comparisons {
                     input.number = numbers[self.random.below(numbers.len())];
                 }
                 if has(4) {
-                    let at = self.random.below(input.marks.len());
-                    input.marks[at] = BAD_MARKS[self.random.below(BAD_MARKS.len())];
+                    spoil_mark(&mut input.marks, &mut self.random);
                 }
                 for buffer in (0..3).filter(|&buffer| has(buffer)) {
                     by_one(input.buffers()[buffer], &mut self.random);

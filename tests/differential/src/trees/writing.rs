@@ -1,8 +1,8 @@
 //! `cmt_tree_write`: blocks and tables, and each way to be refused.
 
 use crate::difference::Failure;
-use crate::inputs::{block_len, by_one, depths_to_ask, large, lend, other_lengths, Buffer};
-use crate::inputs::{BAD_MARKS, DEPTHS, MADE_FOR};
+use crate::inputs::{block_len, by_one, depths_to_ask, large, lend, Buffer};
+use crate::inputs::{with_other_lengths, BAD_MARKS, DEPTHS, MADE_FOR};
 use crate::messages::{Content, CONTENTS};
 use crate::random::Random;
 use crate::results::number;
@@ -111,13 +111,8 @@ impl Comparisons {
     fn lengths(&mut self) -> Result<(), Failure> {
         for depth in DEPTHS {
             let right = Input::new(depth, &house(depth), Content::Random, &mut self.random);
-            for buffer in 0..5 {
-                let len = right.clone().buffers()[buffer].len();
-                for other in other_lengths(len).into_iter().chain([16_384, 16_385, 16_388]) {
-                    let mut input = right.clone();
-                    input.buffers()[buffer].resize(other, 1);
-                    self.make("a length", &input)?;
-                }
+            for input in with_other_lengths(&right, Input::buffers, &[16_384, 16_385, 16_388]) {
+                self.make("a length", &input)?;
             }
         }
         Ok(())
