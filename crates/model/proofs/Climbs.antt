@@ -1,11 +1,12 @@
--- What the answer of a climb says, and when it is that the way leads to the root.
-use mathlib.Core.Path.{_≡_, refl, ap, _∙_}
-use mathlib.Core.Bool.{Bool, true}
-use Prim.Native.Nat.{ℕ, zero, suc, _+_, _≤_, _<_}
+-- What the answer of a climb says, when it is that the way leads to the root, and the climb symbol by symbol, as a loop meets it.
+use mathlib.Core.Path.{_≡_, refl, sym, ap, _∙_}
+use mathlib.Core.Bool.{Bool, true, false}
+use Prim.Native.Nat.{ℕ, zero, suc, _+_, _-_, _≤_, _<_}
+use native.Mathlib.Numerals.{add-one}
 use native.Mathlib.Omega.{arith}
 use lib.Dec.{eqb}
 use borrow.Author.Tests.{eqb-true, eqb-false}
-use Rattle.octets.proofs.Choice.{by-test, pick-yes, pick-ind}
+use Rattle.octets.proofs.Choice.{by-test, pick-yes, pick-no, pick-ind}
 use Rattle.model.specs.Climb.{Climb, leads, breaks, climb, Says}
 
 module _ (fits : ℕ → Bool) (layer : ℕ → ℕ) where
@@ -34,3 +35,24 @@ module _ (fits : ℕ → Bool) (layer : ℕ → ℕ) where
   unfolding climb
   climb-leads zero x h = refl
   climb-leads (suc m) x h = pick-yes (fits x) _ _ (h x (omega arith) (omega arith)) ∙ climb-leads m (suc x) (λ y a b. h y (omega arith) (omega arith))
+
+-- ---- from symbol x on, with e symbols in all
+
+module _ (fits : ℕ → Bool) (layer : ℕ → ℕ) (e x : ℕ) where
+  pub climb-next : x < e → fits x ≡ true → climb fits layer (x + 1) (e - (x + 1)) ≡ climb fits layer x (e - x)
+  unfolding climb
+  climb-next h t =
+      let n : e - x ≡ suc (e - (x + 1)) = omega arith in
+      sym
+      (ap (climb fits layer x) n ∙ pick-yes (fits x) (climb fits layer (suc x) (e - (x + 1))) (breaks (layer x)) t
+      ∙ ap (λ (y : ℕ). climb fits layer y (e - (x + 1))) (sym (add-one x)))
+
+  pub climb-breaks : x < e → fits x ≡ false → climb fits layer x (e - x) ≡ breaks (layer x)
+  unfolding climb
+  climb-breaks h t =
+      let n : e - x ≡ suc (e - (x + 1)) = omega arith in
+      ap (climb fits layer x) n ∙ pick-no (fits x) (climb fits layer (suc x) (e - (x + 1))) (breaks (layer x)) t
+
+  pub climb-ends : e ≤ x → climb fits layer x (e - x) ≡ leads
+  unfolding climb
+  climb-ends h = let n : e - x ≡ 0 = omega arith in ap (climb fits layer x) n

@@ -1,11 +1,12 @@
 -- Laws of tests over an equation's members: counts, the first that passes, the lowest number that passes.
 use mathlib.Core.Path.{_≡_, refl, sym, ap, ap₂, _∙_, subst}
-use mathlib.Core.Logic.{_⊎_, inl, inr, _≢_}
+use mathlib.Core.Logic.{_⊎_, inl, inr}
 use mathlib.Core.Bool.{Bool, true, false, not, _&&_, false≢true}
 use mathlib.Core.List.{List, [], _∷_}
-use Prim.Native.Nat.{ℕ, zero, suc, _+_, _≤_, _<_}
+use Prim.Native.Nat.{ℕ, zero, suc, _+_, _-_, _≤_, _<_}
 use native.Mathlib.Omega.{arith}
-use lib.ListN.{length}
+use native.Mathlib.Numerals.{add-one}
+use lib.ListN.{length, getD, drop, drop-of-length-le}
 use lib.Dec.{ltb, eqb}
 use borrow.Author.Tests.{ltb-true, eqb-true, eqb-false, eq-eqb, ne-eqb}
 use Rattle.parity_table.specs.Members.{every, ascending, lastOf}
@@ -13,6 +14,7 @@ use Rattle.octets.proofs.Choice.{by-test, pick-yes, pick-no, pick-ind, and-yes,
 use Rattle.octets.specs.ByteLists.{xors}
 use Rattle.model.specs.Symbols.{xorOf, others, bit, count, firstOf, lowest}
 use Rattle.model.proofs.Bytes.{xors-left-comm}
+use Rattle.model.proofs.Members.{from-here}
 
 pub and-no : (a b : Bool) → (a && b) ≡ false → (a ≡ false) ⊎ (b ≡ false)
 and-no true b t = inr t
@@ -213,3 +215,30 @@ lowest-is p i (suc f) =
       found = λ h. r .found (omega arith);
       before = λ m a b. by-test (eqb m i) (λ u. ap p (eqb-true m i u) ∙ t) (λ u. r .before m (omega (arith, eqb-false m i u)) b);
     })
+
+-- ---- from element i on, as a loop meets them
+
+module _ (p : ℕ → Bool) (xs : List ℕ) (i : ℕ) where
+  pub count-drop : i < length xs → count p (drop i xs) ≡ bit (p (getD xs i 0)) + count p (drop (i + 1) xs)
+  unfolding count
+  count-drop h = ap (count p) (from-here xs i h)
+
+  pub count-end : length xs ≤ i → count p (drop i xs) ≡ 0
+  unfolding count
+  count-end h = ap (count p) (drop-of-length-le xs h)
+
+-- the search from number i on, one turn of a loop: it comes to v
+module _ (p : ℕ → Bool) (n i v : ℕ) (e : lowest p i (n - i) ≡ v) where
+  pub lowest-hit : i < n → p i ≡ true → i ≡ v
+  unfolding lowest
+  lowest-hit h t = let k : n - i ≡ suc (n - (i + 1)) = omega arith in sym (ap (lowest p i) k ∙ pick-yes (p i) _ _ t) ∙ e
+
+  pub lowest-pass : i < n → p i ≡ false → lowest p (i + 1) (n - (i + 1)) ≡ v
+  unfolding lowest
+  lowest-pass h t =
+      let k : n - i ≡ suc (n - (i + 1)) = omega arith in
+      sym (ap (lowest p i) k ∙ pick-no (p i) _ _ t ∙ ap (λ (m : ℕ). lowest p m (n - (i + 1))) (sym (add-one i))) ∙ e
+
+  pub lowest-none : i ≡ n → n ≡ v
+  unfolding lowest
+  lowest-none h = let k : n - i ≡ 0 = omega arith in sym h ∙ sym (ap (lowest p i) k) ∙ e

@@ -81,6 +81,17 @@ unfolding tally
 tally-cong p q zero h = refl
 tally-cong p q (suc n) h = ap₂ (λ (a : Bool) (b : ℕ). bit a + b) (h n (omega arith)) (tally-cong p q n (λ i k. h i (omega arith)))
 
+-- a tally is at most the numbers that it goes through
+tally-le : (p : ℕ → Bool) (n : ℕ) → tally p n ≤ n
+unfolding tally
+tally-le p zero = omega arith
+tally-le p (suc n) = by-test (p n) (λ t. omega (arith, ap bit t, tally-le p n)) (λ t. omega (arith, ap bit t, tally-le p n))
+
+pub filled-le : (S : Shape) (H : ℕ → ℕ → List ℕ → List ℕ) (root t₀ m₀ t m : List ℕ) (d : ℕ) → filled S H root t₀ m₀ t m d ≤ places S d
+unfolding filled filledIn places
+filled-le S H root t₀ m₀ t m zero = omega arith
+filled-le S H root t₀ m₀ t m (suc d) = omega (arith, filled-le S H root t₀ m₀ t m d, tally-le (λ i. gapAt S H root t₀ m₀ t d i && not (absentAt S m d i)) (S .n d))
+
 pub tally-none : (p : ℕ → Bool) (n : ℕ) → ((i : ℕ) → i < n → p i ≡ false) → tally p n ≡ 0
 unfolding tally
 tally-none p zero h = refl

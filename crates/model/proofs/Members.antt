@@ -1,10 +1,12 @@
--- Laws of an equation's members.
+-- Laws of an equation's members, and the members other than one as a loop meets them.
 use mathlib.Core.Path.{_≡_, refl, sym, ap, ap₂, _∙_}
 use mathlib.Core.Bool.{Bool, true}
 use mathlib.Core.List.{List, [], _∷_, _++_}
-use Prim.Native.Nat.{ℕ, _≤_, _<_}
+use Prim.Native.Nat.{ℕ, zero, suc, _+_, _≤_, _<_}
+use native.Mathlib.Numerals.{add-one}
 use native.Mathlib.Omega.{arith}
-use lib.ListN.{length}
+use lib.ListN.{length, getD, drop, drop-of-length-le}
+use lib.Seq.{drop-cons}
 use lib.Dec.{ltb, eqb}
 use borrow.Author.Tests.{ltb-true, eq-eqb, ne-eqb}
 use Rattle.parity_table.specs.Members.{every}
@@ -68,3 +70,29 @@ module _ (z : ℕ) (ms : List ℕ) (l : Last z ms) where
 
   pub length-rest : (f : ℕ → List ℕ) → ((x : ℕ) → x < z → length (f x) ≡ 256) → length (xorOf f (others z ms)) ≡ 256
   length-rest f h = length-xorOf f z h (others z ms) (l .below)
+
+-- ---- member i of members that all are below n
+
+pub every-below : (n : ℕ) (xs : List ℕ) → every (λ x. ltb x n) xs ≡ true → (i : ℕ) → i < length xs → getD xs i 0 < n
+unfolding every
+every-below n [] a i h = absurd (omega arith)
+every-below n (x ∷ xs) a zero h = ltb-true x n (and-yes (ltb x n) _ a .0)
+every-below n (x ∷ xs) a (suc i) h = every-below n xs (and-yes (ltb x n) _ a .1) i (omega arith)
+
+-- ---- the members other than x, from member i on
+
+pub from-here : (xs : List ℕ) (i : ℕ) → i < length xs → drop i xs ≡ getD xs i 0 ∷ drop (i + 1) xs
+from-here xs i h = drop-cons xs i 0 h ∙ ap (λ n. getD xs i 0 ∷ drop n xs) (sym (add-one i))
+
+module _ (x : ℕ) (ms : List ℕ) (i : ℕ) where
+  pub others-skip : i < length ms → getD ms i 0 ≡ x → others x (drop i ms) ≡ others x (drop (i + 1) ms)
+  unfolding others
+  others-skip h e = ap (others x) (from-here ms i h) ∙ pick-yes (eqb (getD ms i 0) x) _ _ (eq-eqb (getD ms i 0) x e)
+
+  pub others-take : i < length ms → (getD ms i 0 ≡ x → ⊥) → others x (drop i ms) ≡ getD ms i 0 ∷ others x (drop (i + 1) ms)
+  unfolding others
+  others-take h e = ap (others x) (from-here ms i h) ∙ pick-no (eqb (getD ms i 0) x) _ _ (ne-eqb (getD ms i 0) x e)
+
+  pub others-end : length ms ≤ i → others x (drop i ms) ≡ []
+  unfolding others
+  others-end h = ap (others x) (drop-of-length-le ms h)

@@ -48,7 +48,7 @@ module _ (S : Shape) (H : ℕ → ℕ → List ℕ → List ℕ) (root : List �
       let j : ℕ = proofLayer b in
       let ms : List ℕ = proofMembers tbl b in
       let x : ℕ = proofWithheld b in
-      let once : count (isIt x) ms ≡ 1 = omega (arith, a .member-ok, ascending-once x ms (ok .ascend j (proofEquation b) (a .layer-ok) (a .equation-ok))) in
+      let once : count (isIt x) ms ≡ 1 = omega (arith, a .named .member-ok, ascending-once x ms (ok .ascend j (proofEquation b) (a .named .layer-ok) (a .named .equation-ok))) in
       let d : length ms - 1 ≡ length (others x ms) = omega (arith, once, length-others x ms) in
       let product : (length ms - 1) * suc j ≡ length (others x ms) * suc j = ap (λ (k : ℕ). k * suc j) d in
       let room : length (body b) ≡ 256 * (length (others x ms) * suc j) + 256 * j = omega (arith, length-drop 12 b, a .exact, product) in

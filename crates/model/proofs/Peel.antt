@@ -26,7 +26,7 @@ Inside s g = (x : ℕ) → s x ≡ true → g x ≡ true
 
 -- ---- marks and used equations as lists
 
-count-used : (us : List ℕ) (e : ℕ) → e < length us → eqb (getD us e 0) 0 ≡ true → suc (count (isIt 0) (set us e 1)) ≡ count (isIt 0) us
+pub count-used : (us : List ℕ) (e : ℕ) → e < length us → eqb (getD us e 0) 0 ≡ true → suc (count (isIt 0) (set us e 1)) ≡ count (isIt 0) us
 unfolding count
 count-used [] e h t = absurd (omega arith)
 count-used (u ∷ us) zero h t = omega (arith, ap bit t)
@@ -47,7 +47,7 @@ absent-same : (S : Shape) (m : List ℕ) (j x : ℕ) → place S j x < length m 
 unfolding absentAt
 absent-same S m j x h = ap (λ (v : ℕ). not (eqb v 1)) (getD-set-same m (place S j x) 1 0 h)
 
-absent-other : (S : Shape) (m : List ℕ) (j x y : ℕ) → y ≢ x → absentAt S (set m (place S j x) 1) j y ≡ absentAt S m j y
+pub absent-other : (S : Shape) (m : List ℕ) (j x y : ℕ) → y ≢ x → absentAt S (set m (place S j x) 1) j y ≡ absentAt S m j y
 unfolding absentAt
 absent-other S m j x y n = ap (λ (v : ℕ). not (eqb v 1)) (getD-set-other m (place S j x) (place S j y) 1 0 (place-ne S j x y n))
 

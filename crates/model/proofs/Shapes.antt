@@ -6,7 +6,8 @@ use native.Mathlib.Nat.{mod-lt}
 use native.Mathlib.Omega.{arith}
 use native.Mathlib.Decide.{decLt}
 use lib.Pow.{pow-pos}
-use Rattle.parity_table.specs.Shape.{kOf, nOf}
+use Rattle.parity_table.specs.Shape.{kOf, nOf, maxDepth}
+use Rattle.parity_table.proofs.Parse.{k-small}
 use Rattle.model.specs.Shape.{Shape, ShapeOk, TreeOk, tree, places, place}
 
 -- ---- places
@@ -51,6 +52,9 @@ k-double S ok j = omega (arith, ok .rate (suc j), ok .batch j)
 pub tree-ok : TreeOk tree
 unfolding kOf nOf
 tree-ok = record { shape = record { some = λ j. omega (arith, pow-pos j); within = λ j. omega arith }; rate = λ j. refl; batch = λ j. omega arith }
+
+pub n-small : (j : ℕ) → j < maxDepth → tree .n j ≤ 16 * 2 ^ maxDepth
+n-small j h = omega (arith, k-small j h, tree-ok .rate j)
 
 -- "16·(2^D−1) symbols"
 pub tree-places : (d : ℕ) → places tree d ≡ 16 * (2 ^ d - 1)

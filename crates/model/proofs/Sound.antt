@@ -48,29 +48,40 @@ unfolding firstBreak
 both-lead leads b e = (refl, e)
 both-lead (breaks j) b e = absurd (let z : _≡_ {A = ℕ} 0 1 = cc in omega arith)
 
+-- what the head names, where it passes
+pub record Named (tbl : List (List (List ℕ))) (b : List ℕ) : Type 0 where
+  pub layer-ok : proofLayer b < length tbl
+  pub equation-ok : proofEquation b < length (layerOf tbl (proofLayer b))
+  pub member-ok : 1 ≤ count (isIt (proofWithheld b)) (proofMembers tbl b)
+
+pub head-names : (tbl : List (List (List ℕ))) (b : List ℕ) → headOk tbl b ≡ true → Named tbl b
+unfolding headOk layerOk equationOk memberOk
+head-names tbl b t =
+    let (h₁, h′) = and-yes (layerOk tbl b) (equationOk tbl b && memberOk tbl b) t in
+    let (h₂, h₃) = and-yes (equationOk tbl b) (memberOk tbl b) h′ in
+    record {
+      layer-ok = ltb-true _ _ (and-yes (eqb (kindAt b 0) 1) (ltb (proofLayer b) (length tbl)) h₁ .1);
+      equation-ok = ltb-true _ _ (and-yes (eqb (kindAt b 1) 2) (ltb (proofEquation b) (length (layerOf tbl (proofLayer b)))) h₂ .1);
+      member-ok = leb-true _ _ (and-yes (eqb (kindAt b 2) 3) (leb 1 (count (isIt (proofWithheld b)) (proofMembers tbl b))) h₃ .1);
+    }
+
 module _ (S : Shape) (H : ℕ → ℕ → List ℕ → List ℕ) (root : List ℕ) (tbl : List (List (List ℕ))) where
   pub record Accepted (b : List ℕ) : Type 0 where
-    pub layer-ok : proofLayer b < length tbl
-    pub equation-ok : proofEquation b < length (layerOf tbl (proofLayer b))
-    pub member-ok : 1 ≤ count (isIt (proofWithheld b)) (proofMembers tbl b)
+    pub named : Named tbl b
     pub exact : length b ≡ proofLength (proofLayer b) (length (proofMembers tbl b))
     pub given : givenCheck S H root (proofLayer b) (proofGiven tbl b) (body b) ≡ leads
     pub path : pathCheck S H root (proofLayer b) (proofWithheld b) (afterGiven (proofLayer b) (proofGiven tbl b) (body b)) ≡ leads
     pub unfit : withheldFits S H root tbl b ≡ false
 
   pub accepted-is : (b : List ℕ) → verdict S H root tbl b ≡ accepted → Accepted b
-  unfolding verdict headOk layerOk equationOk memberOk proofCheck
+  unfolding verdict proofCheck
   accepted-is b e =
       let (a₁, e₁) = picked (not (headOk tbl b)) wrongHead _ (refused wrongHead (λ z. omega arith)) e in
       let (a₂, e₂) = picked (not (eqb (length b) (proofLength (proofLayer b) (length (proofMembers tbl b))))) wrongLength _ (refused wrongLength (λ z. omega arith)) e₁ in
       let (a₃, a₄) = ruled (proofCheck S H root tbl b) (withheldFits S H root tbl b) e₂ in
-      let (h₁, h′) = and-yes (layerOk tbl b) (equationOk tbl b && memberOk tbl b) (not-no (headOk tbl b) a₁) in
-      let (h₂, h₃) = and-yes (equationOk tbl b) (memberOk tbl b) h′ in
       let (g, p) = both-lead (givenCheck S H root (proofLayer b) (proofGiven tbl b) (body b)) _ a₃ in
       record {
-        layer-ok = ltb-true _ _ (and-yes (eqb (kindAt b 0) 1) (ltb (proofLayer b) (length tbl)) h₁ .1);
-        equation-ok = ltb-true _ _ (and-yes (eqb (kindAt b 1) 2) (ltb (proofEquation b) (length (layerOf tbl (proofLayer b)))) h₂ .1);
-        member-ok = leb-true _ _ (and-yes (eqb (kindAt b 2) 3) (leb 1 (count (isIt (proofWithheld b)) (proofMembers tbl b))) h₃ .1);
+        named = head-names tbl b (not-no (headOk tbl b) a₁);
         exact = eqb-true _ _ (not-no (eqb (length b) (proofLength (proofLayer b) (length (proofMembers tbl b)))) a₂);
         given = g;
         path = p;
@@ -160,15 +171,15 @@ module _ (S : Shape) (sh : ShapeOk S) (H : ℕ → ℕ → List ℕ → List ℕ
         let ms : List ℕ = equationOf tbl j (proofEquation b) in
         let x : ℕ = proofWithheld b in
         let c : List ℕ = afterGiven j (others x ms) (body b) in
-        let within : every (λ y. ltb y (S .n j)) ms ≡ true = ok .within j (proofEquation b) (a .layer-ok) (a .equation-ok) in
-        let below : x < S .n j = ltb-true x (S .n j) (every-member (λ y. ltb y (S .n j)) x ms within (a .member-ok)) in
+        let within : every (λ y. ltb y (S .n j)) ms ≡ true = ok .within j (proofEquation b) (a .named .layer-ok) (a .named .equation-ok) in
+        let below : x < S .n j = ltb-true x (S .n j) (every-member (λ y. ltb y (S .n j)) x ms within (a .named .member-ok)) in
         ⊎-elim
         (λ gx. ⊎-elim
         (λ v. both
-        (yes-same (ap (H j x) (gx ∙ member-is j (proofEquation b) x (a .layer-ok) (a .equation-ok) (a .member-ok))
-        ∙ hashes S sh H digests tbl root f agr j x (a .layer-ok, below) ∙ sym v))
+        (yes-same (ap (H j x) (gx ∙ member-is j (proofEquation b) x (a .named .layer-ok) (a .named .equation-ok) (a .named .member-ok))
+        ∙ hashes S sh H digests tbl root f agr j x (a .named .layer-ok, below) ∙ sym v))
         (a .unfit))
         (λ w. held-too (InPath S j x c) _ (λ l m s q. inr q) w)
-        (path-sound j x c (a .layer-ok) below (a .path)))
+        (path-sound j x c (a .named .layer-ok) below (a .path)))
         (λ w. held-too (InGiven S j (others x ms) (body b)) _ (λ l m s q. inl q) w)
-        (given-sound j (others x ms) (body b) (a .layer-ok) (every-others _ x ms within) (a .given))
+        (given-sound j (others x ms) (body b) (a .named .layer-ok) (every-others _ x ms within) (a .given))

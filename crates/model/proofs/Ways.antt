@@ -6,7 +6,7 @@ use native.Mathlib.Omega.{arith}
 use Rattle.model.specs.Shape.{Shape, ShapeOk}
 use Rattle.model.specs.Symbols.{symbolIn, slot, committed}
 use Rattle.model.specs.Climb.{leads, Says}
-use Rattle.model.specs.Fault.{reached, wayFits, wayCheck}
+use Rattle.model.specs.Fault.{reached, pathHash, wayFits, wayCheck}
 use Rattle.model.proofs.Bytes.{same-yes, yes-same}
 use Rattle.model.proofs.Shapes.{up-lt}
 use Rattle.model.proofs.Climbs.{climb-says, climb-leads}
@@ -34,6 +34,13 @@ pub committed-same : (S : Shape) (root : List ℕ) (w : ℕ → List ℕ) (f : �
 unfolding committed
 committed-same S root w f zero m above = refl
 committed-same S root w f (suc l) m above = ap (λ (s : List ℕ). slot s (m / S .k l)) (above l refl)
+
+-- the hash that a path c has for a symbol is the one that symbols above, w by layer, have for it, where c starts with the one above it
+pub path-committed : (S : Shape) (root c : List ℕ) (w : ℕ → List ℕ) (l m : ℕ) → ((u : ℕ) → suc u ≡ l → symbolIn c 0 ≡ w u)
+    → pathHash S root l m c ≡ committed S root (λ u i. w u) l m
+unfolding pathHash committed
+path-committed S root c w zero m above = refl
+path-committed S root c w (suc l) m above = ap (λ (s : List ℕ). slot s (m / S .k l)) (above l refl)
 
 -- ---- the check
 

@@ -19,6 +19,10 @@ module _ (l : List ℕ) (at n : ℕ) (inside : at + n ≤ length l) where
   pub length-part : length (take n (drop at l)) ≡ n
   length-part = simp (length-take, length-drop) (omega arith)
 
+-- its end being computed from its start
+pub part-ends : (l : List ℕ) (at n : ℕ) → take (at + n - at) (drop at l) ≡ take n (drop at l)
+part-ends l at n = let e : at + n - at ≡ n = omega arith in rw e
+
 pub getD-part : (l : List ℕ) (at n i : ℕ) → i < n → getD (take n (drop at l)) i 0 ≡ getD l (at + i) 0
 getD-part l at n i h = rw (getD-take, getD-drop)
 

@@ -6,7 +6,7 @@ use mathlib.Core.List.{List}
 use Prim.Native.Nat.{ℕ, suc, _+_, _-_, _*_, _^_, _≤_, _<_}
 use native.Mathlib.Nat.{zero-add}
 use native.Mathlib.Omega.{arith}
-use lib.ListN.{length, getD, drop, length-take}
+use lib.ListN.{length, getD, take, drop, length-take}
 use lib.Seq.{getD-take}
 use lib.Dec.{leb, ltb}
 use borrow.Author.Tests.{ltb-true, ltb-false, leb-true, le-leb, lt-leb}
@@ -17,6 +17,7 @@ use Rattle.parity_table.specs.Table.{equationOf, TableOk, WellFormed, Fi
 use Rattle.parity_table.specs.Reader.{layered, run, readOf}
 use Rattle.parity_table.specs.Right.{Right}
 use Rattle.parity_table.specs.Parse.{tableOf, membersOf, indexOf, equationsAbove, numberIn, HasEquation, Located}
+use Rattle.octets.proofs.ListLaws.{part-ends}
 use Rattle.octets.proofs.Choice.{by-test, pick-ind, pick-yes, pick-no, and-yes, both}
 use Rattle.parity_table.proofs.Run.{taken-formed, refused-first, run-ends}
 use Rattle.parity_table.proofs.Parse.{formed-rules, members-at, members-take, start-fits, number-lt, starts-count, k-grows, k-small}
@@ -148,6 +149,10 @@ module _ (ws starts : List ℕ) (j e : ℕ) (x : HasEquation ws starts j e) wher
         inside = omega (arith, start-is, fits-there, ap length m);
         members = sym (members-take (drop at ws)) ∙ m;
       }
+
+-- its members, as a part of the words
+pub members-there : (ws : List ℕ) (j e at size : ℕ) → Located ws j e at size → take (at + size - at) (drop at ws) ≡ equationOf (tableOf ws) j e
+members-there ws j e at size x = part-ends ws at size ∙ x .members
 
 -- the number of an equation is computed with no loss
 pub number-small : (j e : ℕ) → j < maxDepth → e < 3 * kOf j → (kOf 0 ≤ kOf j) × (kOf j ≤ 4 * 2 ^ maxDepth)
