@@ -6,7 +6,7 @@ use crate::shape::symbol_count;
 use crate::shape::tree_fits;
 use parity_table::depth_fits;
 use sampling::Found;
-use sampling::Way;
+use symbol_hash::Way;
 ghost use mathlib.Core.Path.{_≡_};
 ghost use Rattle.cedunmi.specs.Sample.{sampleChecked, sampleTaken, sampleLeft};
 

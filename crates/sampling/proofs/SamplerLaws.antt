@@ -12,13 +12,12 @@ use lib.Seq.{paste, take-paste, length-paste, take-all}
 use lib.Dec.{ltb}
 use borrow.Author.Tests.{eq-eqb, ne-eqb, lt-ltb, le-ltb}
 use Rattle.octets.proofs.Choice.{pick-yes, pick-no}
-use Rattle.octets.proofs.ListLaws.{length-part}
+use Rattle.octets.proofs.ListLaws.{length-part, part-ends}
 use Rattle.model.specs.Shape.{tree, place}
 use Rattle.model.specs.Symbols.{joined, symbolIn, lowest, symAt}
 use Rattle.model.specs.Sampling.{sampleSize, sampleLayer, sampleNumber, sampleBytes}
 use Rattle.sampling.specs.declared.Found.the-variants.{At, Nothing}
 use Rattle.sampling.specs.Absent.{absent, foundBelow, firstAbsent}
-use Rattle.sampling.proofs.SymbolLaws.{part}
 
 -- ---- the lowest number, from x on and below e
 
@@ -112,13 +111,13 @@ module _ (d i : ℕ) (t s : List ℕ) (x : ℕ) where
     copied = take (256 * q + 256 - 256 * q) (drop (256 * q) t)
 
     pub copied-length : length copied ≡ 256
-    copied-length = ap length (part t (256 * q)) ∙ length-part t (256 * q) 256 inside
+    copied-length = ap length (part-ends t (256 * q) 256) ∙ length-part t (256 * q) 256 inside
 
     pub taken-more : Taken → (u : List ℕ) → u ≡ paste s (256 * x) copied (length copied) → take (256 * (x + 1)) u ≡ joined (symbolOf d i t) 0 (x + 1)
     unfolding symAt symbolIn
     taken-more so u e =
         ap (take (256 * (x + 1))) e
-        ∙ copied-more (symbolOf d i t) s copied x room copied-length (part t (256 * q) ∙ ap (λ (y : ℕ). take 256 (drop (256 * y) t)) at) so
+        ∙ copied-more (symbolOf d i t) s copied x room copied-length (part-ends t (256 * q) 256 ∙ ap (λ (y : ℕ). take 256 (drop (256 * y) t)) at) so
 
     pub copied-same : (u : List ℕ) → u ≡ paste s (256 * x) copied (length copied) → length u ≡ length s
     copied-same u e = ap length e ∙ length-paste s (256 * x) copied (length copied) (omega (arith, copied-length)) (omega arith)

@@ -1,16 +1,14 @@
 -- The layer, number and place of each symbol of a sample, as the code computes them, and that they are in the tree. Assumes nothing.
 use mathlib.Core.Path.{_≡_, sym, subst}
-use mathlib.Core.List.{List}
 use mathlib.Core.Logic.{_≢_}
-use Prim.Native.Nat.{ℕ, zero, suc, _+_, _-_, _*_, _%_, _^_, _≤_, _<_}
+use Prim.Native.Nat.{ℕ, zero, suc, _+_, _-_, _*_, _%_, _≤_, _<_}
 use native.Mathlib.Nat.{mod-lt}
 use native.Mathlib.Omega.{arith}
-use lib.ListN.{take, drop}
-use lib.Pow.{pow-pos, pow-mono}
+use lib.Pow.{pow-pos}
 use lib.Dec.{eqb}
 use borrow.Author.Tests.{eq-eqb, ne-eqb}
 use Rattle.octets.proofs.Choice.{pick-yes, pick-no, pick-ind}
-use Rattle.parity_table.specs.Shape.{maxDepth, kOf}
+use Rattle.parity_table.specs.Shape.{kOf}
 use Rattle.model.specs.Shape.{tree, places, place}
 use Rattle.model.specs.Sampling.{sampleSize, sampleLayer, sampleNumber, dataNo, parityNo}
 use Rattle.model.proofs.Shapes.{tree-ok, tree-places, up-lt, place-lt}
@@ -21,13 +19,6 @@ use Rattle.sampling.specs.Lent.{BaseSymbol}
 pub k-some : (j : ℕ) → 4 ≤ kOf j
 unfolding kOf
 k-some j = omega (arith, pow-pos j)
-
-pub k-small : (j : ℕ) → j < maxDepth → kOf j ≤ 64
-unfolding kOf
-k-small j h = let p : 2 ^ j ≤ 2 ^ 4 = pow-mono {i = j} {j = 4} (omega arith) in omega arith
-
-pub n-small : (j : ℕ) → j < maxDepth → tree .n j ≤ 256
-n-small j h = omega (arith, k-small j h, tree-ok .rate j)
 
 pub layer-lt : (d x : ℕ) → x < sampleSize d → sampleLayer d x < d
 unfolding sampleLayer
@@ -70,9 +61,3 @@ place-is j m = omega (arith, tree-places j)
 
 pub sample-place-lt : (d i x : ℕ) → BaseSymbol d i → x < sampleSize d → place tree (sampleLayer d x) (sampleNumber tree d i x) < places tree d
 sample-place-lt d i x b h = place-lt tree d (sampleLayer d x) (sampleNumber tree d i x) (layer-lt d x h) (number-lt d i (b .2) x h)
-
--- ---- bytes
-
--- the 256 bytes from byte o on, as a part of a slice
-pub part : (l : List ℕ) (o : ℕ) → take (o + 256 - o) (drop o l) ≡ take 256 (drop o l)
-part l o = let e : o + 256 - o ≡ 256 = omega arith in rw e

@@ -11,7 +11,3 @@ BaseSymbol d i = (1 ≤ d) × (d ≤ maxDepth) × (i < tree .n (d - 1))
 -- a tree may have depth d, and a sample of it has a symbol x
 abbrev pub Inside : ℕ → ℕ → Type 0
 Inside d x = (d ≤ maxDepth) × (x < sampleSize d)
-
--- a tree may have depth d, and has a symbol m of layer j
-abbrev pub Committed : ℕ → ℕ → ℕ → Type 0
-Committed d j m = (d ≤ maxDepth) × (j < d) × (m < tree .n j)

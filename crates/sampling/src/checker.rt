@@ -1,35 +1,19 @@
 // The sample checker's core: each symbol is hashed once, and its hash compared where the root or the
 // next data symbol up has it.
-use crate::Way;
 use crate::symbols::layer_of;
 use crate::symbols::number_of;
+use symbol_hash::Way;
 ghost use mathlib.Core.Path.{_≡_};
 ghost use Prim.Native.Nat.{_*_};
 ghost use lib.ListN.{length};
 ghost use Rattle.symbol_hash.specs.SymbolHash.{symbolHash};
 ghost use Rattle.model.specs.Shape.{tree as shape};
 ghost use Rattle.model.specs.Sampling.{sampleSize};
-ghost use Rattle.model.specs.SampleCheck.{sampleHas, sampleFits, sampleCheck};
-ghost use Rattle.sampling.specs.Lent.{Inside, BaseSymbol, Committed};
-ghost use Rattle.sampling.specs.Ways.{climbOf};
-ghost use Rattle.octets.specs.ByteLists.{same};
+ghost use Rattle.model.specs.SampleCheck.{sampleFits, sampleCheck};
+ghost use Rattle.sampling.specs.Lent.{Inside, BaseSymbol};
+ghost use Rattle.symbol_hash.specs.Ways.{climbOf};
 
-// Whether h is the hash that the root, or for a layer below the top the sample's data symbol of the
-// layer above, has for symbol m of layer j.
-fn has(depth: usize, j: usize, m: usize, h: &[u8], root: &[u8], sample: &[u8]) -> bool
-    requires { ⌜ Committed depth j m × (length (now h) ≡ 32) × (length (now root) ≡ 512)
-        × (length (now sample) ≡ 256 * sampleSize depth) ⌝ }
-    ensures { λ r. ⌜ r ≡ same (now (h .entry)) (sampleHas shape (now (root .entry)) depth (now (sample .entry)) j m) ⌝ }
-{
-    if j == 0 {
-        return octets::equal_at(h, root, 32 * m);
-    }
-    let up = 2 * (depth - j) - 1;
-    let slot = m / parity_table::data_count(j - 1);
-    octets::equal_at(h, sample, 256 * up + 32 * slot)
-}
-
-// Whether symbol x of the sample of base symbol i has the committed hash.
+// Whether symbol x of the sample of base symbol i has the committed hash: in the root, or in the sample's data symbol of the layer above.
 fn symbol_fits(depth: usize, i: usize, root: &[u8], sample: &[u8], x: usize) -> bool
     requires { ⌜ BaseSymbol depth i × Inside depth x × (length (now root) ≡ 512)
         × (length (now sample) ≡ 256 * sampleSize depth) ⌝ }
@@ -39,8 +23,8 @@ fn symbol_fits(depth: usize, i: usize, root: &[u8], sample: &[u8], x: usize) -> 
     let m = number_of(depth, i, x);
     let from = 256 * x;
     let to = from + 256;
-    let h = symbol_hash::hash(j, m, &sample[from..to]);
-    has(depth, j, m, &h, root, sample)
+    let up = 256 * (2 * (depth - j) - 1);
+    symbol_hash::fits(j, m, &sample[from..to], root, sample, up)
 }
 
 // Checks the symbols of the sample of base symbol i, from the base symbol up.

@@ -15,11 +15,3 @@ pub enum Found {
     // none: each is marked held
     Nothing,
 }
-
-// What the check of a sample finds.
-pub enum Way {
-    // every hash leads to the root
-    Leads,
-    // the first layer, going up, of a symbol with another hash
-    Breaks(usize),
-}

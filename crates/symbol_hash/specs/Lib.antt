@@ -1,1 +1,2 @@
 pub mod SymbolHash
+pub mod Ways

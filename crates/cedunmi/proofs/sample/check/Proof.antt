@@ -5,7 +5,7 @@ use borrow.Author.Needs.{needs}
 use Rattle.cedunmi.specs.Sample.{led}
 use Rattle.cedunmi.proofs.SampleLaws.{at-depth, at-root, at-length, at-number, at-end}
 use Rattle.parity_table.proofs.Accepts.{depth-is}
-use Rattle.sampling.specs.Ways.{climbOf}
+use Rattle.symbol_hash.specs.Ways.{climbOf}
 use borrow.Author.Tests.{not-true, not-false}
 use Rattle.cedunmi.proofs.sample.check.Statement.{statement}
 use Rattle.cedunmi.proofs.sample.check.Tie as tie

@@ -1,9 +1,9 @@
 -- `symbol_fits` meets its contract: one hash, compared with the committed one.
 use native.Mathlib.Omega.{arith}
 use borrow.Author.Needs.{needs}
+use Rattle.symbol_hash.specs.SymbolHash.{symbolHash}
 use Rattle.sampling.proofs.CheckLaws.{fits-is}
 use Rattle.sampling.proofs.SymbolLaws.{in-tree}
-use Rattle.symbol_hash.specs.SymbolHash.{symbolHash}
 use Rattle.sampling.proofs.checker.symbol_fits.Statement.{statement}
 use Rattle.sampling.proofs.checker.symbol_fits.Tie as tie
 
@@ -19,35 +19,46 @@ mul-from c = search needs
 add-to : tie.Need-add-to
 add-to c = search needs
 
-sub-hash : tie.Need-sub-hash
-sub-hash c = search needs
+sub-up : tie.Need-sub-up
+sub-up c =
+    let a = c .before .before .before .before .args in
+    let pre = c .before .before .before .before .pre in
+    let t = in-tree (a .depth) (a .i) (a .x) (c .before .layer-of .result) (c .number-of .result) (pre .0) (pre .1 .1) (c .before .layer-of .ensures) (c .number-of .ensures) in
+    omega (arith, t .0)
 
-part-hash-start : tie.Need-part-hash-start
-part-hash-start c = search needs
+mul-up : tie.Need-mul-up
+mul-up c = search needs
 
-part-hash-end : tie.Need-part-hash-end
-part-hash-end c = search needs
+sub-up-2 : tie.Need-sub-up-2
+sub-up-2 c =
+    let a = c .before .before .before .before .args in
+    let pre = c .before .before .before .before .pre in
+    let t = in-tree (a .depth) (a .i) (a .x) (c .before .layer-of .result) (c .number-of .result) (pre .0) (pre .1 .1) (c .before .layer-of .ensures) (c .number-of .ensures) in
+    omega (arith, t .0)
 
-hash-requires : tie.Need-hash-requires
-hash-requires c κs = search needs
+mul-up-2 : tie.Need-mul-up-2
+mul-up-2 c = search needs
 
-slice-aggregate-has : tie.Need-slice-aggregate-has
-slice-aggregate-has c = search needs
+sub-fits : tie.Need-sub-fits
+sub-fits c = search needs
 
-has-requires : tie.Need-has-requires
-has-requires c κs = let h = in-tree (c .before .before .before .before .before .before .before .args .depth) (c .before .before .before .before .before .before .before .args .i) (c .before .before .before .before .before .before .before .args .x) (c .before .before .before .before .layer-of .result) (c .before .before .before .number-of .result) (c .before .before .before .before .before .before .before .pre .0) (omega arith) (c .before .before .before .before .layer-of .ensures) (c .before .before .before .number-of .ensures) in
-    ((omega arith, h .0, h .1), search needs, omega arith, omega arith)
+part-fits-start : tie.Need-part-fits-start
+part-fits-start c = search needs
+
+part-fits-end : tie.Need-part-fits-end
+part-fits-end c = search needs
+
+fits-requires : tie.Need-fits-requires
+fits-requires c κs =
+    let a = c .before .before .before .before .before .args in
+    let pre = c .before .before .before .before .before .pre in
+    let t = in-tree (a .depth) (a .i) (a .x) (c .before .before .layer-of .result) (c .before .number-of .result) (pre .0) (pre .1 .1) (c .before .before .layer-of .ensures) (c .before .number-of .ensures) in
+    (omega (arith, t .0, pre .1 .0), t .1, search needs, pre .2, λ h. omega (arith, t .0, pre .3))
 
 returns : tie.Need-returns
 returns c =
-    fits-is symbolHash (c .before .before .before .before .before .before .before .before .args .root .now)
-    (c .before .before .before .before .before .before .before .before .args .sample .now) _
-    (c .before .before .before .before .before .before .before .before .args .depth)
-    (c .before .before .before .before .before .before .before .before .args .i)
-    (c .before .before .before .before .before .before .before .before .args .x)
-    (c .before .before .before .before .before .layer-of .result) (c .before .before .before .before .number-of .result)
-    (c .has .result) (c .before .before .before .before .before .layer-of .ensures)
-    (c .before .before .before .before .number-of .ensures) (c .before .before .hash .ensures) (c .has .ensures)
+    let a = c .before .before .before .before .before .before .args in
+    fits-is symbolHash (a .root .now) (a .sample .now) (a .depth) (a .i) (a .x) (c .before .before .before .layer-of .result) (c .before .before .number-of .result) (c .fits2 .result) (c .before .before .before .layer-of .ensures) (c .before .before .number-of .ensures) (c .fits2 .ensures)
 
 pub symbol-fits-spec : {M : Type 1} → statement M
 symbol-fits-spec =
@@ -57,10 +68,12 @@ symbol-fits-spec =
     number-of-requires
     mul-from
     add-to
-    sub-hash
-    part-hash-start
-    part-hash-end
-    hash-requires
-    slice-aggregate-has
-    has-requires
+    sub-up
+    mul-up
+    sub-up-2
+    mul-up-2
+    sub-fits
+    part-fits-start
+    part-fits-end
+    fits-requires
     returns)

@@ -4,7 +4,8 @@ use Prim.Native.Nat.{ℕ, _+_, _-_, _*_}
 use native.Mathlib.Omega.{arith}
 use borrow.Author.Needs.{needs}
 use Rattle.parity_table.proofs.Parse.{k-small}
-use Rattle.sampling.proofs.SymbolLaws.{k-some, n-small, place-is}
+use Rattle.model.proofs.Shapes.{n-small}
+use Rattle.sampling.proofs.SymbolLaws.{k-some, place-is}
 use Rattle.sampling.proofs.symbols.place_of.Statement.{statement}
 use Rattle.sampling.proofs.symbols.place_of.Tie as tie
 
