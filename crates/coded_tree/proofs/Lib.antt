@@ -1,3 +1,4 @@
 pub mod ParityLaws
 pub mod HashLaws
 pub mod WriterLaws
+pub mod MarkLaws

@@ -1,38 +1,29 @@
 -- The exclusive-or of members, and the parity symbols of a layer, as loops meet them.
-use mathlib.Core.Path.{_≡_, refl, sym, ap, ap₂, _∙_}
+use mathlib.Core.Path.{_≡_, sym, ap, ap₂, _∙_}
 use mathlib.Core.Bool.{true}
-use mathlib.Core.List.{List, [], _∷_}
-use Prim.Native.Nat.{ℕ, zero, suc, _+_, _-_, _*_, _≤_, _<_}
+use mathlib.Core.List.{List, []}
+use Prim.Native.Nat.{ℕ, _+_, _*_, _≤_, _<_}
 use native.Mathlib.Omega.{arith}
 use native.Mathlib.Numerals.{add-one}
 use lib.ListN.{length, getD, take, drop, drop-of-length-le}
 use lib.Seq.{drop-cons, paste}
-use lib.Dec.{ltb, eqb}
-use borrow.Author.Tests.{ltb-true, eq-eqb, ne-eqb}
+use lib.Dec.{ltb}
 use Rattle.octets.specs.ByteLists.{xors}
-use Rattle.octets.proofs.Choice.{pick-yes, pick-no, pick-ind, and-yes, yes-and}
-use Rattle.octets.proofs.ListLaws.{length-part, length-xors}
+use Rattle.octets.proofs.ListLaws.{length-part}
 use Rattle.parity_table.specs.Shape.{kOf, nOf}
 use Rattle.parity_table.specs.declared.Answer.the-variants.{Whole}
 use Rattle.parity_table.specs.Members.{every}
 use Rattle.parity_table.specs.Table.{layerOf, equationOf}
 use Rattle.parity_table.specs.Reader.{readOf}
-use Rattle.parity_table.specs.Parse.{tableOf, Located}
+use Rattle.parity_table.specs.Parse.{tableOf}
 use Rattle.parity_table.proofs.Rules.{members-below}
 use Rattle.parity_table.proofs.Accepts.{accepted-table}
 use Rattle.model.specs.Shape.{tree, places, place}
 use Rattle.model.specs.Symbols.{symbolIn, zeros, xorOf, others, symAt, putAt}
 use Rattle.model.specs.Writer.{parities}
 use Rattle.model.proofs.Bytes.{xors-comm, xors-assoc, sym-zeros}
-use Rattle.model.proofs.Members.{length-xorOf}
-
--- ---- elements of a list of which all pass a test
-
-pub every-at : (n : ℕ) (xs : List ℕ) → every (λ x. ltb x n) xs ≡ true → (i : ℕ) → i < length xs → getD xs i 0 < n
-unfolding every
-every-at n [] a i h = absurd (omega arith)
-every-at n (x ∷ xs) a zero h = ltb-true x n (and-yes (ltb x n) _ a .0)
-every-at n (x ∷ xs) a (suc i) h = every-at n xs (and-yes (ltb x n) _ a .1) i (omega arith)
+use Rattle.model.proofs.Members.{length-xorOf, others-skip, others-take, others-end}
+use Rattle.model.proofs.Counts.{every-others}
 
 -- ---- a symbol of a layer, where the code finds it
 
@@ -56,35 +47,19 @@ module _ (ms : List ℕ) (g : ℕ → List ℕ) (x : ℕ) where
   abbrev pub left : ℕ → List ℕ
   left i = xorOf g (others x (drop i ms))
 
-  cut : (i : ℕ) → i < length ms → drop i ms ≡ getD ms i 0 ∷ drop (i + 1) ms
-  cut i h = drop-cons ms i 0 h ∙ ap (λ n. getD ms i 0 ∷ drop n ms) (sym (add-one i))
-
   pub left-skip : (i : ℕ) → i < length ms → getD ms i 0 ≡ x → left i ≡ left (i + 1)
-  unfolding others
-  left-skip i h e =
-      ap (λ l. xorOf g (others x l)) (cut i h) ∙ ap (xorOf g) (pick-yes (eqb (getD ms i 0) x) _ _ (eq-eqb (getD ms i 0) x e))
+  left-skip i h e = ap (xorOf g) (others-skip x ms i h e)
 
   pub left-take : (i : ℕ) → i < length ms → (getD ms i 0 ≡ x → ⊥) → left i ≡ xors (g (getD ms i 0)) (left (i + 1))
-  unfolding others xorOf
-  left-take i h e =
-      ap (λ l. xorOf g (others x l)) (cut i h) ∙ ap (xorOf g) (pick-no (eqb (getD ms i 0) x) _ _ (ne-eqb (getD ms i 0) x e))
+  unfolding xorOf
+  left-take i h e = ap (xorOf g) (others-take x ms i h e)
 
   pub left-none : (i : ℕ) (a : List ℕ) → length ms ≤ i → length a ≡ 256 → xors a (left i) ≡ a
-  unfolding others xorOf
-  left-none i a h l = ap (λ q. xors a (xorOf g (others x q))) (drop-of-length-le ms h) ∙ sym-zeros a l
-
-  every-others : (n : ℕ) → every (λ y. ltb y n) ms ≡ true → every (λ y. ltb y n) (others x ms) ≡ true
-  unfolding every others
-  every-others n a = kept ms a
-    where
-      kept : (q : List ℕ) → every (λ y. ltb y n) q ≡ true → every (λ y. ltb y n) (others x q) ≡ true
-      kept [] b = refl
-      kept (y ∷ ys) b =
-          pick-ind (λ q. every (λ y. ltb y n) q ≡ true) (eqb y x) (λ t. kept ys (and-yes (ltb y n) _ b .1))
-          (λ t. yes-and (and-yes (ltb y n) _ b .0) (kept ys (and-yes (ltb y n) _ b .1)))
+  unfolding xorOf
+  left-none i a h l = ap (λ q. xors a (xorOf g q)) (others-end x ms i h) ∙ sym-zeros a l
 
   pub length-left : (n : ℕ) → ((y : ℕ) → y < n → length (g y) ≡ 256) → every (λ y. ltb y n) ms ≡ true → length (xorOf g (others x ms)) ≡ 256
-  length-left n h a = length-xorOf g n h (others x ms) (every-others n a)
+  length-left n h a = length-xorOf g n h (others x ms) (every-others (λ y. ltb y n) x ms a)
 
   pub left-all : (n : ℕ) → ((y : ℕ) → y < n → length (g y) ≡ 256) → every (λ y. ltb y n) ms ≡ true → xors zeros (left 0) ≡ left 0
   left-all n h a = xors-comm zeros (left 0) ∙ sym-zeros (left 0) (length-left n h a)
@@ -111,10 +86,6 @@ unfolding parities
 parities-none j e es t h = ap (λ q. parities tree j e q t) (drop-of-length-le es h)
 
 -- ---- an equation of the table, where the code finds it
-
--- the words of equation e of layer j
-pub members-there : (ws : List ℕ) (j e at size : ℕ) → Located ws j e at size → take (at + size - at) (drop at ws) ≡ equationOf (tableOf ws) j e
-members-there ws j e at size x = let n : at + size - at ≡ size = omega arith in ap (λ m. take m (drop at ws)) n ∙ x .members
 
 module _ (d : ℕ) (ws : List ℕ) (r : readOf d ws ≡ Whole) (j e k : ℕ) (hj : j < d) (ek : k ≡ kOf j) (he : e < 3 * kOf j) (ms : List ℕ)
     (em : ms ≡ equationOf (tableOf ws) j e) where

@@ -1,8 +1,10 @@
 // The tree writer and reading back: the cores, for a table and buffers that are known to be right.
 mod hashes; // the hashes of a layer in the layer above, and the root
+mod marks; // the first symbol that is absent
 mod parity; // the parity symbols of a layer
 mod writer; // the whole tree, its marks and its root; the block read back
 
+pub use marks::first_absent;
 pub use parity::xor_others;
 pub use writer::read_block;
 pub use writer::write;

@@ -4,16 +4,15 @@ use Prim.Native.Nat.{_-_, _*_, _≤_}
 use native.Mathlib.Omega.{arith}
 use lib.ListN.{length, drop}
 use borrow.Author.Needs.{needs}
-use Rattle.coded_tree.proofs.ParityLaws.{members-there, members-inside, parity-inside, parity-step, layer-done}
-use Rattle.model.specs.Shape.{places}
+use Rattle.parity_table.proofs.Accepts.{members-there, accepted-depth}
+use Rattle.coded_tree.proofs.ParityLaws.{members-inside, parity-inside, parity-step, layer-done}
+use Rattle.model.specs.Shape.{places, tree as shape}
 use Rattle.model.specs.Writer.{parities}
 use Rattle.octets.specs.BigEndian.{words}
 use Rattle.parity_table.specs.Parse.{tableOf}
 use Rattle.parity_table.specs.Shape.{kOf}
 use Rattle.parity_table.specs.Table.{layerOf}
-use Rattle.parity_table.proofs.Accepts.{accepted-depth}
 use Rattle.parity_table.proofs.Parse.{k-small}
-use Rattle.model.specs.Shape.{tree as shape}
 use Rattle.coded_tree.proofs.parity.put_parities.Statement.{statement}
 use Rattle.coded_tree.proofs.parity.put_parities.Tie as tie
 

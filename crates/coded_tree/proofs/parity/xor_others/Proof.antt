@@ -5,9 +5,10 @@ use Prim.Native.Nat.{_+_, _-_, _*_, _≤_, _<_}
 use native.Mathlib.Omega.{arith}
 use lib.ListN.{length, getD, take, drop}
 use borrow.Author.Needs.{needs}
-use Rattle.coded_tree.proofs.ParityLaws.{every-at, symAt-there, symAt-full, left, left-none, left-all, turn-take, turn-skip}
+use Rattle.coded_tree.proofs.ParityLaws.{symAt-there, symAt-full, left, left-none, left-all, turn-take, turn-skip}
 use Rattle.model.specs.Symbols.{symAt}
 use Rattle.model.proofs.Bytes.{length-zeros}
+use Rattle.model.proofs.Members.{every-below}
 use Rattle.octets.specs.ByteLists.{xors}
 use Rattle.octets.proofs.ListLaws.{length-xors}
 use Rattle.parity_table.specs.Shape.{nOf}
@@ -39,17 +40,17 @@ cast-y c = omega (arith, c .shared-slice-known3 .given (c .before .before .loop 
 add-xor-at : tie.Need-add-xor-at Inv-loop μ-loop
 add-xor-at c =
     omega
-    (arith, every-at (nOf (c .before .before .before .before .before .before .before .before .args .j)) (c .before .before .before .before .before .before .before .before .args .members .now) (c .before .before .before .before .before .before .before .before .pre .3) (c .before .before .before .before .loop .i) (omega arith), c .before .before .before .before .before .before .before .before .pre .2)
+    (arith, every-below (nOf (c .before .before .before .before .before .before .before .before .args .j)) (c .before .before .before .before .before .before .before .before .args .members .now) (c .before .before .before .before .before .before .before .before .pre .3) (c .before .before .before .before .loop .i) (omega arith), c .before .before .before .before .before .before .before .before .pre .2)
 
 mul-xor-at : tie.Need-mul-xor-at Inv-loop μ-loop
 mul-xor-at c =
     omega
-    (arith, every-at (nOf (c .before .before .before .before .before .before .before .before .args .j)) (c .before .before .before .before .before .before .before .before .args .members .now) (c .before .before .before .before .before .before .before .before .pre .3) (c .before .before .before .before .loop .i) (omega arith), c .before .before .before .before .before .before .before .before .pre .2)
+    (arith, every-below (nOf (c .before .before .before .before .before .before .before .before .args .j)) (c .before .before .before .before .before .before .before .before .args .members .now) (c .before .before .before .before .before .before .before .before .pre .3) (c .before .before .before .before .loop .i) (omega arith), c .before .before .before .before .before .before .before .before .pre .2)
 
 xor-at-requires : tie.Need-xor-at-requires Inv-loop μ-loop
 xor-at-requires c κs =
     omega
-    (arith, every-at (nOf (c .before .before .before .before .before .before .before .before .args .j)) (c .before .before .before .before .before .before .before .before .args .members .now) (c .before .before .before .before .before .before .before .before .pre .3) (c .before .before .before .before .loop .i) (omega arith), c .before .before .before .before .before .before .before .before .pre .2, c .before .before .before .before .loop .inv .2)
+    (arith, every-below (nOf (c .before .before .before .before .before .before .before .before .args .j)) (c .before .before .before .before .before .before .before .before .args .members .now) (c .before .before .before .before .before .before .before .before .pre .3) (c .before .before .before .before .loop .i) (omega arith), c .before .before .before .before .before .before .before .before .pre .2, c .before .before .before .before .loop .inv .2)
 
 add-i : tie.Need-add-i Inv-loop μ-loop
 add-i c = search needs
@@ -60,7 +61,7 @@ loop-less c = search needs
 loop-again : tie.Need-loop-again Inv-loop μ-loop
 loop-again c = let l = c .before .before .before .loop in
     let y = getD (c .before .before .before .before .before .before .before .args .members .now) (l .i) 0 in
-    let below : y < nOf (c .before .before .before .before .before .before .before .args .j) = every-at (nOf (c .before .before .before .before .before .before .before .args .j)) (c .before .before .before .before .before .before .before .args .members .now) (c .before .before .before .before .before .before .before .pre .3) (c .before .before .before .loop .i) (omega arith) in
+    let below : y < nOf (c .before .before .before .before .before .before .before .args .j) = every-below (nOf (c .before .before .before .before .before .before .before .args .j)) (c .before .before .before .before .before .before .before .args .members .now) (c .before .before .before .before .before .before .before .pre .3) (c .before .before .before .loop .i) (omega arith) in
     let sized = symAt-full (c .before .before .before .before .before .before .before .args .tree .now) (c .before .before .before .before .before .before .before .args .j) (c .before .before .before .before .before .before .before .args .base) (c .before .before .before .before .before .before .before .pre .1) (c .before .before .before .before .before .before .before .pre .2) y below in
     ⊎-elim
     (λ w.
