@@ -1,0 +1,4 @@
+pub mod WayLaws
+pub mod GivenLaws
+pub mod HeadLaws
+pub mod RuledLaws

@@ -1,0 +1,117 @@
+-- The tests after the head's, one by one.
+use mathlib.Core.Path.{_≡_, sym, ap, ap₂, _∙_}
+use mathlib.Core.Bool.{Bool, true, false, not}
+use mathlib.Core.List.{List}
+use Prim.Native.Nat.{ℕ, suc, _+_, _-_, _*_, _≤_, _<_}
+use native.Mathlib.Omega.{arith}
+use native.Mathlib.Nat.{mul-le-mul-right}
+use lib.ListN.{length, drop}
+use lib.Dec.{ltb, eqb}
+use borrow.Author.Tests.{ltb-true, eq-eqb, ne-eqb}
+use Rattle.octets.specs.Choice.{pick}
+use Rattle.octets.specs.ByteLists.{same}
+use Rattle.octets.proofs.Choice.{pick-yes, pick-no}
+use Rattle.symbol_hash.specs.SymbolHash.{symbolHash}
+use Rattle.symbol_hash.specs.declared.Way.{Way}
+use Rattle.symbol_hash.specs.declared.Way.the-variants.{Leads, Breaks}
+use Rattle.symbol_hash.specs.Ways.{climbOf}
+use Rattle.parity_table.specs.Shape.{nOf}
+use Rattle.model.specs.Shape.{tree}
+use Rattle.model.specs.Symbols.{others}
+use Rattle.model.specs.Climb.{Climb}
+use Rattle.model.specs.Fault.{proofLength, body, givenXor, afterGiven, accepted, wrongLength, broken, noFault, firstBreak, ruling, pathHash, givenCheck, pathCheck}
+use Rattle.model.proofs.Counts.{isIt, count-le, every-member, length-others}
+use Rattle.fault_proof.specs.Lent.{Withheld}
+use Rattle.fault_proof.specs.Ruled.{ruled}
+use Rattle.fault_proof.proofs.GivenLaws.{after-at}
+
+module _ (root : List ℕ) (j x : ℕ) (ms b : List ℕ) (k : Withheld j x ms) where
+  -- ---- numbers
+
+  pub some-member : 1 ≤ length ms
+  some-member = omega (arith, k .once, count-le (isIt x) ms)
+
+  pub withheld-below : x < tree .n j
+  withheld-below = ltb-true x (nOf j) (every-member (λ y. ltb y (nOf j)) x ms (k .inside) (omega (arith, k .once)))
+
+  -- the length is computed with no loss
+  pub few-bytes : (length ms - 1) * (j + 1) ≤ 7 * (j + 1)
+  few-bytes = mul-le-mul-right {m = length ms - 1} {n = 7} (j + 1) (omega (arith, k .few))
+
+  given-many : length (others x ms) ≡ length ms - 1
+  given-many = omega (arith, k .once, length-others x ms)
+
+  -- ---- the length
+
+  pub other-length : (length b ≡ 12 + 256 * ((length ms - 1) * (j + 1) + j) → ⊥) → wrongLength ≡ ruled root j x ms b
+  unfolding ruled proofLength
+  other-length n =
+      let ne : length b ≡ 12 + 256 * ((length ms - 1) * suc j + j) → ⊥ = λ e. n (omega arith) in
+      sym (pick-yes (not (eqb (length b) (12 + 256 * ((length ms - 1) * suc j + j)))) wrongLength _ (ap not (ne-eqb _ _ ne)))
+
+  module _ (e : length b ≡ 12 + 256 * ((length ms - 1) * (j + 1) + j)) where
+    same-product : length (others x ms) * suc j ≡ (length ms - 1) * suc j
+    same-product = ap (λ n. n * suc j) given-many
+
+    -- where the withheld member's path starts
+    pub path-starts : length b - 256 * j ≡ 12 + 256 * (length (others x ms) * suc j)
+    path-starts = omega (arith, e, same-product)
+
+    pub given-room : 12 + 256 * (length (others x ms) * suc j) ≤ length b
+    given-room = omega (arith, e, same-product)
+
+    pub path-room : length b - 256 * j + 256 * j ≤ length b
+    path-room = omega (arith, e)
+
+    path-there : afterGiven j (others x ms) (body b) ≡ drop (length b - 256 * j) b
+    unfolding body
+    path-there = after-at b j (others x ms) 12 ∙ ap (λ o. drop o b) (sym path-starts)
+
+    -- ---- the hashes
+
+    abbrev given : Climb
+    given = givenCheck tree symbolHash root j (others x ms) (drop 12 b)
+
+    abbrev path : Climb
+    path = pathCheck tree symbolHash root j x (drop (length b - 256 * j) b)
+
+    abbrev fit : Bool
+    fit = same (symbolHash j x (givenXor j (others x ms) (drop 12 b))) (pathHash tree root j x (drop (length b - 256 * j) b))
+
+    by-length : ruled root j x ms b ≡ ruling (firstBreak given path) fit
+    unfolding ruled proofLength body
+    by-length =
+        let q : length b ≡ 12 + 256 * ((length ms - 1) * suc j + j) = omega arith in
+        pick-no (not (eqb (length b) (12 + 256 * ((length ms - 1) * suc j + j)))) wrongLength _ (ap not (eq-eqb _ _ q))
+        ∙ ap (λ c. ruling (firstBreak given (pathCheck tree symbolHash root j x c)) (same (symbolHash j x (givenXor j (others x ms) (drop 12 b))) (pathHash tree root j x c))) path-there
+
+    -- g, what the check of the given members finds
+    module _ (g : Way) (eg : climbOf g ≡ given) where
+      pub given-broken : (l : ℕ) → g ≡ Breaks l → broken l ≡ ruled root j x ms b
+      unfolding ruling firstBreak
+      given-broken l tg = ap (λ c. ruling (firstBreak c path) fit) (ap climbOf (sym tg) ∙ eg) ∙ sym by-length
+
+      -- p, what the check of the path finds
+      module _ (tg : g ≡ Leads) (p : Way) (ep : climbOf p ≡ path) where
+        by-path : ruling (climbOf p) fit ≡ ruled root j x ms b
+        unfolding firstBreak
+        by-path = ap₂ (λ c d. ruling (firstBreak c d) fit) (ap climbOf (sym tg) ∙ eg) ep ∙ sym by-length
+
+        pub path-broken : (l : ℕ) → p ≡ Breaks l → broken l ≡ ruled root j x ms b
+        unfolding ruling
+        path-broken l tp = ap (λ q. ruling (climbOf q) fit) (sym tp) ∙ by-path
+
+        -- s, the exclusive-or of the given members, and whether its hash is the committed one
+        module _ (tp : p ≡ Leads) (s : List ℕ) (es : s ≡ givenXor j (others x ms) (drop 12 b)) (f : Bool)
+            (ef : f ≡ same (symbolHash j x s) (pathHash tree root j x (drop (length b - 256 * j) b))) where
+          by-fit : pick f noFault accepted ≡ ruled root j x ms b
+          unfolding ruling
+          by-fit =
+              ap (λ t. pick t noFault accepted) (ef ∙ ap (λ q. same (symbolHash j x q) (pathHash tree root j x (drop (length b - 256 * j) b))) es)
+              ∙ ap (λ q. ruling (climbOf q) fit) (sym tp) ∙ by-path
+
+          pub no-fault : f ≡ true → noFault ≡ ruled root j x ms b
+          no-fault t = sym (pick-yes f noFault accepted t) ∙ by-fit
+
+          pub fault-shown : f ≡ false → accepted ≡ ruled root j x ms b
+          fault-shown t = sym (pick-no f noFault accepted t) ∙ by-fit

@@ -1,0 +1,104 @@
+-- `check` meets its contract. The loop keeps `Led`: the members before i lead to the root, and those left stand from byte from on.
+use mathlib.Core.Path.{_≡_, refl}
+use mathlib.Core.Logic.{⊎-elim}
+use Prim.Native.Nat.{_-_, _≤_}
+use native.Mathlib.Omega.{arith}
+use lib.ListN.{length}
+use borrow.Author.Needs.{needs}
+use Rattle.model.specs.Shape.{tree}
+use Rattle.model.proofs.Members.{every-below}
+use Rattle.fault_proof.proofs.GivenLaws.{Led, led-start, led-skip, way-room, led-on, led-off, led-end}
+use Rattle.fault_proof.proofs.given.check.Statement.{statement}
+use Rattle.fault_proof.proofs.given.check.Tie as tie
+
+abbrev Inv-loop : tie.InvT-loop
+Inv-loop j members x root b at from₀ i₀ i-end from i = (i ≤ i-end) × (i-end ≡ length members) × Led b members j x root at i from
+
+abbrev μ-loop : tie.MeasureT-loop
+μ-loop j members x root b at from₀ i₀ i-end from i = i-end - i
+
+loop-holds : tie.Need-loop-holds Inv-loop μ-loop
+loop-holds c =
+    let a = c .before .before .before .args in
+    let pre = c .before .before .before .pre in
+    (omega arith, refl, led-start (a .b .now) (a .members .now) (a .j) (a .x) (a .root .now) (a .at) (pre .3))
+
+mul-y : tie.Need-mul-y Inv-loop μ-loop
+mul-y c = omega arith
+
+shared-slice-read-y : tie.Need-shared-slice-read-y Inv-loop μ-loop
+shared-slice-read-y c = omega arith
+
+cast-y : tie.Need-cast-y Inv-loop μ-loop
+cast-y c = omega (arith, c .shared-slice-known4 .given (c .before .before .loop .i))
+
+check-requires : tie.Need-check-requires Inv-loop μ-loop
+check-requires c κs =
+    let a = c .before .before .before .before .before .before .before .args in
+    let pre = c .before .before .before .before .before .before .before .pre in
+    let l = c .before .before .before .loop in
+    (pre .0, every-below (tree .n (a .j)) (a .members .now) (pre .1) (l .i) (omega arith), pre .2, way-room (a .b .now) (a .members .now) (a .j) (a .x) (l .i) (omega arith) (c .if1 .taken) (l .from) (l .inv .2 .room))
+
+enum-known-l : tie.Need-enum-known-l Inv-loop μ-loop
+enum-known-l c = search needs
+
+returns : tie.Need-returns Inv-loop μ-loop
+returns c =
+    let a = c .before .before .before .before .before .before .before .before .before .before .before .args in
+    let l = c .before .before .before .before .before .before .before .loop in
+    led-off (a .b .now) (a .members .now) (a .j) (a .x) (l .i) (omega arith) (c .before .before .before .before .if1 .taken) (l .from) (a .root .now) (a .at) _ (c .before .before .before .check .result) (c .before .before .before .check .ensures) (c .before .l .given .1) (l .inv .2)
+
+enum-told : tie.Need-enum-told Inv-loop μ-loop
+enum-told c = search needs
+
+add-from : tie.Need-add-from Inv-loop μ-loop
+add-from c = omega arith
+
+mul-from : tie.Need-mul-from Inv-loop μ-loop
+mul-from c = omega arith
+
+add-from-2 : tie.Need-add-from-2 Inv-loop μ-loop
+add-from-2 c = omega arith
+
+add-i : tie.Need-add-i Inv-loop μ-loop
+add-i c = omega arith
+
+loop-less : tie.Need-loop-less Inv-loop μ-loop
+loop-less c = omega arith
+
+loop-again : tie.Need-loop-again Inv-loop μ-loop
+loop-again c =
+    let a = c .before .before .before .before .before .before .before .args in
+    let l = c .before .before .before .loop in
+    ⊎-elim
+    (λ w. (omega arith, refl, led-on (a .b .now) (a .members .now) (a .j) (a .x) (l .i) (omega arith) (w .0 .taken) (l .from) (a .root .now) (a .at) (c .if1 .from) (w .1 .result) (w .4) (w .1 .ensures) (w .3 .given .1) (l .inv .2)))
+    (λ w. (omega arith, refl, rw (w .1) (led-skip (a .b .now) (a .members .now) (a .j) (a .x) (l .i) (omega arith) (w .0 .left) (a .root .now) (a .at) (l .from) (l .inv .2))))
+    (c .if1 .came)
+
+returns-2 : tie.Need-returns-2 Inv-loop μ-loop
+returns-2 c =
+    let a = c .before .before .before .before .before .args in
+    let l = c .before .loop in
+    led-end (a .b .now) (a .members .now) (a .j) (a .x) (a .root .now) (a .at) (l .i) (l .from) (omega arith) (l .inv .2)
+
+pub check-spec : {M : Type 1} → statement M
+check-spec =
+    tie.close
+    (tie.spec
+    Inv-loop
+    μ-loop
+    loop-holds
+    mul-y
+    shared-slice-read-y
+    cast-y
+    check-requires
+    enum-known-l
+    returns
+    enum-told
+    add-from
+    mul-from
+    add-from-2
+    add-i
+    loop-less
+    loop-again
+    returns-2)

@@ -1,0 +1,3 @@
+pub mod Verdicts
+pub mod Lent
+pub mod Ruled
