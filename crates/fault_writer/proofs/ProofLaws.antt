@@ -1,0 +1,160 @@
+-- A fault proof written part by part: head, given members, path.
+use mathlib.Core.Bool.{true}
+use mathlib.Core.List.{List, [], _++_, _∷_}
+use mathlib.Core.Path.{_∙_, _≡_, ap, ap₂, refl, sym}
+use Prim.Native.Nat.{_*_, _+_, _<_, _≤_, suc, ℕ}
+use native.Mathlib.Nat.{mul-le-mul-right, suc-mul}
+use native.Mathlib.Omega.{arith}
+use lib.Dec.{ltb}
+use lib.ListN.{drop, getD, length, length-append}
+use lib.Seq.{sets}
+use borrow.Author.Tests.{ltb-true}
+use Rattle.fault_writer.proofs.Splices.{length-splice, splice-more, splice-none, splice-over, stored}
+use Rattle.fault_writer.proofs.WayLaws.{path-long, way-length}
+use Rattle.fault_writer.specs.Room.{Layers, head, splice}
+use Rattle.model.proofs.Counts.{every-others, isIt, length-others}
+use Rattle.model.proofs.Frame.{room}
+use Rattle.model.proofs.Members.{others-end, others-skip, others-take}
+use Rattle.model.specs.Fault.{givenBytes, pathBytes, proofBytes, wayBytes}
+use Rattle.model.specs.Shape.{tree}
+use Rattle.model.specs.Symbols.{count, others, symAt}
+use Rattle.octets.proofs.Choice.{and-yes}
+use Rattle.octets.specs.BigEndian.{be}
+use Rattle.parity_table.specs.Members.{every}
+use Rattle.parity_table.specs.Parse.{over}
+use Rattle.parity_table.specs.Table.{word}
+
+-- ---- the head
+
+pub head-put : (j e x : ℕ) (out a b c : List ℕ) → 12 ≤ length out → a ≡ sets out 0 (be 4 (1073741824 + j)) → b ≡ sets a 4 (be 4 (2147483648 + e))
+    → c ≡ sets b 8 (be 4 (3221225472 + x)) → c ≡ splice out 0 (head j e x)
+unfolding be
+head-put j e x out a b c room ea eb ec =
+    let u : List ℕ = be 4 (word 1 j) in
+    let v : List ℕ = be 4 (word 2 e) in
+    let w : List ℕ = be 4 (word 3 x) in
+    let a₁ : a ≡ splice out 0 u = ea ∙ stored out 0 u (omega arith) in
+    let la : length a ≡ length out = ap length a₁ ∙ length-splice out 0 u (omega arith) in
+    let b₁ : b ≡ splice out 0 (u ++ v) = eb ∙ stored a 4 v (omega arith) ∙ ap (λ (l : List ℕ). splice l 4 v) a₁ ∙ splice-more out 0 u (omega arith) v in
+    let lb : length b ≡ length out = ap length b₁ ∙ length-splice out 0 (u ++ v) (omega arith) in
+    ec ∙ stored b 8 w (omega arith) ∙ ap (λ (l : List ℕ). splice l 8 w) b₁ ∙ splice-more out 0 (u ++ v) (omega arith) w
+
+-- ---- the given members
+
+module _ (t : List ℕ) (ms : List ℕ) (x j : ℕ) where
+  -- what is left to write from member i on
+  abbrev left : ℕ → List ℕ
+  left i = givenBytes tree (symAt tree t) j (others x (drop i ms))
+
+  -- member i is next, at byte p
+  pub record GivenAt (at : ℕ) (out₀ : List ℕ) (i p : ℕ) (out : List ℕ) : Type 0 where
+    pub sized : length out ≡ length out₀
+    pub spot : p + length (givenBytes tree (symAt tree t) j (others x (drop i ms))) ≡ at + length (givenBytes tree (symAt tree t) j (others x ms))
+    pub rest : splice out p (givenBytes tree (symAt tree t) j (others x (drop i ms))) ≡ splice out₀ at (givenBytes tree (symAt tree t) j (others x ms))
+
+  module _ (at : ℕ) (out₀ : List ℕ) where
+    pub given-start : GivenAt at out₀ 0 at out₀
+    given-start = record { sized = refl; spot = refl; rest = refl }
+
+    module _ (k : Layers j t) (room : at + length (left 0) ≤ length out₀) (i p : ℕ) (out : List ℕ) (g : GivenAt at out₀ i p out) (h : i < length ms) where
+      pub given-skip : getD ms i 0 ≡ x → GivenAt at out₀ (i + 1) p out
+      given-skip e =
+          let q : left i ≡ left (i + 1) = ap (givenBytes tree (symAt tree t) j) (others-skip x ms i h e) in
+          record { sized = g .sized; spot = ap (λ (l : List ℕ). p + length l) (sym q) ∙ g .spot; rest = ap (splice out p) (sym q) ∙ g .rest }
+
+      module _ (ne : getD ms i 0 ≡ x → ⊥) (below : getD ms i 0 < tree .n j) where
+        way : List ℕ
+        way = wayBytes tree (symAt tree t) j (getD ms i 0)
+
+        left-take : left i ≡ way ++ left (i + 1)
+        unfolding givenBytes way
+        left-take = ap (givenBytes tree (symAt tree t) j) (others-take x ms i h ne)
+
+        long : length way ≡ 256 * suc j
+        unfolding way
+        long = way-length t j (getD ms i 0) k below
+
+        sum : length (left i) ≡ 256 * suc j + length (left (i + 1))
+        sum = ap length left-take ∙ length-append way (left (i + 1)) ∙ ap (λ (n : ℕ). n + length (left (i + 1))) long
+
+        pub given-room : p + 256 * suc j ≤ length out
+        given-room = omega (arith, sum, g .spot, g .sized, room)
+
+        pub given-turn : (out′ : List ℕ) (p′ : ℕ) → length out′ ≡ length out → out′ ≡ splice out p (wayBytes tree (symAt tree t) j (getD ms i 0)) → p′ ≡ p + 256 * suc j → GivenAt at out₀ (i + 1) p′ out′
+        unfolding way
+        given-turn out′ p′ lo e ep =
+            let q : p′ ≡ p + length way = ep ∙ ap (λ (n : ℕ). p + n) (sym long) in
+            record {
+              sized = lo ∙ g .sized;
+              spot = omega (arith, sum, g .spot);
+              rest =
+                  ap₂ (λ (o : List ℕ) (n : ℕ). splice o n (left (i + 1))) e q
+                  ∙ splice-more out p way (omega (arith, long, given-room)) (left (i + 1))
+                  ∙ ap (splice out p) (sym left-take)
+                  ∙ g .rest;
+            }
+
+    module _ (i p : ℕ) (out : List ℕ) (g : GivenAt at out₀ i p out) (h : length ms ≤ i) where
+      none-left : left i ≡ []
+      unfolding givenBytes
+      none-left = ap (givenBytes tree (symAt tree t) j) (others-end x ms i h)
+
+      pub given-ends : p ≡ at + length (left 0)
+      given-ends = omega (arith, ap length none-left, g .spot)
+
+      pub given-written : out ≡ splice out₀ at (left 0)
+      given-written = sym (splice-none out p) ∙ ap (splice out p) (sym none-left) ∙ g .rest
+
+-- ---- the whole
+
+module _ (t ms : List ℕ) (j e x : ℕ) (k : Layers j t) where
+  -- its given members, and the withheld member's path
+  abbrev given : List ℕ
+  given = givenBytes tree (symAt tree t) j (others x ms)
+
+  abbrev path : List ℕ
+  path = pathBytes tree (symAt tree t) j x
+
+  proof-is : proofBytes tree (symAt tree t) j e x ms ≡ head j e x ++ (given ++ path)
+  unfolding proofBytes be
+  proof-is = refl
+
+  pub proof-length : length (proofBytes tree (symAt tree t) j e x ms) ≡ 12 + length given + 256 * j
+  unfolding be
+  proof-length = ap length proof-is ∙ omega (arith, length-append given path, path-long t j k j x (omega arith))
+
+  pub proof-put : (out a b w : List ℕ) (p : ℕ) → 12 + length given + 256 * j ≤ length out → length a ≡ length out → a ≡ splice out 0 (head j e x)
+      → b ≡ splice a 12 given → p ≡ 12 + length given → w ≡ splice b p path → w ≡ over (proofBytes tree (symAt tree t) j e x ms) out
+  unfolding be
+  proof-put out a b w p room la ea eb ep ew =
+      ew ∙ ap₂ (λ (o : List ℕ) (n : ℕ). splice o n path) eb ep ∙ splice-more a 12 given (omega arith) path
+      ∙ ap (λ (o : List ℕ). splice o 12 (given ++ path)) ea
+      ∙ splice-more out 0 (head j e x) (omega arith) (given ++ path)
+      ∙ splice-over (head j e x ++ (given ++ path)) out
+      ∙ ap (λ (q : List ℕ). over q out) (sym proof-is)
+
+-- ---- its room: at most seven given members
+
+module _ (t ms : List ℕ) (j e x : ℕ) (k : Layers j t) where
+  given-length : (ys : List ℕ) → every (λ y. ltb y (tree .n j)) ys ≡ true → length (givenBytes tree (symAt tree t) j ys) ≡ length ys * (256 * suc j)
+  unfolding every givenBytes
+  given-length [] a = omega arith
+  given-length (y ∷ ys) a =
+      let (p, q) = and-yes (ltb y (tree .n j)) (every (λ z. ltb z (tree .n j)) ys) a in
+      omega (
+        arith,
+        suc-mul (length ys) (256 * suc j),
+        given-length ys q,
+        way-length t j y k (ltb-true y (tree .n j) p),
+        length-append (wayBytes tree (symAt tree t) j y) (givenBytes tree (symAt tree t) j ys),
+      )
+
+  pub proof-fits : length ms ≤ 8 → every (λ y. ltb y (tree .n j)) ms ≡ true → 1 ≤ count (isIt x) ms → length (proofBytes tree (symAt tree t) j e x ms) ≤ 12 + 256 * (8 * j + 7)
+  proof-fits few a c =
+      let l : length (others x ms) ≤ 7 = omega (arith, length-others x ms) in
+      omega (
+        arith,
+        proof-length t ms j e x k,
+        given-length (others x ms) (every-others (λ y. ltb y (tree .n j)) x ms a),
+        mul-le-mul-right {m = length (others x ms)} {n = 7} (256 * suc j) l,
+      )

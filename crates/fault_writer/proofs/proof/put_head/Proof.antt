@@ -1,0 +1,56 @@
+-- `put_head` meets its contract: three words, one after the other.
+use borrow.Author.Needs.{needs}
+use Rattle.fault_writer.proofs.ProofLaws.{head-put}
+use Rattle.fault_writer.proofs.proof.put_head.Statement.{statement}
+use Rattle.fault_writer.proofs.proof.put_head.Tie as tie
+
+cast-put-word : tie.Need-cast-put-word
+cast-put-word c = search needs
+
+add-put-word : tie.Need-add-put-word
+add-put-word c = search needs
+
+put-word-requires : tie.Need-put-word-requires
+put-word-requires c κs = search needs
+
+cast-put-word-2 : tie.Need-cast-put-word-2
+cast-put-word-2 c = search needs
+
+add-put-word-2 : tie.Need-add-put-word-2
+add-put-word-2 c = search needs
+
+put-word-requires-2 : tie.Need-put-word-requires-2
+put-word-requires-2 c κs = search needs
+
+cast-put-word-3 : tie.Need-cast-put-word-3
+cast-put-word-3 c = search needs
+
+add-put-word-3 : tie.Need-add-put-word-3
+add-put-word-3 c = search needs
+
+put-word-requires-3 : tie.Need-put-word-requires-3
+put-word-requires-3 c κs = search needs
+
+same-length : tie.Need-same-length
+same-length c = search needs
+
+returns : tie.Need-returns
+returns c =
+    let s = c .before .before .before .before .before .before .before .before .before .before .before .before .before in
+    head-put (s .args .j) (s .args .e) (s .args .x) (s .args .out .now) _ _ _ (s .pre .3) (c .before .before .before .before .before .before .before .before .before .before .put-word .ensures) (c .before .before .before .before .before .before .put-word2 .ensures) (c .before .before .put-word3 .ensures)
+
+pub put-head-spec : {M : Type 1} → statement M
+put-head-spec =
+    tie.close
+    (tie.spec
+    cast-put-word
+    add-put-word
+    put-word-requires
+    cast-put-word-2
+    add-put-word-2
+    put-word-requires-2
+    cast-put-word-3
+    add-put-word-3
+    put-word-requires-3
+    same-length
+    returns)

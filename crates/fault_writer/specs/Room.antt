@@ -1,0 +1,22 @@
+-- What is written into the output buffer, and what the writers ask of the tree buffer. Definitions only.
+use mathlib.Core.List.{List, _++_}
+use Prim.Native.Nat.{ℕ, suc, _*_, _≤_, _<_}
+use lib.ListN.{length}
+use lib.Seq.{paste}
+use Rattle.octets.specs.BigEndian.{be}
+use Rattle.parity_table.specs.Shape.{maxDepth}
+use Rattle.parity_table.specs.Table.{word}
+use Rattle.model.specs.Shape.{tree, places}
+
+-- out with p in its place from byte at on
+abbrev pub splice : List ℕ → ℕ → List ℕ → List ℕ
+splice out at p = paste out at p (length p)
+
+-- the tree buffer t has the layers from the top to layer j
+pub record Layers (j : ℕ) (t : List ℕ) : Type 0 where
+  pub layer : j < maxDepth
+  pub room : 256 * places tree (suc j) ≤ length t
+
+-- the three words of a proof's head
+abbrev pub head : ℕ → ℕ → ℕ → List ℕ
+head j e x = be 4 (word 1 j) ++ (be 4 (word 2 e) ++ be 4 (word 3 x))

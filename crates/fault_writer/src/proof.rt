@@ -1,0 +1,68 @@
+// The whole fault proof: its head, the given members with their paths, and the withheld member's path.
+use crate::way::put_path;
+use crate::way::put_way;
+use parity_table::END;
+use parity_table::EQUATION;
+use parity_table::LAYER;
+ghost use mathlib.Core.Path.{_≡_};
+ghost use mathlib.Core.Bool.{true};
+ghost use Prim.Native.Nat.{_+_, _^_, _≤_, _<_};
+ghost use lib.ListN.{length};
+ghost use lib.Dec.{ltb};
+ghost use Rattle.parity_table.specs.Members.{every};
+ghost use Rattle.parity_table.specs.Parse.{over};
+ghost use Rattle.model.specs.Shape.{tree as shape};
+ghost use Rattle.model.specs.Symbols.{others, symAt};
+ghost use Rattle.model.specs.Fault.{givenBytes, proofBytes};
+ghost use Rattle.fault_writer.specs.Room.{splice, Layers, head};
+
+// The members other than x, each with its path; where they end.
+fn put_given(tree: &[u8], members: &[u32], x: usize, j: usize, out: &mut [u8], at: usize) -> usize
+    requires { ⌜ Layers j (now tree) × (every (λ y. ltb y (shape .n j)) (now members) ≡ true)
+        × (at + length (givenBytes shape (symAt shape (now tree)) j (others x (now members))) ≤ length (now out)) ⌝ }
+    ensures { λ r.
+        ⌜ (r ≡ at + length (givenBytes shape (symAt shape (now (tree .entry))) j (others x (now (members .entry)))))
+        × (now (out .exit)
+        ≡ splice (now (out .entry)) at (givenBytes shape (symAt shape (now (tree .entry))) j (others x (now (members .entry))))) ⌝ }
+{
+    let mut p = at;
+    for i in 0..members.len() {
+        let y = members[i] as usize;
+        if y != x {
+            put_way(tree, j, y, out, p);
+            p += 256 * (j + 1);
+        }
+    }
+    p
+}
+
+// The head: "kind 01 with the layer j, 10 with the equation, 11 with the withheld member's number".
+fn put_head(j: usize, e: usize, x: usize, out: &mut [u8])
+    requires { ⌜ (j < 2 ^ 30) × (e < 2 ^ 30) × (x < 2 ^ 30) × (12 ≤ length (now out)) ⌝ }
+    ensures { λ r. ⌜ now (out .exit) ≡ splice (now (out .entry)) 0 (head j e x) ⌝ }
+{
+    octets::put_word(out, 0, LAYER + j as u32);
+    octets::put_word(out, 4, EQUATION + e as u32);
+    octets::put_word(out, 8, END + x as u32);
+}
+
+// Writes the fault proof of equation e of layer j, which has these members, withholding x, from the start of out; its length.
+pub fn put_proof(
+    tree: &[u8],
+    members: &[u32],
+    j: usize,
+    e: usize,
+    x: usize,
+    out: &mut [u8],
+) -> usize
+    requires { ⌜ Layers j (now tree) × (every (λ y. ltb y (shape .n j)) (now members) ≡ true) × (e < 2 ^ 30) × (x < 2 ^ 30)
+        × (length (proofBytes shape (symAt shape (now tree)) j e x (now members)) ≤ length (now out)) ⌝ }
+    ensures { λ r.
+        ⌜ (r ≡ length (proofBytes shape (symAt shape (now (tree .entry))) j e x (now (members .entry))))
+        × (now (out .exit) ≡ over (proofBytes shape (symAt shape (now (tree .entry))) j e x (now (members .entry))) (now (out .entry))) ⌝ }
+{
+    put_head(j, e, x, out);
+    let p = put_given(tree, members, x, j, out, 12);
+    put_path(tree, j, x, out, p);
+    p + 256 * j
+}
