@@ -1,0 +1,5 @@
+pub mod MarkLaws
+pub mod SweepLaws
+pub mod TurnLaws
+pub mod FirstLaws
+pub mod PeelLaws

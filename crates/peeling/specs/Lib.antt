@@ -1,0 +1,4 @@
+pub mod States
+pub mod Rooms
+pub mod Turns
+pub mod Firsts
