@@ -1,0 +1,122 @@
+-- `repair` meets its contract. The loop keeps: the layers from j on give what all of them give.
+use mathlib.Core.Path.{_∙_, _≡_, refl}
+use Prim.Native.Nat.{_+_, _-_, _≤_}
+use native.Mathlib.Omega.{arith}
+use lib.ListN.{length}
+use borrow.Author.Needs.{needs}
+use Rattle.model.specs.Shape.{tree}
+use Rattle.octets.specs.BigEndian.{words}
+use Rattle.parity_table.proofs.Accepts.{accepted-depth}
+use Rattle.parity_table.specs.Parse.{equationsAbove, tableOf}
+use Rattle.repair.proofs.LayerLaws.{given-keep}
+use Rattle.repair.proofs.RepairLaws.{Deep, deep-end, deep-on, deep-start, deep-stop, depth-is, stored-below, stored-on, stored-small, stored-start}
+use Rattle.repair.proofs.repair.Statement.{statement}
+use Rattle.repair.proofs.repair.Tie as tie
+
+abbrev Inv-loop : tie.InvT-loop
+Inv-loop depth words starts root tree₀ marks₀ out₀ stored₀ j₀ tree marks out stored j =
+    (j ≤ depth) × (length tree ≡ length tree₀) × (length marks ≡ length marks₀) × (length out ≡ length out₀) × (stored ≤ equationsAbove j) × Deep root (tableOf words) tree₀ marks₀ out₀ j tree marks out stored
+
+abbrev μ-loop : tie.MeasureT-loop
+μ-loop depth words starts root tree₀ marks₀ out₀ stored₀ j₀ tree marks out stored j = depth - j
+
+loop-holds : tie.Need-loop-holds Inv-loop μ-loop
+loop-holds c =
+    let s = c .before .before .before .before .before .before in
+    (omega arith, refl, refl, refl, stored-start, deep-start (s .args .root .now) (tableOf (s .args .words .now)) (s .args .tree .now) (s .args .marks .now) (s .args .out .now))
+
+repair-layer-requires : tie.Need-repair-layer-requires Inv-loop μ-loop
+repair-layer-requires c κs =
+    let s = c .before .before .before .before .before .before .before .before .before .before .before in
+    let i = c .before .before .before .before .loop .inv in
+    let d = accepted-depth (s .args .depth) (s .args .words .now) (s .pre .indexed .accepted) .1 in (
+      given-keep (s .args .depth) (s .args .words .now) (s .args .starts .now) (s .args .root .now) (s .args .tree .now) (s .args .marks .now) (s .args .out .now) _ _ _ (i .1) (i .2) (i .3) (s .pre),
+      c .before .before .before .loop-test .taken,
+      omega (arith, stored-small (c .before .before .before .before .loop .j) (omega (arith, d, i .0)), i .4),
+    )
+
+enum-known-passage : tie.Need-enum-known-passage Inv-loop μ-loop
+enum-known-passage c = search needs
+
+same-length : tie.Need-same-length Inv-loop μ-loop
+same-length c =
+    c .before .before .before .before .before .before .before .before .before .repair-layer .kept .1 .1 .1 .1 .0 ∙ c .before .before .before .before .before .before .before .before .before .before .before .before .before .before .loop .inv .1
+
+same-length-2 : tie.Need-same-length-2 Inv-loop μ-loop
+same-length-2 c =
+    c .before .before .before .before .before .before .before .before .before .repair-layer .kept .1 .1 .1 .1 .1 .0 ∙ c .before .before .before .before .before .before .before .before .before .before .before .before .before .before .loop .inv .2
+
+same-length-3 : tie.Need-same-length-3 Inv-loop μ-loop
+same-length-3 c =
+    c .before .before .before .before .before .before .before .before .before .repair-layer .kept .1 .1 .1 .1 .1 .1 .0 ∙ c .before .before .before .before .before .before .before .before .before .before .before .before .before .before .loop .inv .3
+
+returns : tie.Need-returns Inv-loop μ-loop
+returns c =
+    let s = c .before .before .before .before .before .before .before .before .before .before .before .before .before .before .before .before .before .before .before .before .before in
+    let l = c .before .before .before .before .before .before .before .before .before .before .before .before .before .before .loop in
+    let h = depth-is (s .args .depth) (s .args .words .now) (s .pre .indexed .accepted) in (
+      deep-stop (s .args .root .now) (tableOf (s .args .words .now)) (s .args .tree .now) (s .args .marks .now) (s .args .out .now) (l .j) (omega (arith, h, c .before .before .before .before .before .before .before .before .before .before .before .before .before .loop-test .taken)) (l .tree) (l .marks) (l .out) (l .stored) (l .inv .5) _ _ _ _ _ (c .before .before .before .before .before .before .before .before .before .repair-layer .ensures .0) _ (c .before .passage .given .1),
+      stored-below (l .j + 1) (s .args .depth) _ (omega (arith, c .before .before .before .before .before .before .before .before .before .before .before .before .before .loop-test .taken)) (stored-on (l .j) (l .stored) _ (l .inv .4) (c .before .before .before .before .before .before .before .before .before .repair-layer .ensures .1)),
+    )
+
+enum-told : tie.Need-enum-told Inv-loop μ-loop
+enum-told c = search needs
+
+add-j : tie.Need-add-j Inv-loop μ-loop
+add-j c = omega (arith, c .before .before .before .before .before .before .before .before .before .before .before .before .loop-test .taken)
+
+loop-less : tie.Need-loop-less Inv-loop μ-loop
+loop-less c = omega (arith, c .before .before .before .before .before .before .before .before .before .before .before .before .loop-test .taken)
+
+loop-again : tie.Need-loop-again Inv-loop μ-loop
+loop-again c =
+    let s = c .before .before .before .before .before .before .before .before .before .before .before .before .before .before .before .before .before .before .before .before in
+    let l = c .before .before .before .before .before .before .before .before .before .before .before .before .before .loop in
+    let h = depth-is (s .args .depth) (s .args .words .now) (s .pre .indexed .accepted) in (
+      omega (arith, c .before .before .before .before .before .before .before .before .before .before .before .before .loop-test .taken),
+      c .before .before .before .before .before .before .before .before .repair-layer .kept .1 .1 .1 .1 .0 ∙ l .inv .1,
+      c .before .before .before .before .before .before .before .before .repair-layer .kept .1 .1 .1 .1 .1 .0 ∙ l .inv .2,
+      c .before .before .before .before .before .before .before .before .repair-layer .kept .1 .1 .1 .1 .1 .1 .0 ∙ l .inv .3,
+      stored-on (l .j) (l .stored) _ (l .inv .4) (c .before .before .before .before .before .before .before .before .repair-layer .ensures .1),
+      deep-on (s .args .root .now) (tableOf (s .args .words .now)) (s .args .tree .now) (s .args .marks .now) (s .args .out .now) (l .j) (omega (arith, h, c .before .before .before .before .before .before .before .before .before .before .before .before .loop-test .taken)) (l .tree) (l .marks) (l .out) (l .stored) (l .inv .5) _ _ _ _ _ (c .before .before .before .before .before .before .before .before .repair-layer .ensures .0) (c .enum-told .given .1),
+    )
+
+same-length-4 : tie.Need-same-length-4 Inv-loop μ-loop
+same-length-4 c = c .before .loop .inv .1
+
+same-length-5 : tie.Need-same-length-5 Inv-loop μ-loop
+same-length-5 c = c .before .loop .inv .2
+
+same-length-6 : tie.Need-same-length-6 Inv-loop μ-loop
+same-length-6 c = c .before .loop .inv .3
+
+returns-2 : tie.Need-returns-2 Inv-loop μ-loop
+returns-2 c =
+    let s = c .before .before .before .before .before .before .before .before in
+    let l = c .before .loop in
+    let h = depth-is (s .args .depth) (s .args .words .now) (s .pre .indexed .accepted) in (
+      deep-end (s .args .root .now) (tableOf (s .args .words .now)) (s .args .tree .now) (s .args .marks .now) (s .args .out .now) (l .j) (l .tree) (l .marks) (l .out) (l .stored) (omega (arith, h)) (l .inv .5),
+      stored-below (l .j) (s .args .depth) (l .stored) (l .inv .0) (l .inv .4),
+    )
+
+pub repair-spec : {M : Type 1} → statement M
+repair-spec =
+    tie.close
+    (tie.spec
+    Inv-loop
+    μ-loop
+    loop-holds
+    repair-layer-requires
+    enum-known-passage
+    same-length
+    same-length-2
+    same-length-3
+    returns
+    enum-told
+    add-j
+    loop-less
+    loop-again
+    same-length-4
+    same-length-5
+    same-length-6
+    returns-2)
