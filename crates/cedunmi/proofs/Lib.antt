@@ -2,4 +2,9 @@ pub mod MarkLaws
 pub mod SampleLaws
 pub mod VolumeLaws
 pub mod WriteLaws
+pub mod LoadLaws
+pub mod ProofLaws
+pub mod RepairLaws
 pub mod ValueLaws
+pub mod Sound
+pub mod Ends

@@ -1,31 +1,18 @@
--- The lowest number that passes a test, as loops meet it.
-use mathlib.Core.Path.{_≡_, refl, sym, ap, _∙_}
-use mathlib.Core.Bool.{Bool, true, false, not}
-use mathlib.Core.List.{List}
-use Prim.Native.Nat.{ℕ, zero, suc, _+_, _-_, _≤_, _<_}
+-- Marks that are neither 0 nor 1.
+use mathlib.Core.Bool.{false, true}
+use mathlib.Core.List.{List, [], _∷_}
+use mathlib.Core.Path.{_≡_, refl}
+use Prim.Native.Nat.{_<_, _≤_, suc, ℕ}
+use native.Mathlib.Decide.{decLt}
 use native.Mathlib.Omega.{arith}
-use native.Mathlib.Numerals.{add-one}
-use lib.ListN.{getD}
-use lib.Dec.{ltb, eqb}
-use borrow.Author.Tests.{lt-ltb, le-ltb, eq-eqb, ne-eqb}
-use Rattle.octets.proofs.Choice.{pick-yes, pick-no}
-use Rattle.model.specs.Symbols.{lowest}
-use Rattle.cedunmi.specs.Marks.{isBad, isAbsent}
-
-module _ (p : ℕ → Bool) (n i v : ℕ) (e : lowest p i (n - i) ≡ v) where
-  pub lowest-hit : i < n → p i ≡ true → i ≡ v
-  unfolding lowest
-  lowest-hit h t = let k : n - i ≡ suc (n - (i + 1)) = omega arith in sym (ap (lowest p i) k ∙ pick-yes (p i) _ _ t) ∙ e
-
-  pub lowest-pass : i < n → p i ≡ false → lowest p (i + 1) (n - (i + 1)) ≡ v
-  unfolding lowest
-  lowest-pass h t =
-      let k : n - i ≡ suc (n - (i + 1)) = omega arith in
-      sym (ap (lowest p i) k ∙ pick-no (p i) _ _ t ∙ ap (λ m. lowest p m (n - (i + 1))) (sym (add-one i))) ∙ e
-
-  pub lowest-none : i ≡ n → n ≡ v
-  unfolding lowest
-  lowest-none h = let k : n - i ≡ 0 = omega arith in sym h ∙ sym (ap (lowest p i) k) ∙ e
+use lib.Dec.{ltb}
+use lib.ListN.{getD, length}
+use borrow.Author.Tests.{le-ltb, lt-ltb, ltb-false, ltb-true}
+use Rattle.cedunmi.specs.Marks.{isBad, lowestBad}
+use Rattle.model.proofs.Counts.{lowest-is}
+use Rattle.model.proofs.Members.{every-below}
+use Rattle.octets.proofs.Choice.{yes-and}
+use Rattle.parity_table.specs.Members.{every}
 
 pub bad-yes : (m : List ℕ) (p : ℕ) → 1 < getD m p 0 → isBad m p ≡ true
 unfolding isBad
@@ -35,10 +22,24 @@ pub bad-no : (m : List ℕ) (p : ℕ) → getD m p 0 ≤ 1 → isBad m p ≡ fal
 unfolding isBad
 bad-no m p h = le-ltb 1 (getD m p 0) h
 
-pub absent-yes : (m : List ℕ) (b i : ℕ) → (getD m (b + i) 0 ≡ 1 → ⊥) → isAbsent m b i ≡ true
-unfolding isAbsent
-absent-yes m b i h = ap not (ne-eqb (getD m (b + i) 0) 1 h)
+-- ---- test 4 passes exactly where every mark is 0 or 1
 
-pub absent-no : (m : List ℕ) (b i : ℕ) → getD m (b + i) 0 ≡ 1 → isAbsent m b i ≡ false
-unfolding isAbsent
-absent-no m b i h = ap not (eq-eqb (getD m (b + i) 0) 1 h)
+every-low : (m : List ℕ) → ((p : ℕ) → p < length m → getD m p 0 < 2) → every (λ v. ltb v 2) m ≡ true
+unfolding every
+every-low [] h = refl
+every-low (v ∷ m) h = yes-and (lt-ltb v 2 (h 0 (omega arith))) (every-low m (λ p l. h (suc p) (omega arith)))
+
+pub passed-marks : (m : List ℕ) → length m ≤ lowestBad m → every (λ v. ltb v 2) m ≡ true
+unfolding isBad
+passed-marks m h =
+    every-low m
+    (λ p l. omega (arith, ltb-false 1 (getD m p 0) (lowest-is (isBad m) 0 (length m) .before p (omega arith) (omega arith))))
+
+pub marks-pass : (m : List ℕ) → every (λ v. ltb v 2) m ≡ true → length m ≤ lowestBad m
+unfolding isBad
+marks-pass m a =
+    let low = lowest-is (isBad m) 0 (length m) in
+    elim (decLt (lowestBad m) (length m)) [
+      yes h ↦ absurd (omega (arith, ltb-true 1 (getD m (lowestBad m) 0) (low .found (omega arith)), every-below 2 m a (lowestBad m) h))
+    | no h ↦ omega arith
+    ]

@@ -1,35 +1,40 @@
 -- The value that goes with an answer is at most 4,096, so that it has room beside the number.
-use mathlib.Core.Path.{_≡_, refl, sym, ap, _∙_, subst}
-use mathlib.Core.Bool.{Bool, true, false, _&&_}
+use mathlib.Core.Path.{_≡_, refl}
+use mathlib.Core.Bool.{true, _&&_}
 use mathlib.Core.List.{List}
-use Prim.Native.Nat.{ℕ, suc, _-_, _*_, _^_, _≤_, _<_}
+use Prim.Native.Nat.{ℕ, _+_, _-_, _*_, _≤_, _<_}
 use native.Mathlib.Omega.{arith}
 use lib.ListN.{length}
-use lib.Dec.{ltb, eqb}
-use borrow.Author.Tests.{ltb-true, eqb-true}
+use lib.Dec.{leb, ltb, eqb}
+use borrow.Author.Tests.{ltb-true}
+use Rattle.octets.specs.Choice.{pick}
 use Rattle.octets.proofs.Choice.{pick-ind, and-yes}
-use Rattle.parity_table.specs.Shape.{maxDepth, depthFits, kOf, nOf}
+use Rattle.parity_table.specs.Shape.{depthFits, kOf, nOf}
 use Rattle.parity_table.specs.declared.Answer.{Answer as Read}
 use Rattle.parity_table.specs.declared.Answer.the-variants as read
-use Rattle.parity_table.specs.Bytes.{readBytesOf}
+use Rattle.parity_table.specs.Bytes.{wordsOf, readBytesOf}
+use Rattle.parity_table.specs.Parse.{tableOf}
 use Rattle.parity_table.proofs.Accepts.{depth-is}
 use Rattle.parity_table.proofs.Parse.{k-small}
 use Rattle.parity_table.proofs.ByteForm.{bytes-wrong}
 use Rattle.model.specs.Shape.{tree, places}
 use Rattle.model.specs.Climb.{Climb, leads, breaks}
 use Rattle.model.specs.Symbols.{lowest}
+use Rattle.model.specs.Fault.{Verdict, accepted, wrongHead, wrongLength, broken, noFault, verdict}
 use Rattle.model.specs.Sampling.{sampleSize}
 use Rattle.model.specs.SampleCheck.{sampleCheck}
 use Rattle.symbol_hash.specs.SymbolHash.{symbolHash}
-use Rattle.sampling.specs.declared.Found.{Found}
-use Rattle.sampling.specs.declared.Found.the-variants.{At, Nothing}
 use Rattle.sampling.specs.Absent.{absent, foundBelow, firstAbsent}
-use Rattle.cedunmi.specs.declared.Stop.{Stop}
 use Rattle.cedunmi.specs.declared.Answer.{Answer}
+use Rattle.cedunmi.specs.declared.Answer.the-variants.{Done, Stopped}
+use Rattle.cedunmi.specs.declared.Stop.the-variants.{Mark}
 use Rattle.cedunmi.specs.Stops.{valueOf}
 use Rattle.cedunmi.specs.Marks.{lowestBad}
 use Rattle.cedunmi.specs.Sample.{led, sampleChecked, needed, sampleTaken}
-use Rattle.cedunmi.specs.Volume.{blockLengths, lowestAbsent, blockRead, byTable, treeWritten}
+use Rattle.cedunmi.specs.Tables.{byTable}
+use Rattle.cedunmi.specs.Repairs.{repairLengths, repairTested}
+use Rattle.cedunmi.specs.Volume.{blockLengths, lowestAbsent, blockRead, treeWritten}
+use Rattle.cedunmi.specs.Proof.{judged, proofChecked}
 use Rattle.cedunmi.proofs.VolumeLaws.{places-small, tree-lengths}
 
 abbrev pub Small : Answer → Type 0
@@ -88,11 +93,14 @@ check-small d i root s =
     (λ l. omega arith))
     (λ f. omega arith)
 
-table-small : (a : Read) → ((i : ℕ) → a ≡ read.Wrong i → i ≤ 4096) → Small (byTable a)
-table-small read.Depth h = omega arith
-table-small read.Length h = omega arith
-table-small (read.Wrong i) h = h i refl
-table-small read.Whole h = omega arith
+table-small : (d : ℕ) (table : List ℕ) (a : Answer) → Small a → Small (byTable (readBytesOf d table) a)
+table-small d table a h = small (readBytesOf d table) (bytes-wrong d table)
+  where
+    small : (r : Read) → ((i : ℕ) → r ≡ read.Wrong i → i ≤ 4096) → Small (byTable r a)
+    small read.Depth w = omega arith
+    small read.Length w = omega arith
+    small (read.Wrong i) w = w i refl
+    small read.Whole w = h
 
 pub write-small : (d : ℕ) (table b t m root : List ℕ) → Small (treeWritten d table b t m root)
 unfolding treeWritten
@@ -100,5 +108,35 @@ write-small d table b t m root =
     pick-ind Small (depthFits d)
     (λ f.
     pick-ind Small (eqb (length b) (256 * kOf (d - 1)) && ((eqb (length t) (256 * places tree d) && eqb (length m) (places tree d)) && eqb (length root) 512))
-    (λ l. table-small (readBytesOf d table) (bytes-wrong d table)) (λ l. omega arith))
+    (λ l. table-small d table Done (omega arith)) (λ l. omega arith))
+    (λ f. omega arith)
+
+judged-small : (v : Verdict) → Small (judged v)
+judged-small accepted = omega arith
+judged-small wrongHead = omega arith
+judged-small wrongLength = omega arith
+judged-small (broken j) = omega arith
+judged-small noFault = omega arith
+
+pub proof-small : (d : ℕ) (root table b : List ℕ) → Small (proofChecked d root table b)
+unfolding proofChecked
+proof-small d root table b =
+    pick-ind Small (depthFits d)
+    (λ f.
+    pick-ind Small (eqb (length root) 512 && leb 12 (length b))
+    (λ l. table-small d table _ (judged-small (verdict tree symbolHash root (tableOf (wordsOf table)) b))) (λ l. omega arith))
+    (λ f. omega arith)
+
+pub repair-small : (d : ℕ) (root table t m o : List ℕ) → Small (repairTested d root table t m o)
+unfolding repairTested repairLengths
+repair-small d root table t m o =
+    pick-ind Small (depthFits d)
+    (λ f.
+    pick-ind Small (eqb (length root) 512 && ((eqb (length t) (256 * places tree d) && eqb (length m) (places tree d)) && eqb (length o) (12 + 256 * (8 * d - 1))))
+    (λ l.
+    let q = and-yes (eqb (length root) 512) ((eqb (length t) (256 * places tree d) && eqb (length m) (places tree d)) && eqb (length o) (12 + 256 * (8 * d - 1))) l .1 in
+    table-small d table (pick (ltb (lowestBad m) (length m)) (Stopped (Mark (lowestBad m))) Done)
+    (pick-ind Small (ltb (lowestBad m) (length m))
+    (λ h. mark-small d t m f (and-yes _ (eqb (length o) (12 + 256 * (8 * d - 1))) q .0) (ltb-true (lowestBad m) (length m) h)) (λ h. omega arith)))
+    (λ l. omega arith))
     (λ f. omega arith)

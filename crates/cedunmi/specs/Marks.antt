@@ -1,18 +1,14 @@
 -- Marks: "one byte for each symbol, 1 held or 0 absent". Definitions only.
-use mathlib.Core.Bool.{Bool, not}
+use mathlib.Core.Bool.{Bool}
 use mathlib.Core.List.{List}
-use Prim.Native.Nat.{ℕ, _+_}
+use Prim.Native.Nat.{ℕ}
 use lib.ListN.{length, getD}
-use lib.Dec.{ltb, eqb}
+use lib.Dec.{ltb}
 use Rattle.model.specs.Symbols.{lowest}
 
 -- "a mark neither 0 nor 1", at place p
 unfoldable pub isBad : List ℕ → ℕ → Bool
 isBad m p = ltb 1 (getD m p 0)
-
--- symbol i of those from place base on is not marked held
-unfoldable pub isAbsent : List ℕ → ℕ → ℕ → Bool
-isAbsent m base i = not (eqb (getD m (base + i) 0) 1)
 
 -- the lowest place with such a mark, or the number of marks
 abbrev pub lowestBad : List ℕ → ℕ

@@ -8,17 +8,16 @@ use Rattle.octets.specs.Choice.{pick}
 use Rattle.parity_table.specs.Shape.{depthFits, kOf}
 use Rattle.model.specs.Shape.{tree, places}
 use Rattle.model.specs.Symbols.{lowest}
+use Rattle.model.specs.Repair.{absentAt}
 use Rattle.model.specs.Writer.{blockOf, writeTree, writtenMarks, writtenRoot}
-use Rattle.parity_table.specs.declared.Answer.{Answer as Read}
-use Rattle.parity_table.specs.declared.Answer.the-variants as read
 use Rattle.parity_table.specs.Bytes.{readBytesOf}
 use Rattle.parity_table.specs.Parse.{tableOf}
 use Rattle.symbol_hash.specs.SymbolHash.{symbolHash}
-use Rattle.cedunmi.specs.declared.Stop.{Stop}
-use Rattle.cedunmi.specs.declared.Stop.the-variants.{Depth, Length, Table, Mark, Absent}
+use Rattle.cedunmi.specs.declared.Stop.the-variants.{Depth, Length, Mark, Absent}
 use Rattle.cedunmi.specs.declared.Answer.{Answer}
 use Rattle.cedunmi.specs.declared.Answer.the-variants.{Done, Stopped}
-use Rattle.cedunmi.specs.Marks.{isAbsent, lowestBad}
+use Rattle.cedunmi.specs.Marks.{lowestBad}
+use Rattle.cedunmi.specs.Tables.{byTable}
 
 -- ---- reading a block back: tests 1, 2, 4, 9 in this order
 
@@ -28,7 +27,7 @@ blockLengths d t m b = (eqb (length t) (256 * places tree d) && eqb (length m) (
 
 -- the number of the base's first absent data symbol, or k
 abbrev pub lowestAbsent : ℕ → List ℕ → ℕ
-lowestAbsent d m = lowest (isAbsent m (places tree (d - 1))) 0 (kOf (d - 1))
+lowestAbsent d m = lowest (absentAt tree m (d - 1)) 0 (kOf (d - 1))
 
 unfoldable pub blockRead : ℕ → List ℕ → List ℕ → List ℕ → Answer
 blockRead d t m b =
@@ -46,18 +45,11 @@ blockLeft (Stopped s) d t b = b
 
 -- ---- writing a tree: tests 1, 2, 3 in this order
 
--- the table's own tests: its length, then its words
-abbrev pub byTable : Read → Answer
-byTable read.Depth = Stopped Depth
-byTable read.Length = Stopped Length
-byTable (read.Wrong i) = Stopped (Table i)
-byTable read.Whole = Done
-
 unfoldable pub treeWritten : ℕ → List ℕ → List ℕ → List ℕ → List ℕ → List ℕ → Answer
 treeWritten d table b t m root =
     pick (depthFits d)
     (pick (eqb (length b) (256 * kOf (d - 1)) && ((eqb (length t) (256 * places tree d) && eqb (length m) (places tree d)) && eqb (length root) 512))
-    (byTable (readBytesOf d table))
+    (byTable (readBytesOf d table) Done)
     (Stopped Length))
     (Stopped Depth)
 

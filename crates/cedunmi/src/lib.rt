@@ -1,5 +1,7 @@
 // The entry points: every numbered test in its order, then the core. None has a `requires`.
 mod marks; // the marks of a tree
+pub mod proof; // checking a fault proof
+pub mod repairs; // repairing a tree
 pub mod sample; // taking a sample, and checking one
 mod shape; // how many symbols and bytes there are
 pub mod volume; // writing a tree, and reading its block back
@@ -16,8 +18,12 @@ pub enum Stop {
     Mark(usize),
     // the base has no symbol of this number
     Number,
+    // a proof's head: wrong kind, layer, equation, or no member
+    Head,
     // a hash doesn't lead to the root
     Hash,
+    // a proof whose withheld hash fits: no fault shown
+    NoFault,
     // a needed symbol is absent: the index in the sample of the first, or its base number
     Absent(usize),
 }

@@ -1,9 +1,8 @@
 // The marks of a tree: one byte for each symbol, 1 held or 0 absent.
 ghost use mathlib.Core.Path.{_≡_};
-ghost use Prim.Native.Nat.{_+_, _≤_};
 ghost use lib.ListN.{length};
 ghost use Rattle.model.specs.Symbols.{lowest};
-ghost use Rattle.cedunmi.specs.Marks.{isBad, isAbsent};
+ghost use Rattle.cedunmi.specs.Marks.{isBad};
 
 // The lowest place whose mark is neither 0 nor 1; how many marks there are where there is none.
 pub fn first_bad(marks: &[u8]) -> usize
@@ -15,17 +14,4 @@ pub fn first_bad(marks: &[u8]) -> usize
         }
     }
     marks.len()
-}
-
-// The lowest of the n symbols from place base on that is not marked held; n where each is.
-pub fn first_absent(marks: &[u8], base: usize, n: usize) -> usize
-    requires { ⌜ base + n ≤ length (now marks) ⌝ }
-    ensures { λ r. ⌜ r ≡ lowest (isAbsent (now (marks .entry)) base) 0 n ⌝ }
-{
-    for i in 0..n {
-        if marks[base + i] != 1 {
-            return i;
-        }
-    }
-    n
 }

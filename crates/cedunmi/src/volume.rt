@@ -1,7 +1,6 @@
 // Writing a tree, and reading its block back.
 use crate::Answer;
 use crate::Stop;
-use crate::marks::first_absent;
 use crate::marks::first_bad;
 use crate::shape::block_fits;
 use crate::shape::tree_fits;
@@ -35,7 +34,7 @@ pub fn read_block(depth: usize, tree: &[u8], marks: &[u8], block: &mut [u8]) -> 
         return Answer::Stopped(Stop::Mark(bad));
     }
     let k = data_count(depth - 1);
-    let absent = first_absent(marks, coded_tree::first_place(depth - 1), k);
+    let absent = coded_tree::first_absent(marks, depth - 1, k);
     if absent < k {
         return Answer::Stopped(Stop::Absent(absent));
     }

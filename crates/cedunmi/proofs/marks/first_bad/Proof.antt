@@ -4,7 +4,8 @@ use Prim.Native.Nat.{_-_, _≤_}
 use native.Mathlib.Omega.{arith}
 use lib.ListN.{length}
 use Rattle.cedunmi.specs.Marks.{isBad}
-use Rattle.cedunmi.proofs.MarkLaws.{lowest-hit, lowest-pass, lowest-none, bad-yes, bad-no}
+use Rattle.cedunmi.proofs.MarkLaws.{bad-yes, bad-no}
+use Rattle.model.proofs.Counts.{lowest-hit, lowest-pass, lowest-none}
 use Rattle.model.specs.Symbols.{lowest}
 use Rattle.cedunmi.proofs.marks.first_bad.Statement.{statement}
 use Rattle.cedunmi.proofs.marks.first_bad.Tie as tie
