@@ -39,6 +39,12 @@ enum-told-3 c = search needs
 enum-told-4 : tie.Need-enum-told-4
 enum-told-4 c = search needs
 
+enum-told-5 : tie.Need-enum-told-5
+enum-told-5 c = search needs
+
+enum-told-6 : tie.Need-enum-told-6
+enum-told-6 c = search needs
+
 enum-known-s-3 : tie.Need-enum-known-s-3
 enum-known-s-3 c = search needs
 
@@ -67,7 +73,13 @@ returns-6 : tie.Need-returns-6
 returns-6 c = sym (ap (λ q. callResult (Stopped q)) (c .enum-told4 .given .1))
 
 returns-7 : tie.Need-returns-7
-returns-7 c = sym (ap (λ q. callResult (Stopped q)) (c .before .s3 .given .1))
+returns-7 c = sym (ap (λ q. callResult (Stopped q)) (c .enum-told5 .given .1))
+
+returns-8 : tie.Need-returns-8
+returns-8 c = sym (ap (λ q. callResult (Stopped q)) (c .enum-told6 .given .1))
+
+returns-9 : tie.Need-returns-9
+returns-9 c = sym (ap (λ q. callResult (Stopped q)) (c .before .s3 .given .1))
 
 pub stop-result-spec : {M : Type 1} → statement M
 stop-result-spec =
@@ -83,6 +95,8 @@ stop-result-spec =
     add-result-2
     enum-told-3
     enum-told-4
+    enum-told-5
+    enum-told-6
     enum-known-s-3
     mul-result-3
     add-result-3
@@ -92,4 +106,6 @@ stop-result-spec =
     returns-4
     returns-5
     returns-6
-    returns-7)
+    returns-7
+    returns-8
+    returns-9)
