@@ -3,8 +3,12 @@
 //! It is written from the published documents, each module from the one that
 //! it names, and shares no code with the proved library.
 
+pub mod proof;
+pub mod repair;
 pub mod sample;
 pub mod sha256;
 pub mod stop;
 pub mod table;
 pub mod tree;
+#[cfg(test)]
+mod written;

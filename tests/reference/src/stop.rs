@@ -14,8 +14,12 @@ pub enum Stop {
     Mark(usize),
     /// 5
     Number,
+    /// 6
+    Head,
     /// 7
     Hash,
+    /// 8
+    NoFault,
     /// 9, with the index in the sample, or the base number.
     Absent(usize),
 }

@@ -3,14 +3,14 @@
 
 use crate::sha256::sha256;
 use crate::stop::Stop;
-use crate::table::{self, byte_length, data_symbols, layers_of};
+use crate::table::{self, byte_length, data_symbols, layers_of, Layers};
 
 /// The bytes of a symbol, of a hash and of a root.
 pub const SYMBOL: usize = 256;
 pub const HASH: usize = 32;
 pub const ROOT: usize = 512;
 
-type Symbol = [u8; SYMBOL];
+pub type Symbol = [u8; SYMBOL];
 
 /// The symbols of a layer.
 pub fn symbols(layer: usize) -> usize {
@@ -55,6 +55,16 @@ pub fn committed(layer: usize, symbol: usize) -> Committed {
     Committed::Above { symbol: symbol % s, at: HASH * (symbol / s) }
 }
 
+/// The hash that a root and a tree have for a symbol of a layer.
+pub fn committed_hash<'a>(root: &'a [u8], tree: &'a [u8], layer: usize, symbol: usize) -> &'a [u8] {
+    match committed(layer, symbol) {
+        Committed::Root { at } => &root[at..at + HASH],
+        Committed::Above { symbol, at } => {
+            &symbol_at(tree, place(layer - 1, symbol))[at..at + HASH]
+        }
+    }
+}
+
 /// Codes a block: fills the tree, its marks and its root.
 pub fn write(
     depth: u64,
@@ -71,20 +81,35 @@ pub fn write(
     exactly(marks.len(), tree_symbols(layers))?;
     exactly(root.len(), ROOT)?;
     let equations = table::equations(depth, table)?;
+    let coded = code_tree(&equations, block, |_, _| ());
+    tree.copy_from_slice(&coded.0);
+    root.copy_from_slice(&coded.1);
+    marks.fill(1);
+    Ok(())
+}
 
+/// The tree and the root of a block. The symbols of each layer, which are
+/// coded from the base up, go through `alter` before they are hashed.
+pub fn code_tree(
+    equations: &Layers,
+    block: &[u8],
+    mut alter: impl FnMut(usize, &mut [Symbol]),
+) -> (Vec<u8>, Vec<u8>) {
+    let mut tree = vec![0; SYMBOL * tree_symbols(equations.len())];
+    let mut root = Vec::new();
     let mut data: Vec<Symbol> = block.chunks(SYMBOL).map(symbol_of).collect();
-    for layer in (0..layers).rev() {
-        let coded = code(&data, &equations[layer]);
+    for (layer, equations) in equations.iter().enumerate().rev() {
+        let mut coded = code(&data, equations);
+        alter(layer, &mut coded);
         let start = SYMBOL * place(layer, 0);
         tree[start..start + SYMBOL * coded.len()].copy_from_slice(&coded.concat());
         if layer > 0 {
             data = hashes_above(layer, &coded);
         } else {
-            root.copy_from_slice(&hashes(&coded));
+            root = hashes(&coded);
         }
     }
-    marks.fill(1);
-    Ok(())
+    (tree, root)
 }
 
 /// Copies the block out of a tree.
@@ -132,15 +157,21 @@ fn symbol_of(bytes: &[u8]) -> Symbol {
 fn code(data: &[Symbol], equations: &[Vec<usize>]) -> Vec<Symbol> {
     let mut coded = data.to_vec();
     for members in equations {
-        let mut parity = [0; SYMBOL];
-        for &member in &members[..members.len() - 1] {
-            for (byte, other) in parity.iter_mut().zip(coded[member]) {
-                *byte ^= other;
-            }
-        }
-        coded.push(parity);
+        let others = &members[..members.len() - 1];
+        coded.push(exclusive_or(others.iter().map(|&member| &coded[member][..])));
     }
     coded
+}
+
+/// The exclusive-or of symbols.
+pub fn exclusive_or<'a>(symbols: impl Iterator<Item = &'a [u8]>) -> Symbol {
+    let mut sum = [0; SYMBOL];
+    for symbol in symbols {
+        for (byte, other) in sum.iter_mut().zip(symbol) {
+            *byte ^= other;
+        }
+    }
+    sum
 }
 
 /// The hashes of symbols, in order.

@@ -1,22 +1,10 @@
 use super::*;
-use crate::table::{house, to_bytes};
-use crate::tree::{block_len, write};
-
-struct Written {
-    tree: Vec<u8>,
-    marks: Vec<u8>,
-    root: Vec<u8>,
-}
+use crate::table::house;
+use crate::written::{block_of, Written};
 
 /// A tree of the house table.
 fn written(depth: usize) -> Written {
-    let block: Vec<u8> = (0..block_len(depth)).map(|i| (i * i / 7 + i / 256) as u8).collect();
-    let (mut tree, mut marks) =
-        (vec![0; SYMBOL * tree_symbols(depth)], vec![0; tree_symbols(depth)]);
-    let mut root = vec![0; ROOT];
-    let table = to_bytes(&house(depth));
-    write(depth as u64, &table, &block, &mut tree, &mut marks, &mut root).unwrap();
-    Written { tree, marks, root }
+    Written::new(depth, &house(depth), &block_of(depth))
 }
 
 fn sample_of(w: &Written, depth: usize, number: usize) -> Vec<u8> {

@@ -1,39 +1,11 @@
 use super::*;
 use crate::table::{house, house_equation, to_bytes, write as write_table};
-
-/// A written tree with the buffers that hold it.
-struct Written {
-    tree: Vec<u8>,
-    marks: Vec<u8>,
-    root: Vec<u8>,
-}
-
-/// Buffers of the right lengths, of other bytes.
-fn lent(depth: usize) -> Written {
-    let tree = vec![0xaa; SYMBOL * tree_symbols(depth)];
-    Written { tree, marks: vec![0xbb; tree_symbols(depth)], root: vec![0xcc; ROOT] }
-}
-
-fn written(depth: usize, words: &[u32], block: &[u8]) -> Written {
-    let mut w = lent(depth);
-    let table = to_bytes(words);
-    write(depth as u64, &table, block, &mut w.tree, &mut w.marks, &mut w.root).unwrap();
-    w
-}
-
-fn block_of(depth: usize) -> Vec<u8> {
-    (0..block_len(depth)).map(|i| (i * i / 7 + i / 256) as u8).collect()
-}
-
-/// The block of 01's cases.
-fn cases_block() -> Vec<u8> {
-    [1, 2, 4, 8].iter().flat_map(|&byte| [byte; SYMBOL]).collect()
-}
+use crate::written::{block_of, cases_block, Written};
 
 /// Case 3.
 #[test]
 fn symbols_of_the_cases_tree() {
-    let w = written(1, &house(1), &cases_block());
+    let w = Written::new(1, &house(1), &cases_block());
     for (symbol, byte) in [(5, 0x05), (7, 0x00), (9, 0x0f)] {
         assert_eq!(symbol_at(&w.tree, symbol), [byte; SYMBOL]);
     }
@@ -43,9 +15,8 @@ fn symbols_of_the_cases_tree() {
 #[test]
 fn depths() {
     for depth in [0, 6, 1 << 32 | 1, u64::MAX] {
-        let mut w = lent(1);
-        let table = to_bytes(&house(1));
-        let stop = write(depth, &table, &cases_block(), &mut w.tree, &mut w.marks, &mut w.root);
+        let mut w = Written::lent(1, &house(1));
+        let stop = write(depth, &w.table, &cases_block(), &mut w.tree, &mut w.marks, &mut w.root);
         assert_eq!(stop, Err(Stop::Depth));
         assert_eq!(read_block(depth, &w.tree, &w.marks, &mut [0; 3]), Err(Stop::Depth));
     }
@@ -57,7 +28,7 @@ fn depths() {
 fn place_of_a_hash() {
     assert_eq!(committed(1, 31), Committed::Above { symbol: 3, at: 224 });
     assert_eq!(committed(0, 15), Committed::Root { at: 480 });
-    let w = written(2, &house(2), &block_of(2));
+    let w = Written::new(2, &house(2), &block_of(2));
     let hash = sha256(symbol_at(&w.tree, place(1, 31)));
     assert_eq!(symbol_at(&w.tree, 3)[224..], hash);
 }
@@ -65,7 +36,7 @@ fn place_of_a_hash() {
 /// What the program `listing` prints.
 #[test]
 fn listing() {
-    let w = written(1, &house(1), &cases_block());
+    let w = Written::new(1, &house(1), &cases_block());
     let mut lines = vec![format!("tree 1 {}", w.marks.len())];
     for number in 0..w.marks.len() {
         lines.push(format!("{number} {:02X}", symbol_at(&w.tree, number)[0]));
@@ -82,9 +53,8 @@ fn written_trees_are_correctly_coded() {
     for depth in 1..=5 {
         let words = house(depth);
         let block = block_of(depth);
-        let w = written(depth, &words, &block);
-        let layers = table::equations(depth as u64, &to_bytes(&words)).unwrap();
-        for (layer, equations) in layers.iter().enumerate() {
+        let w = Written::new(depth, &words, &block);
+        for (layer, equations) in w.equations().iter().enumerate() {
             for members in equations {
                 for byte in 0..SYMBOL {
                     let sum = members.iter().fold(0, |sum, &member| {
@@ -95,7 +65,7 @@ fn written_trees_are_correctly_coded() {
             }
             for symbol in 0..symbols(layer) {
                 let hash = sha256(symbol_at(&w.tree, place(layer, symbol)));
-                assert_eq!(hash, committed_hash(&w, layer, symbol));
+                assert_eq!(hash, committed_hash(&w.root, &w.tree, layer, symbol));
             }
         }
         assert!(w.marks.iter().all(|&mark| mark == 1));
@@ -117,18 +87,9 @@ fn roots_by_another_implementation() {
         "5c684b01529fc751539c8f79657adbbb56293f6c1d99d4d3d834e47e291b3f70",
     ];
     for (depth, expected) in (1..=5).zip(expected) {
-        let w = written(depth, &house(depth), &block_of(depth));
+        let w = Written::new(depth, &house(depth), &block_of(depth));
         let digest: String = sha256(&w.root).iter().map(|byte| format!("{byte:02x}")).collect();
         assert_eq!(digest, expected);
-    }
-}
-
-fn committed_hash(w: &Written, layer: usize, symbol: usize) -> &[u8] {
-    match committed(layer, symbol) {
-        Committed::Root { at } => &w.root[at..at + HASH],
-        Committed::Above { symbol, at } => {
-            &symbol_at(&w.tree, place(layer - 1, symbol))[at..at + HASH]
-        }
     }
 }
 
@@ -137,7 +98,7 @@ fn committed_hash(w: &Written, layer: usize, symbol: usize) -> &[u8] {
 fn the_table_decides_the_parity() {
     let mut layers = vec![(0..12).map(|e| house_equation(4, e)).collect::<Vec<_>>()];
     layers[0][0] = vec![2, 4];
-    let w = written(1, &write_table(&layers), &cases_block());
+    let w = Written::new(1, &write_table(&layers), &cases_block());
     assert_eq!(symbol_at(&w.tree, 4), [4; SYMBOL]);
     assert_eq!(symbol_at(&w.tree, 5), [2; SYMBOL]);
 }
@@ -176,7 +137,7 @@ fn tests_of_the_writer_in_their_order() {
 
 #[test]
 fn tests_of_reading_back_in_their_order() {
-    let w = written(2, &house(2), &block_of(2));
+    let w = Written::new(2, &house(2), &block_of(2));
     let mut block = vec![7; block_len(2)];
     let mut read = |marks: &[u8]| read_block(2, &w.tree, marks, &mut block);
     let mut marks = w.marks.clone();

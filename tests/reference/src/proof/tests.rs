@@ -1,0 +1,138 @@
+use super::*;
+use crate::table::{house, to_bytes};
+use crate::written::{block_of, cases_block, Written};
+
+/// The tree of 01's case 7.
+fn case_7() -> Written {
+    Written::altered(1, &house(1), &cases_block(), |_, symbols| symbols[7] = [1; SYMBOL])
+}
+
+/// A tree of the house table with this symbol of a layer replaced.
+fn replaced(depth: usize, layer: usize, symbol: usize) -> Written {
+    Written::altered(depth, &house(depth), &block_of(depth), |altered, symbols| {
+        if altered == layer {
+            symbols[symbol][200] ^= 0x40;
+        }
+    })
+}
+
+fn proof_of(w: &Written, layer: usize, equation: usize, withheld: usize) -> Vec<u8> {
+    let members = &w.equations()[layer][equation];
+    write(Head { layer, equation, withheld }, members, &w.tree)
+}
+
+fn check_of(w: &Written, proof: &[u8]) -> Result<(), Stop> {
+    check(w.depth, &w.root, &w.table, proof)
+}
+
+#[test]
+fn proof_of_case_7() {
+    let w = case_7();
+    let proof = proof_of(&w, 0, 3, 7);
+    assert_eq!(proof.len(), 780);
+    assert_eq!(proof[..HEAD], [0x40, 0, 0, 0, 0x80, 0, 0, 3, 0xc0, 0, 0, 7]);
+    assert_eq!(check_of(&w, &proof), Ok(()));
+}
+
+/// Case 9.
+#[test]
+fn longest_proof() {
+    assert_eq!(proof_len(4, 8), 9996);
+}
+
+#[test]
+fn symbols_of_a_proof() {
+    let head = Head { layer: 2, equation: 5, withheld: 20 };
+    let expected =
+        [(2, 5), (1, 5), (0, 1), (2, 6), (1, 6), (0, 2), (2, 21), (1, 5), (0, 1), (1, 4), (0, 0)];
+    assert_eq!(head.symbols(&[5, 6, 20, 21]), expected);
+    assert_eq!(Head { layer: 0, ..head }.symbols(&[5, 20]), [(0, 5)]);
+}
+
+/// Just the equations with the replaced symbol are faults, whichever member is
+/// withheld.
+#[test]
+fn any_member_may_be_withheld() {
+    for depth in 1..=4 {
+        for layer in 0..depth {
+            let symbol = data_symbols(layer) + 2;
+            let w = replaced(depth, layer, symbol);
+            for (equation, members) in w.equations()[layer].iter().enumerate() {
+                for &withheld in members {
+                    let proof = proof_of(&w, layer, equation, withheld);
+                    assert_eq!(proof.len(), proof_len(layer, members.len()));
+                    let fault = members.contains(&symbol);
+                    let expected = if fault { Ok(()) } else { Err(Stop::NoFault) };
+                    assert_eq!(check_of(&w, &proof), expected);
+                }
+            }
+        }
+    }
+}
+
+/// Any byte of a member or of a path, the withheld member's too.
+#[test]
+fn a_damaged_proof_is_refused() {
+    let w = replaced(3, 2, 16);
+    let proof = proof_of(&w, 2, 0, 16);
+    for at in HEAD..proof.len() {
+        let mut damaged = proof.clone();
+        damaged[at] ^= 1 << (at % 8);
+        assert_eq!(check_of(&w, &damaged), Err(Stop::Hash));
+    }
+}
+
+#[test]
+fn heads() {
+    let w = case_7();
+    let proof = proof_of(&w, 0, 3, 7);
+    let with = |at: usize, by: u32| {
+        let mut altered = proof.clone();
+        altered[4 * at..4 * at + 4].copy_from_slice(&by.to_be_bytes());
+        check_of(&w, &altered)
+    };
+    for at in 0..3 {
+        for kind in [0, 1, 2, 3] {
+            let value = [0, 3, 7][at];
+            let expected = if kind == [1, 2, 3][at] { Ok(()) } else { Err(Stop::Head) };
+            assert_eq!(with(at, word(kind, value)), expected);
+        }
+    }
+    for value in [1, 2, 5, 1 << 8, 1 << 29, (1 << 30) - 1] {
+        assert_eq!(with(0, word(LAYER, value)), Err(Stop::Head));
+    }
+    for value in [12, 1 << 8 | 3, (1 << 30) - 1] {
+        assert_eq!(with(1, word(EQUATION, value)), Err(Stop::Head));
+    }
+    for value in [1, 2, 4, 8, 16, 1 << 16 | 7, (1 << 30) - 1] {
+        assert_eq!(with(2, word(END, value)), Err(Stop::Head));
+    }
+    assert_eq!(with(2, word(END, 6)), Err(Stop::Hash));
+}
+
+#[test]
+fn tests_in_their_order() {
+    let w = case_7();
+    let proof = proof_of(&w, 0, 3, 7);
+    let no_table = to_bytes(&house(2));
+    let check = |depth, root: &[u8], table: &[u8], proof: &[u8]| check(depth, root, table, proof);
+    assert_eq!(check(1 << 32 | 1, &w.root[1..], &[1], &[]), Err(Stop::Depth));
+    assert_eq!(check(1, &w.root[1..], &w.table, &proof), Err(Stop::Length));
+    assert_eq!(check(1, &w.root, &no_table[1..], &proof), Err(Stop::Length));
+    assert_eq!(check(1, &w.root, &no_table, &proof[..11]), Err(Stop::Length));
+    assert_eq!(check(1, &w.root, &no_table, &[0; 12]), Err(Stop::Word(60)));
+    assert_eq!(check(1, &w.root, &w.table, &[0; 12]), Err(Stop::Head));
+    assert_eq!(check(1, &w.root, &w.table, &[0; 780]), Err(Stop::Head));
+    assert_eq!(check(1, &w.root, &w.table, &proof[..12]), Err(Stop::Length));
+    assert_eq!(check(1, &w.root, &w.table, &[&proof[..], &[0]].concat()), Err(Stop::Length));
+    assert_eq!(check(1, &[0; ROOT], &w.table, &proof), Err(Stop::Hash));
+}
+
+/// The root says nothing of the depth.
+#[test]
+fn a_proof_passes_at_another_depth_with_the_same_upper_layers() {
+    let w = replaced(2, 1, 8);
+    let proof = proof_of(&w, 1, 0, 8);
+    assert_eq!(check(3, &w.root, &to_bytes(&house(3)), &proof), Ok(()));
+    assert_eq!(check(1, &w.root, &to_bytes(&house(1)), &proof), Err(Stop::Head));
+}

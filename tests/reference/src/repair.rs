@@ -1,0 +1,164 @@
+//! Repair, written from the sections "Repair" and "What stops a call" of 01.
+
+use crate::proof::{self, Head, HEAD};
+use crate::sha256::sha256;
+use crate::stop::Stop;
+use crate::table::{self, byte_length, layers_of};
+use crate::tree::{committed_hash, exactly, exclusive_or, marks_in_form, place, symbol_at};
+use crate::tree::{symbols, tree_symbols, Symbol, ROOT, SYMBOL};
+
+/// How a repair ends.
+#[derive(Clone, Copy, Debug, PartialEq, Eq)]
+pub enum End {
+    Whole,
+    /// With the bytes of the proof.
+    Fault(usize),
+    /// With the layer.
+    Unavailable(usize),
+    Twins,
+}
+
+/// An end, with the number of symbols that were stored.
+#[derive(Clone, Copy, Debug, PartialEq, Eq)]
+pub struct Repaired {
+    pub end: End,
+    pub stored: usize,
+}
+
+/// The bytes of the output buffer of a depth.
+pub fn output_len(depth: usize) -> usize {
+    HEAD + SYMBOL * (8 * depth - 1)
+}
+
+/// Repairs a tree as far as it can be.
+pub fn repair(
+    depth: u64,
+    root: &[u8],
+    table: &[u8],
+    tree: &mut [u8],
+    marks: &mut [u8],
+    output: &mut [u8],
+) -> Result<Repaired, Stop> {
+    let layers = layers_of(depth)?;
+    exactly(root.len(), ROOT)?;
+    byte_length(table)?;
+    exactly(tree.len(), SYMBOL * tree_symbols(layers))?;
+    exactly(marks.len(), tree_symbols(layers))?;
+    exactly(output.len(), output_len(layers))?;
+    let equations = table::equations(depth, table)?;
+    marks_in_form(marks)?;
+
+    let mut repair = Repair { root, tree, marks, output, stored: 0 };
+    for (layer, equations) in equations.iter().enumerate() {
+        repair.sweep(layer);
+        if let Some(end) = repair.peel(layer, equations) {
+            return Ok(Repaired { end, stored: repair.stored });
+        }
+    }
+    Ok(Repaired { end: End::Whole, stored: repair.stored })
+}
+
+struct Repair<'a> {
+    root: &'a [u8],
+    tree: &'a mut [u8],
+    marks: &'a mut [u8],
+    output: &'a mut [u8],
+    stored: usize,
+}
+
+impl Repair<'_> {
+    /// Step (a).
+    fn sweep(&mut self, layer: usize) {
+        for symbol in 0..symbols(layer) {
+            if self.held(layer, symbol) && !self.fits(layer, symbol, self.symbol(layer, symbol)) {
+                self.marks[place(layer, symbol)] = 0;
+            }
+            if !self.held(layer, symbol) {
+                self.symbol_mut(layer, symbol).fill(0);
+            }
+        }
+    }
+
+    /// Steps (b) and (c): how the repair ends in this layer, if it does.
+    fn peel(&mut self, layer: usize, equations: &[Vec<usize>]) -> Option<End> {
+        let mut used = vec![false; equations.len()];
+        let takeable = |repair: &Self, used: &[bool], equation: usize| {
+            !used[equation] && repair.absent(layer, &equations[equation]).len() <= 1
+        };
+        while let Some(equation) = (0..equations.len()).find(|&e| takeable(self, &used, e)) {
+            used[equation] = true;
+            if let Some(end) = self.take(layer, equation, &equations[equation]) {
+                return Some(end);
+            }
+        }
+        let gaps = (0..symbols(layer)).any(|symbol| !self.held(layer, symbol));
+        gaps.then_some(End::Unavailable(layer))
+    }
+
+    /// Takes an equation: how the repair ends with it, if it does.
+    fn take(&mut self, layer: usize, equation: usize, members: &[usize]) -> Option<End> {
+        if let Some(&absent) = self.absent(layer, members).first() {
+            let formed = self.others(layer, members, absent);
+            if !self.fits(layer, absent, &formed) {
+                return Some(self.fault(Head { layer, equation, withheld: absent }, members));
+            }
+            self.symbol_mut(layer, absent).copy_from_slice(&formed);
+            self.marks[place(layer, absent)] = 1;
+            self.stored += 1;
+            return None;
+        }
+        let last = members[members.len() - 1];
+        let others = self.others(layer, members, last);
+        if others == self.symbol(layer, last) {
+            None
+        } else if self.fits(layer, last, &others) {
+            Some(self.twins(layer, last, &others))
+        } else {
+            Some(self.fault(Head { layer, equation, withheld: last }, members))
+        }
+    }
+
+    fn fault(&mut self, head: Head, members: &[usize]) -> End {
+        let proof = proof::write(head, members, self.tree);
+        self.output[..proof.len()].copy_from_slice(&proof);
+        End::Fault(proof.len())
+    }
+
+    fn twins(&mut self, layer: usize, held: usize, others: &Symbol) -> End {
+        let twins = [self.symbol(layer, held), others].concat();
+        self.output[..twins.len()].copy_from_slice(&twins);
+        End::Twins
+    }
+
+    /// The members that are absent.
+    fn absent(&self, layer: usize, members: &[usize]) -> Vec<usize> {
+        members.iter().copied().filter(|&member| !self.held(layer, member)).collect()
+    }
+
+    /// The exclusive-or of the members but one.
+    fn others(&self, layer: usize, members: &[usize], but: usize) -> Symbol {
+        let others = members.iter().filter(|&&member| member != but);
+        exclusive_or(others.map(|&member| self.symbol(layer, member)))
+    }
+
+    /// Whether bytes have the hash that is committed for a symbol.
+    fn fits(&self, layer: usize, symbol: usize, bytes: &[u8]) -> bool {
+        sha256(bytes) == committed_hash(self.root, self.tree, layer, symbol)
+    }
+
+    fn held(&self, layer: usize, symbol: usize) -> bool {
+        self.marks[place(layer, symbol)] == 1
+    }
+
+    fn symbol(&self, layer: usize, symbol: usize) -> &[u8] {
+        symbol_at(self.tree, place(layer, symbol))
+    }
+
+    fn symbol_mut(&mut self, layer: usize, symbol: usize) -> &mut [u8] {
+        let start = SYMBOL * place(layer, symbol);
+        &mut self.tree[start..start + SYMBOL]
+    }
+}
+
+#[cfg(test)]
+mod tests;

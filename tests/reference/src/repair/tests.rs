@@ -1,0 +1,218 @@
+use super::*;
+use crate::proof::check;
+use crate::table::{house, write as write_table};
+use crate::written::{block_of, cases_block, Written};
+
+const LENT: u8 = 0xdd;
+
+/// Repairs a tree, and gives its output too.
+fn repaired(w: &mut Written) -> (Result<Repaired, Stop>, Vec<u8>) {
+    let mut output = vec![LENT; output_len(w.depth as usize)];
+    let result = repair(w.depth, &w.root, &w.table, &mut w.tree, &mut w.marks, &mut output);
+    (result, output)
+}
+
+fn cases_tree() -> Written {
+    Written::new(1, &house(1), &cases_block())
+}
+
+fn written(depth: usize) -> Written {
+    Written::new(depth, &house(depth), &block_of(depth))
+}
+
+/// Takes symbols away, by their places. Other bytes stand in theirs.
+fn lose(w: &mut Written, places: &[usize]) {
+    for &place in places {
+        w.marks[place] = 0;
+        w.tree[SYMBOL * place..SYMBOL * (place + 1)].fill(0xee);
+    }
+}
+
+fn absent(w: &Written) -> Vec<usize> {
+    (0..w.marks.len()).filter(|&place| w.marks[place] == 0).collect()
+}
+
+/// Case 4.
+#[test]
+fn two_of_the_cases_tree_absent() {
+    let right = cases_tree();
+    let mut w = right.clone();
+    lose(&mut w, &[0, 1]);
+    let (result, output) = repaired(&mut w);
+    assert_eq!(result, Ok(Repaired { end: End::Whole, stored: 2 }));
+    assert!(w.tree == right.tree && w.marks == right.marks);
+    assert!(output.iter().all(|&byte| byte == LENT));
+}
+
+/// Case 5.
+#[test]
+fn one_of_eight_absent_is_stored() {
+    let mut w = cases_tree();
+    lose(&mut w, &[0, 4, 5, 6, 8, 9, 12, 15]);
+    let (result, output) = repaired(&mut w);
+    assert_eq!(result, Ok(Repaired { end: End::Unavailable(0), stored: 1 }));
+    assert_eq!(absent(&w), [0, 4, 5, 6, 8, 9, 12]);
+    for place in absent(&w) {
+        assert_eq!(symbol_at(&w.tree, place), [0; SYMBOL]);
+    }
+    assert!(output.iter().all(|&byte| byte == LENT));
+}
+
+/// Case 6.
+#[test]
+fn all_absent() {
+    let mut w = cases_tree();
+    lose(&mut w, &(0..16).collect::<Vec<_>>());
+    let (result, _) = repaired(&mut w);
+    assert_eq!(result, Ok(Repaired { end: End::Unavailable(0), stored: 0 }));
+    assert_eq!(absent(&w).len(), 16);
+}
+
+/// Case 7: the same output and report, whether symbol 7 is held or absent.
+#[test]
+fn a_miscoded_symbol() {
+    let miscoded =
+        Written::altered(1, &house(1), &cases_block(), |_, symbols| symbols[7] = [1; SYMBOL]);
+    let mut outputs = Vec::new();
+    for held in [true, false] {
+        let mut w = miscoded.clone();
+        if !held {
+            lose(&mut w, &[7]);
+        }
+        let (result, output) = repaired(&mut w);
+        assert_eq!(result, Ok(Repaired { end: End::Fault(780), stored: 0 }));
+        assert_eq!(output[..HEAD], [0x40, 0, 0, 0, 0x80, 0, 0, 3, 0xc0, 0, 0, 7]);
+        assert_eq!(check(1, &w.root, &w.table, &output[..780]), Ok(()));
+        assert!(output[780..].iter().all(|&byte| byte == LENT));
+        assert_eq!(symbol_at(&w.tree, 7), if held { [1; SYMBOL] } else { [0; SYMBOL] });
+        assert_eq!(w.marks[7], u8::from(held));
+        outputs.push(output);
+    }
+    assert_eq!(outputs[0], outputs[1]);
+}
+
+/// Whatever stands in one place, the tree comes back.
+#[test]
+fn one_bad_copy_or_one_absent_anywhere() {
+    for depth in 1..=4 {
+        let right = written(depth);
+        for place in 0..right.marks.len() {
+            for mark in [0, 1] {
+                let mut w = right.clone();
+                w.tree[SYMBOL * place + place % SYMBOL] ^= 2;
+                w.marks[place] = mark;
+                let (result, _) = repaired(&mut w);
+                assert_eq!(result, Ok(Repaired { end: End::Whole, stored: 1 }));
+                assert!(w.tree == right.tree && w.marks == right.marks);
+            }
+        }
+    }
+}
+
+/// A right symbol under mark 0 is formed again, and counts.
+#[test]
+fn right_bytes_under_mark_0() {
+    let right = written(2);
+    let mut w = right.clone();
+    w.marks[20] = 0;
+    assert_eq!(repaired(&mut w).0, Ok(Repaired { end: End::Whole, stored: 1 }));
+    w.marks[..16].fill(0);
+    assert_eq!(repaired(&mut w).0, Ok(Repaired { end: End::Unavailable(0), stored: 0 }));
+    assert!(w.tree[..16 * SYMBOL].iter().all(|&byte| byte == 0));
+    assert_eq!(w.tree[16 * SYMBOL..], right.tree[16 * SYMBOL..]);
+}
+
+/// A layer that is unavailable, under one in which symbols are stored.
+#[test]
+fn an_unavailable_layer() {
+    let mut w = written(3);
+    lose(&mut w, &[2, 5]);
+    lose(&mut w, &(16..48).collect::<Vec<_>>());
+    lose(&mut w, &[60]);
+    let lower = w.tree[48 * SYMBOL..].to_vec();
+    let (result, _) = repaired(&mut w);
+    assert_eq!(result, Ok(Repaired { end: End::Unavailable(1), stored: 2 }));
+    assert_eq!(absent(&w), (16..48).chain([60]).collect::<Vec<_>>());
+    assert_eq!(w.tree[48 * SYMBOL..], lower);
+}
+
+/// In each layer, through an absent member and through a complete equation.
+#[test]
+fn faults_of_each_layer() {
+    for depth in 1..=4 {
+        for layer in 0..depth {
+            let k = 4 << layer;
+            let miscoded =
+                Written::altered(depth, &house(depth), &block_of(depth), |at, symbols| {
+                    if at == layer {
+                        symbols[k][9] ^= 0x80;
+                    }
+                });
+            for lost in [None, Some(place(layer, k)), Some(place(layer, 0))] {
+                let mut w = miscoded.clone();
+                lose(&mut w, &lost.into_iter().collect::<Vec<_>>());
+                let (result, output) = repaired(&mut w);
+                let len = proof::proof_len(layer, 3);
+                assert_eq!(result, Ok(Repaired { end: End::Fault(len), stored: 0 }));
+                assert_eq!(check(w.depth, &w.root, &w.table, &output[..len]), Ok(()));
+                let withheld = lost.map_or(k, |lost| lost - place(layer, 0));
+                let head = Head { layer, equation: 0, withheld };
+                assert_eq!(output[..HEAD], head.bytes());
+                assert_eq!(absent(&w), lost.into_iter().collect::<Vec<_>>());
+            }
+        }
+    }
+}
+
+/// After a take the search begins again: equation 1 gives symbol 1, and then
+/// equation 0 comes before the others, which all hold or show a fault.
+#[test]
+fn the_search_begins_again() {
+    let mut layer: Vec<Vec<usize>> = vec![vec![0, 1, 4], vec![1, 5]];
+    layer.extend((2..12).map(|e| vec![2, 4 + e]));
+    let words = write_table(&[layer]);
+    let mut w = Written::altered(1, &words, &cases_block(), |_, symbols| {
+        symbols[4] = [0x55; SYMBOL];
+        symbols[6] = [0x66; SYMBOL];
+    });
+    lose(&mut w, &[0, 1]);
+    let (result, output) = repaired(&mut w);
+    assert_eq!(result, Ok(Repaired { end: End::Fault(proof::proof_len(0, 3)), stored: 1 }));
+    assert_eq!(output[..HEAD], Head { layer: 0, equation: 0, withheld: 0 }.bytes());
+}
+
+/// What a repair stops with for these lengths of root, table, tree, marks and
+/// output at depth 1, and for these marks. A table of another length is none.
+fn stop_of(depth: u64, lens: [usize; 5], mark: u8) -> Option<Stop> {
+    let mut w = cases_tree();
+    let mut output = vec![LENT; lens[4]];
+    w.root.resize(lens[0], 0);
+    w.table.resize(lens[1], 0);
+    w.tree.resize(lens[2], 0);
+    w.marks.resize(lens[3], 1);
+    w.marks[9] = mark;
+    let before = w.clone();
+    let result = repair(depth, &w.root, &w.table, &mut w.tree, &mut w.marks, &mut output);
+    if result.is_err() {
+        assert!(w.tree == before.tree && w.marks == before.marks);
+        assert!(output.iter().all(|&byte| byte == LENT));
+    }
+    result.err()
+}
+
+#[test]
+fn tests_in_their_order() {
+    let right = [512, 244, 4096, 16, output_len(1)];
+    assert_eq!(output_len(1), 1804);
+    assert_eq!(stop_of(1, right, 1), None);
+    assert_eq!(stop_of(1, right, 2), Some(Stop::Mark(9)));
+    assert_eq!(stop_of(1, [512, 240, 4096, 16, 1804], 2), Some(Stop::Word(60)));
+    for buffer in 0..5 {
+        for other in [right[buffer] - 1, right[buffer] + 1] {
+            let mut lens = right;
+            lens[buffer] = other;
+            assert_eq!(stop_of(1, lens, 2), Some(Stop::Length));
+            assert_eq!(stop_of(1 << 32 | 1, lens, 2), Some(Stop::Depth));
+        }
+    }
+}

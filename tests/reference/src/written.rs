@@ -1,0 +1,60 @@
+//! Trees to test with.
+
+use crate::table::{equations, to_bytes, Layers};
+use crate::tree::{block_len, code_tree, tree_symbols, write, Symbol, ROOT, SYMBOL};
+
+/// A written tree with the buffers that hold it.
+#[derive(Clone)]
+pub struct Written {
+    pub depth: u64,
+    pub table: Vec<u8>,
+    pub tree: Vec<u8>,
+    pub marks: Vec<u8>,
+    pub root: Vec<u8>,
+}
+
+impl Written {
+    /// Buffers of the right lengths, of other bytes.
+    pub fn lent(depth: usize, words: &[u32]) -> Written {
+        Written {
+            depth: depth as u64,
+            table: to_bytes(words),
+            tree: vec![0xaa; SYMBOL * tree_symbols(depth)],
+            marks: vec![0xbb; tree_symbols(depth)],
+            root: vec![0xcc; ROOT],
+        }
+    }
+
+    pub fn new(depth: usize, words: &[u32], block: &[u8]) -> Written {
+        let mut w = Written::lent(depth, words);
+        write(w.depth, &w.table, block, &mut w.tree, &mut w.marks, &mut w.root).unwrap();
+        w
+    }
+
+    /// A tree in which layers are altered before they are hashed.
+    pub fn altered(
+        depth: usize,
+        words: &[u32],
+        block: &[u8],
+        alter: impl FnMut(usize, &mut [Symbol]),
+    ) -> Written {
+        let mut w = Written::new(depth, words, block);
+        let (tree, root) = code_tree(&w.equations(), block, alter);
+        w.tree = tree;
+        w.root = root;
+        w
+    }
+
+    pub fn equations(&self) -> Layers {
+        equations(self.depth, &self.table).unwrap()
+    }
+}
+
+pub fn block_of(depth: usize) -> Vec<u8> {
+    (0..block_len(depth)).map(|i| (i * i / 7 + i / 256) as u8).collect()
+}
+
+/// The block of 01's cases.
+pub fn cases_block() -> Vec<u8> {
+    [1, 2, 4, 8].iter().flat_map(|&byte| [byte; SYMBOL]).collect()
+}
