@@ -1,37 +1,34 @@
 //! The functions of `include/cedunmi.h`: the one place that declares them for
 //! Rust. Nothing holds these declarations to the header but their reader.
 
+/// Declares a function of the header, and the type of a function that can stand
+/// in for it.
+macro_rules! declare {
+    ($name:ident, $prototype:ident: ($($argument:ident: $kind:ty),* $(,)?)) => {
+        #[doc = concat!("The prototype of `", stringify!($name), "`.")]
+        pub type $prototype = unsafe extern "C" fn($($argument: $kind),*) -> u64;
+
+        extern "C" {
+            pub(crate) fn $name($($argument: $kind),*) -> u64;
+        }
+    };
+}
+
+mod repairs;
 mod trees;
 
+pub use repairs::{proof_check, repair, ProofCheck, Repair};
 pub use trees::{
     block_read, sample_check, sample_take, tree_write, BlockRead, SampleCheck, SampleTake,
     TreeWrite,
 };
 
-/// The prototype of `cmt_sha256`.
-pub type Sha256 = unsafe extern "C" fn(
-    message: *const u8,
-    message_len: usize,
-    digest: *mut u8,
-    digest_len: usize,
-) -> u64;
-
-/// The prototype of `cmt_table_check`.
-pub type TableCheck = unsafe extern "C" fn(depth: u64, table: *const u8, len: usize) -> u64;
-
-/// The prototype of `cmt_house_table`.
-pub type HouseTable = unsafe extern "C" fn(depth: u64, table: *mut u8, len: usize) -> u64;
-
-extern "C" {
-    fn cmt_table_check(depth: u64, table: *const u8, len: usize) -> u64;
-    fn cmt_house_table(depth: u64, table: *mut u8, len: usize) -> u64;
-    fn cmt_sha256(
-        message: *const u8,
-        message_len: usize,
-        digest: *mut u8,
-        digest_len: usize,
-    ) -> u64;
-}
+declare!(cmt_sha256, Sha256: (
+    message: *const u8, message_len: usize,
+    digest: *mut u8, digest_len: usize,
+));
+declare!(cmt_table_check, TableCheck: (depth: u64, table: *const u8, table_len: usize));
+declare!(cmt_house_table, HouseTable: (depth: u64, table: *mut u8, table_len: usize));
 
 /// The functions as values, so that a wrong one can stand in for each.
 pub struct Library {
@@ -42,6 +39,8 @@ pub struct Library {
     pub block_read: BlockRead,
     pub sample_take: SampleTake,
     pub sample_check: SampleCheck,
+    pub proof_check: ProofCheck,
+    pub repair: Repair,
 }
 
 /// The proved library.
@@ -53,6 +52,8 @@ pub static CEDUNMI: Library = Library {
     block_read: trees::cmt_block_read,
     sample_take: trees::cmt_sample_take,
     sample_check: trees::cmt_sample_check,
+    proof_check: repairs::cmt_proof_check,
+    repair: repairs::cmt_repair,
 };
 
 /// Calls `cmt_sha256`.

@@ -1,95 +1,32 @@
 //! The functions of coded trees: writing, reading back, samples.
 
-/// The prototype of `cmt_tree_write`.
-pub type TreeWrite = unsafe extern "C" fn(
+declare!(cmt_tree_write, TreeWrite: (
     depth: u64,
-    table: *const u8,
-    table_len: usize,
-    block: *const u8,
-    block_len: usize,
-    tree: *mut u8,
-    tree_len: usize,
-    marks: *mut u8,
-    marks_len: usize,
-    root: *mut u8,
-    root_len: usize,
-) -> u64;
-
-/// The prototype of `cmt_block_read`.
-pub type BlockRead = unsafe extern "C" fn(
+    table: *const u8, table_len: usize,
+    block: *const u8, block_len: usize,
+    tree: *mut u8, tree_len: usize,
+    marks: *mut u8, marks_len: usize,
+    root: *mut u8, root_len: usize,
+));
+declare!(cmt_block_read, BlockRead: (
     depth: u64,
-    tree: *const u8,
-    tree_len: usize,
-    marks: *const u8,
-    marks_len: usize,
-    block: *mut u8,
-    block_len: usize,
-) -> u64;
-
-/// The prototype of `cmt_sample_take`.
-pub type SampleTake = unsafe extern "C" fn(
+    tree: *const u8, tree_len: usize,
+    marks: *const u8, marks_len: usize,
+    block: *mut u8, block_len: usize,
+));
+declare!(cmt_sample_take, SampleTake: (
     depth: u64,
     number: u64,
-    tree: *const u8,
-    tree_len: usize,
-    marks: *const u8,
-    marks_len: usize,
-    sample: *mut u8,
-    sample_len: usize,
-) -> u64;
-
-/// The prototype of `cmt_sample_check`.
-pub type SampleCheck = unsafe extern "C" fn(
+    tree: *const u8, tree_len: usize,
+    marks: *const u8, marks_len: usize,
+    sample: *mut u8, sample_len: usize,
+));
+declare!(cmt_sample_check, SampleCheck: (
     depth: u64,
     number: u64,
-    root: *const u8,
-    root_len: usize,
-    sample: *const u8,
-    sample_len: usize,
-) -> u64;
-
-extern "C" {
-    pub(crate) fn cmt_tree_write(
-        depth: u64,
-        table: *const u8,
-        table_len: usize,
-        block: *const u8,
-        block_len: usize,
-        tree: *mut u8,
-        tree_len: usize,
-        marks: *mut u8,
-        marks_len: usize,
-        root: *mut u8,
-        root_len: usize,
-    ) -> u64;
-    pub(crate) fn cmt_block_read(
-        depth: u64,
-        tree: *const u8,
-        tree_len: usize,
-        marks: *const u8,
-        marks_len: usize,
-        block: *mut u8,
-        block_len: usize,
-    ) -> u64;
-    pub(crate) fn cmt_sample_take(
-        depth: u64,
-        number: u64,
-        tree: *const u8,
-        tree_len: usize,
-        marks: *const u8,
-        marks_len: usize,
-        sample: *mut u8,
-        sample_len: usize,
-    ) -> u64;
-    pub(crate) fn cmt_sample_check(
-        depth: u64,
-        number: u64,
-        root: *const u8,
-        root_len: usize,
-        sample: *const u8,
-        sample_len: usize,
-    ) -> u64;
-}
+    root: *const u8, root_len: usize,
+    sample: *const u8, sample_len: usize,
+));
 
 /// Calls `cmt_tree_write`.
 pub fn tree_write(
