@@ -6,6 +6,8 @@ use cedunmi_sys::Library;
 use reference::table::{self, check_bytes};
 use std::{ptr, slice};
 
+pub mod call;
+pub mod repairs;
 pub mod trees;
 
 pub static RIGHT: Library = Library {
@@ -16,6 +18,8 @@ pub static RIGHT: Library = Library {
     block_read: trees::block_read,
     sample_take: trees::sample_take,
     sample_check: trees::sample_check,
+    proof_check: repairs::proof_check,
+    repair: repairs::repair,
 };
 
 /// What `cmt_sha256` must do.

@@ -1,48 +1,9 @@
 //! The functions of coded trees as they must be, each over what its call is
 //! lent.
 
+use super::call::{Call, Part};
 use crate::results::number;
 use reference::{sample, tree};
-use std::slice;
-
-/// A lent buffer.
-#[derive(Clone, Copy)]
-pub struct Part {
-    pointer: *mut u8,
-    len: usize,
-}
-
-impl Part {
-    pub fn of(pointer: *const u8, len: usize) -> Part {
-        Part { pointer: pointer as *mut u8, len }
-    }
-
-    pub fn of_mut(bytes: &mut [u8]) -> Part {
-        Part { pointer: bytes.as_mut_ptr(), len: bytes.len() }
-    }
-
-    pub fn len(self) -> usize {
-        self.len
-    }
-
-    pub unsafe fn bytes<'a>(self) -> &'a [u8] {
-        slice::from_raw_parts(self.pointer, self.len)
-    }
-
-    pub unsafe fn bytes_mut<'a>(self) -> &'a mut [u8] {
-        slice::from_raw_parts_mut(self.pointer, self.len)
-    }
-
-    /// The first bytes of the buffer, as many as are asked for.
-    pub fn first(self, len: usize) -> Part {
-        Part { pointer: self.pointer, len }
-    }
-
-    /// Changes the byte at a distance from the start, inside the buffer or not.
-    pub unsafe fn flip(self, at: isize) {
-        *self.pointer.offset(at) ^= 1;
-    }
-}
 
 /// What a call of `cmt_tree_write` is lent.
 #[derive(Clone, Copy)]
@@ -55,8 +16,8 @@ pub struct Writing {
     pub root: Part,
 }
 
-impl Writing {
-    pub unsafe fn right(self) -> u64 {
+impl Call for Writing {
+    unsafe fn right(self) -> u64 {
         let (tree, marks) = (self.tree.bytes_mut(), self.marks.bytes_mut());
         let (table, block, root) = (self.table.bytes(), self.block.bytes(), self.root.bytes_mut());
         number(tree::write(self.depth, table, block, tree, marks, root))
@@ -72,8 +33,8 @@ pub struct Reading {
     pub block: Part,
 }
 
-impl Reading {
-    pub unsafe fn right(self) -> u64 {
+impl Call for Reading {
+    unsafe fn right(self) -> u64 {
         let (tree, marks, block) = (self.tree.bytes(), self.marks.bytes(), self.block.bytes_mut());
         number(tree::read_block(self.depth, tree, marks, block))
     }
@@ -89,8 +50,8 @@ pub struct Taking {
     pub sample: Part,
 }
 
-impl Taking {
-    pub unsafe fn right(self) -> u64 {
+impl Call for Taking {
+    unsafe fn right(self) -> u64 {
         let (tree, marks, sample) =
             (self.tree.bytes(), self.marks.bytes(), self.sample.bytes_mut());
         number(sample::take(self.depth, self.number, tree, marks, sample))
@@ -106,8 +67,8 @@ pub struct Checking {
     pub sample: Part,
 }
 
-impl Checking {
-    pub unsafe fn right(self) -> u64 {
+impl Call for Checking {
+    unsafe fn right(self) -> u64 {
         number(sample::check(self.depth, self.number, self.root.bytes(), self.sample.bytes()))
     }
 }
@@ -130,7 +91,7 @@ macro_rules! as_tree_write {
             o: *mut u8,
             on: usize,
         ) -> u64 {
-            use $crate::right::trees::{Part, Writing};
+            use $crate::right::{call::Part, trees::Writing};
             let (table, block, tree) = (Part::of(t, tn), Part::of(b, bn), Part::of(r, rn));
             let (marks, root) = (Part::of(m, mn), Part::of(o, on));
             let body: unsafe fn(Writing) -> u64 = $body;
@@ -150,7 +111,7 @@ macro_rules! as_block_read {
             b: *mut u8,
             bn: usize,
         ) -> u64 {
-            use $crate::right::trees::{Part, Reading};
+            use $crate::right::{call::Part, trees::Reading};
             let (tree, marks, block) = (Part::of(t, tn), Part::of(m, mn), Part::of(b, bn));
             let body: unsafe fn(Reading) -> u64 = $body;
             body(Reading { depth, tree, marks, block })
@@ -171,7 +132,7 @@ macro_rules! as_sample_take {
             s: *mut u8,
             sn: usize,
         ) -> u64 {
-            use $crate::right::trees::{Part, Taking};
+            use $crate::right::{call::Part, trees::Taking};
             let (tree, marks, sample) = (Part::of(t, tn), Part::of(m, mn), Part::of(s, sn));
             let body: unsafe fn(Taking) -> u64 = $body;
             body(Taking { depth, number, tree, marks, sample })
@@ -189,7 +150,7 @@ macro_rules! as_sample_check {
             s: *const u8,
             sn: usize,
         ) -> u64 {
-            use $crate::right::trees::{Checking, Part};
+            use $crate::right::{call::Part, trees::Checking};
             let (root, sample) = (Part::of(r, rn), Part::of(s, sn));
             let body: unsafe fn(Checking) -> u64 = $body;
             body(Checking { depth, number, root, sample })

@@ -1,7 +1,8 @@
 //! Wrong sample checks.
 
 use crate::difference::Difference;
-use crate::right::trees::{as_sample_check, Checking, Part};
+use crate::right::call::{right_but, Call};
+use crate::right::trees::{as_sample_check, Checking};
 use crate::right::RIGHT;
 use crate::samples::checking::compare;
 use cedunmi_sys::Library;
@@ -20,15 +21,6 @@ macro_rules! wrong {
             assert!(matches!(failure.difference, $difference), "{failure}");
         }
     };
-}
-
-/// `right`, and then a change to a byte of a buffer, where the result is a hit.
-unsafe fn right_but(c: Checking, hit: impl Fn(u64) -> bool, buffer: Part, at: isize) -> u64 {
-    let result = c.right();
-    if hit(result) {
-        buffer.flip(at);
-    }
-    result
 }
 
 // Hashes.

@@ -1,7 +1,8 @@
 //! Wrong samplers.
 
 use crate::difference::Difference;
-use crate::right::trees::{as_sample_take, Part, Taking};
+use crate::right::call::{right_but, Call, Part};
+use crate::right::trees::{as_sample_take, Taking};
 use crate::right::RIGHT;
 use crate::samples::taking::compare;
 use cedunmi_sys::Library;
@@ -20,15 +21,6 @@ macro_rules! wrong {
             assert!(matches!(failure.difference, $difference), "{failure}");
         }
     };
-}
-
-/// `right`, and then a change to a byte of a buffer, where the result is a hit.
-unsafe fn right_but(t: Taking, hit: impl Fn(u64) -> bool, buffer: Part, at: isize) -> u64 {
-    let result = t.right();
-    if hit(result) {
-        buffer.flip(at);
-    }
-    result
 }
 
 /// `right` with each mark taken for another.

@@ -1,7 +1,8 @@
 //! Wrong functions that read a block back.
 
 use crate::difference::Difference;
-use crate::right::trees::{as_block_read, Part, Reading};
+use crate::right::call::{right_but, Call, Part};
+use crate::right::trees::{as_block_read, Reading};
 use crate::right::RIGHT;
 use crate::trees::reading::compare;
 use cedunmi_sys::Library;
@@ -18,15 +19,6 @@ macro_rules! wrong {
             assert!(matches!(failure.difference, $difference), "{failure}");
         }
     };
-}
-
-/// `right`, and then a change to a byte of a buffer, where the result is a hit.
-unsafe fn right_but(r: Reading, hit: impl Fn(u64) -> bool, buffer: Part, at: isize) -> u64 {
-    let result = r.right();
-    if hit(result) {
-        buffer.flip(at);
-    }
-    result
 }
 
 /// `right` with each mark taken for another.

@@ -1,7 +1,8 @@
 //! Wrong writers.
 
 use crate::difference::Difference;
-use crate::right::trees::{as_tree_write, Part, Writing};
+use crate::right::call::{right_but, Call, Part};
+use crate::right::trees::{as_tree_write, Writing};
 use crate::right::RIGHT;
 use crate::trees::writing::compare;
 use cedunmi_sys::Library;
@@ -20,15 +21,6 @@ macro_rules! wrong {
             assert!(matches!(failure.difference, $difference), "{failure}");
         }
     };
-}
-
-/// `right`, and then a change to a byte of a buffer, where the result is a hit.
-unsafe fn right_but(w: Writing, hit: impl Fn(u64) -> bool, buffer: Part, at: isize) -> u64 {
-    let result = w.right();
-    if hit(result) {
-        buffer.flip(at);
-    }
-    result
 }
 
 // Trees.
