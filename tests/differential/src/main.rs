@@ -6,7 +6,10 @@ mod difference;
 mod inputs;
 mod lent;
 mod messages;
+mod met;
+mod proofs;
 mod random;
+mod repairs;
 mod results;
 #[cfg(test)]
 mod right;
@@ -15,6 +18,7 @@ mod sha256;
 mod system;
 mod tables;
 mod trees;
+mod volumes;
 
 use cedunmi_sys::{Library, CEDUNMI};
 use difference::Failure;
@@ -28,6 +32,8 @@ const SUBJECTS: &[(&str, Compare)] = &[
     ("tables", tables::compare),
     ("trees", trees::compare),
     ("samples", samples::compare),
+    ("proofs", proofs::compare),
+    ("repairs", repairs::compare),
 ];
 
 fn main() -> ExitCode {

@@ -21,6 +21,12 @@ pub fn number(result: Result<(), Stop>) -> u64 {
     number + 256 * value as u64
 }
 
+/// 01's number of a stop, as a word.
+pub fn stop_name(stop: Stop) -> &'static str {
+    let names = ["0", "1", "2", "3", "4", "5", "6", "7", "8", "9"];
+    names[number(Err(stop)) as usize % 256]
+}
+
 /// The end of a repair above the lowest eight bits, and from bit 32 on the
 /// number of symbols stored, with the length of the proof, or the layer, from
 /// bit 48 on.

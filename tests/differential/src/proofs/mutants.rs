@@ -1,0 +1,11 @@
+//! Functions that are wrong in one way each. The comparison must find every
+//! one of them, in the place where it is wrong.
+
+use super::compare;
+use crate::right::RIGHT;
+
+#[test]
+fn right_passes() {
+    let made = compare(&RIGHT).unwrap_or_else(|failure| panic!("{failure}"));
+    assert!(made >= 50_000, "{made}");
+}

@@ -1,0 +1,156 @@
+//! Each way to be refused, and proofs for something else.
+
+use super::{Comparisons, Input};
+use crate::difference::Failure;
+use crate::inputs::{by_one, depths_to_ask, large, with_other_lengths, DEPTHS, MADE_FOR};
+use crate::tables::lists::{random_damage, random_table};
+use crate::volumes::{some_depth, Volume};
+use reference::proof::HEAD;
+use reference::table::{house, to_bytes};
+use reference::tree::{ROOT, SYMBOL};
+
+impl Comparisons {
+    pub(super) fn refused(&mut self) -> Result<(), Failure> {
+        self.depths()?;
+        self.lengths()?;
+        self.tables()?;
+        self.other_volumes()?;
+        self.random_proofs()?;
+        self.causes()
+    }
+
+    /// A proof of one depth, asked for another.
+    fn depths(&mut self) -> Result<(), Failure> {
+        for made_for in MADE_FOR {
+            let there_is = made_for.clamp(*DEPTHS.start(), *DEPTHS.end());
+            let layer = self.random.below(there_is);
+            let (mut input, ..) = Input::of_fault(there_is, layer, &mut self.random);
+            for words in [house(made_for), random_table(made_for, &mut self.random)] {
+                for depth in depths_to_ask(made_for) {
+                    input.depth = depth;
+                    self.make("a depth", &input)?;
+                }
+                input.table = to_bytes(&words);
+            }
+        }
+        Ok(())
+    }
+
+    /// One buffer of another length.
+    fn lengths(&mut self) -> Result<(), Failure> {
+        for depth in DEPTHS {
+            for layer in 0..depth {
+                let (right, ..) = Input::of_fault(depth, layer, &mut self.random);
+                let more = [1, HEAD - 1, HEAD, HEAD + 1, 16_384, 16_385, 16_388];
+                for input in with_other_lengths(&right, Input::buffers, &more) {
+                    self.make("a length", &input)?;
+                }
+            }
+        }
+        Ok(())
+    }
+
+    /// Tables with some words damaged, and tables of another depth.
+    fn tables(&mut self) -> Result<(), Failure> {
+        for depth in DEPTHS {
+            let (right, volume, _) = Input::of_fault(depth, depth - 1, &mut self.random);
+            let words = reference::table::write(&volume.equations);
+            for damages in (1..=3).cycle().take(150) {
+                let mut input = right.clone();
+                input.table = to_bytes(&random_damage(&words, damages, &mut self.random));
+                self.make("a damaged table", &input)?;
+            }
+            for other in MADE_FOR {
+                let mut input = right.clone();
+                input.table = to_bytes(&house(other));
+                self.make("a table of another depth", &input)?;
+            }
+        }
+        Ok(())
+    }
+
+    /// A proof for another root or another table of its depth. A correctly
+    /// coded tree has the other root.
+    fn other_volumes(&mut self) -> Result<(), Failure> {
+        for _ in 0..400 {
+            let depth = some_depth(&mut self.random);
+            let layer = self.random.below(depth);
+            let (right, volume, _) = Input::of_fault(depth, layer, &mut self.random);
+            let words = reference::table::write(&volume.equations);
+            let other = Volume::new(depth, &words, &mut self.random);
+            let mut input = Input::new(&other, right.proof.clone());
+            self.make_for_right_tree("the root of another tree", &input)?;
+            input.root = self.random.bytes(ROOT);
+            self.make("a random root", &input)?;
+            for words in [house(depth), random_table(depth, &mut self.random)] {
+                let mut input = right.clone();
+                input.table = to_bytes(&words);
+                self.make("another table", &input)?;
+            }
+        }
+        Ok(())
+    }
+
+    /// Bytes that are no proofs, with a head that is one or without.
+    fn random_proofs(&mut self) -> Result<(), Failure> {
+        for turn in 0..3000 {
+            let depth = some_depth(&mut self.random);
+            let words = random_table(depth, &mut self.random);
+            let volume = Volume::new(depth, &words, &mut self.random);
+            let layer = self.random.below(depth);
+            let head = volume.some_head(layer, &mut self.random);
+            let right = volume.proof(head);
+            let len = match turn % 4 {
+                0 => self.random.below(2 * HEAD),
+                1 => self.random.below(12_000),
+                2 => HEAD + SYMBOL * self.random.below(40),
+                _ => right.len(),
+            };
+            let mut proof = self.random.bytes(len);
+            if len >= HEAD && turn % 8 > 3 {
+                proof[..HEAD].copy_from_slice(&right[..HEAD]);
+            }
+            self.make_for_right_tree("random bytes", &Input::new(&volume, proof))?;
+        }
+        Ok(())
+    }
+
+    /// Every set of causes: the length of each buffer, a proof under twelve
+    /// bytes, the depth, a word of the table, the head, a wrong hash, and no
+    /// fault.
+    fn causes(&mut self) -> Result<(), Failure> {
+        for depth in DEPTHS {
+            let layer = self.random.below(depth);
+            let (fault, volume, head) = Input::of_fault(depth, layer, &mut self.random);
+            let words = reference::table::write(&volume.equations);
+            let sound = Volume::new(depth, &words, &mut self.random);
+            let no_fault = Input::new(&sound, sound.proof(head));
+            for causes in 0..1 << 9 {
+                let has = |cause: usize| causes >> cause & 1 == 1;
+                let mut input = if has(8) { no_fault.clone() } else { fault.clone() };
+                if has(7) {
+                    let at = HEAD + self.random.below(input.proof.len() - HEAD);
+                    input.proof[at] ^= 4;
+                }
+                if has(6) {
+                    input.proof[self.random.below(HEAD / 2)] ^= 0x40;
+                }
+                if has(5) {
+                    let at = 4 * self.random.below(input.table.len() / 4);
+                    input.table[at] ^= 0xc0;
+                }
+                if has(4) {
+                    input.proof.truncate(self.random.below(HEAD));
+                }
+                for buffer in (0..3).filter(|&buffer| has(buffer)) {
+                    by_one(input.buffers()[buffer], &mut self.random);
+                }
+                if has(3) {
+                    input.depth = large(depth)[self.random.below(5)];
+                }
+                self.make("several causes", &input)?;
+            }
+        }
+        Ok(())
+    }
+}

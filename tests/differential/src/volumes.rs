@@ -1,0 +1,130 @@
+//! Coded trees with their tables: such as are correctly coded, and such as are
+//! not though their hashes fit.
+
+use crate::inputs::block_len;
+use crate::random::Random;
+use crate::tables::lists::random_table;
+use reference::proof::{self, Head};
+use reference::sha256::sha256;
+use reference::table::{self, data_symbols, house, to_bytes, Layers};
+use reference::tree::{code_tree, committed, place, symbol_at, symbols, Committed, HASH, SYMBOL};
+
+#[derive(Clone)]
+pub struct Volume {
+    pub depth: usize,
+    pub table: Vec<u8>,
+    pub equations: Layers,
+    pub tree: Vec<u8>,
+    pub root: Vec<u8>,
+}
+
+/// A depth, the smaller ones more often.
+pub fn some_depth(random: &mut Random) -> usize {
+    match random.below(32) {
+        0..=17 => 1,
+        18..=24 => 2,
+        25..=28 => 3,
+        29..=30 => 4,
+        _ => 5,
+    }
+}
+
+/// The house table or a random one.
+pub fn some_table(depth: usize, random: &mut Random) -> Vec<u32> {
+    match random.below(2) {
+        0 => house(depth),
+        _ => random_table(depth, random),
+    }
+}
+
+/// A random parity symbol of a layer.
+pub fn some_parity(layer: usize, random: &mut Random) -> usize {
+    data_symbols(layer) + random.below(3 * data_symbols(layer))
+}
+
+impl Volume {
+    /// The correctly coded tree of a random block.
+    pub fn new(depth: usize, words: &[u32], random: &mut Random) -> Volume {
+        Volume::miscoded(depth, words, &[], random)
+    }
+
+    /// The tree of a random block, in which these symbols, each by its layer
+    /// and its number, were replaced before they were hashed.
+    pub fn miscoded(
+        depth: usize,
+        words: &[u32],
+        replaced: &[(usize, usize)],
+        random: &mut Random,
+    ) -> Volume {
+        let table = to_bytes(words);
+        let equations = table::equations(depth as u64, &table).expect("a table");
+        let block = random.bytes(block_len(depth));
+        let (tree, root) = code_tree(&equations, &block, |layer, symbols| {
+            for &(_, symbol) in replaced.iter().filter(|replaced| replaced.0 == layer) {
+                symbols[symbol].copy_from_slice(&random.bytes(SYMBOL));
+            }
+        });
+        Volume { depth, table, equations, tree, root }
+    }
+
+    /// A tree of a random table in which one parity symbol of a layer was
+    /// replaced, and that symbol's number.
+    pub fn with_fault(depth: usize, layer: usize, random: &mut Random) -> (Volume, usize) {
+        let words = some_table(depth, random);
+        let parity = some_parity(layer, random);
+        (Volume::miscoded(depth, &words, &[(layer, parity)], random), parity)
+    }
+
+    /// The members of the equation that a head names.
+    pub fn members(&self, head: Head) -> &[usize] {
+        &self.equations[head.layer][head.equation]
+    }
+
+    /// The proof that the tree gives for a head.
+    pub fn proof(&self, head: Head) -> Vec<u8> {
+        proof::write(head, self.members(head), &self.tree)
+    }
+
+    /// A random head.
+    pub fn some_head(&self, layer: usize, random: &mut Random) -> Head {
+        let equation = random.below(self.equations[layer].len());
+        self.withholding(layer, equation, random)
+    }
+
+    /// The head for an equation, and a random member withheld.
+    pub fn withholding(&self, layer: usize, equation: usize, random: &mut Random) -> Head {
+        let members = &self.equations[layer][equation];
+        Head { layer, equation, withheld: members[random.below(members.len())] }
+    }
+
+    /// Changes a byte of the hash that stands for a symbol, and makes every
+    /// hash above fit that change: no other hash is wrong.
+    pub fn break_hash(&mut self, layer: usize, symbol: usize, byte: usize) {
+        match committed(layer, symbol) {
+            Committed::Root { at } => self.root[at + byte] ^= 1,
+            Committed::Above { symbol: above, at } => {
+                self.tree[SYMBOL * place(layer - 1, above) + at + byte] ^= 1;
+                self.rehash(layer - 1, above);
+            }
+        }
+    }
+
+    /// Makes the hash of a symbol fit, and every hash above.
+    fn rehash(&mut self, layer: usize, symbol: usize) {
+        let hash = sha256(symbol_at(&self.tree, place(layer, symbol)));
+        match committed(layer, symbol) {
+            Committed::Root { at } => self.root[at..at + HASH].copy_from_slice(&hash),
+            Committed::Above { symbol: above, at } => {
+                let start = SYMBOL * place(layer - 1, above) + at;
+                self.tree[start..start + HASH].copy_from_slice(&hash);
+                self.rehash(layer - 1, above);
+            }
+        }
+    }
+
+    /// The symbols of all layers, each by its layer and its number.
+    pub fn all_symbols(&self) -> Vec<(usize, usize)> {
+        let layers = 0..self.depth;
+        layers.flat_map(|layer| (0..symbols(layer)).map(move |symbol| (layer, symbol))).collect()
+    }
+}
