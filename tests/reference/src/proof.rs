@@ -114,7 +114,7 @@ pub fn check(depth: u64, root: &[u8], table: &[u8], proof: &[u8]) -> Result<(), 
 }
 
 /// The hash for a symbol: in the root, or in the given symbol of this index.
-fn hash_for<'a>(
+pub fn hash_for<'a>(
     root: &'a [u8],
     given: &'a [u8],
     layer: usize,
