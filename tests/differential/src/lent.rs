@@ -2,6 +2,7 @@
 //! so that a write beside the buffer shows, and at a chosen alignment.
 
 use crate::difference::Difference;
+use std::ops::Range;
 
 /// Known bytes on each side of a lent buffer, at the least.
 const GUARD: usize = 128;
@@ -21,10 +22,12 @@ impl Lent {
     /// `alignment` modulo 64.
     pub fn new(name: &'static str, content: &[u8], alignment: usize) -> Lent {
         let size = content.len() + 2 * GUARD + ALIGNMENTS;
-        let mut array: Vec<u8> = (0..size).map(guard_byte).collect();
+        let mut array = vec![0; size];
         let lowest = array.as_ptr() as usize + GUARD;
         let start = GUARD + alignment.wrapping_sub(lowest) % ALIGNMENTS;
-        array[start..start + content.len()].copy_from_slice(content);
+        let end = start + content.len();
+        (0..start).chain(end..size).for_each(|i| array[i] = guard_byte(i));
+        array[start..end].copy_from_slice(content);
         Lent { name, array, start, len: content.len() }
     }
 
@@ -40,19 +43,25 @@ impl Lent {
     /// Whether the buffer holds `expected` and nothing beside it has changed.
     pub fn check(&self, expected: &[u8]) -> Result<(), Difference> {
         assert_eq!(expected.len(), self.len);
-        for (i, &found) in self.array.iter().enumerate() {
-            let at = i.wrapping_sub(self.start);
-            match expected.get(at) {
-                Some(&expected) if expected != found => {
-                    return Err(Difference::Inside { buffer: self.name, at, expected, found });
-                }
-                None if guard_byte(i) != found => {
-                    return Err(Difference::Outside { buffer: self.name, at: at as isize });
-                }
-                _ => {}
-            }
+        let end = self.start + self.len;
+        self.check_guard(0..self.start)?;
+        let found = &self.array[self.start..end];
+        if found != expected {
+            let mut pairs = expected.iter().zip(found).enumerate();
+            let (at, (&expected, &found)) = pairs.find(|(_, (e, f))| e != f).expect("a byte");
+            return Err(Difference::Inside { buffer: self.name, at, expected, found });
         }
-        Ok(())
+        self.check_guard(end..self.array.len())
+    }
+
+    fn check_guard(&self, mut range: Range<usize>) -> Result<(), Difference> {
+        match range.find(|&i| self.array[i] != guard_byte(i)) {
+            Some(i) => {
+                let at = i as isize - self.start as isize;
+                Err(Difference::Outside { buffer: self.name, at })
+            }
+            None => Ok(()),
+        }
     }
 }
 

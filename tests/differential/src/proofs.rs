@@ -1,6 +1,7 @@
 //! `cmt_proof_check` beside the reference.
 
 mod damaged;
+mod foreign;
 mod heads;
 mod refused;
 mod shown;
@@ -38,10 +39,26 @@ pub fn compare(library: &Library) -> Result<u64, Failure> {
         met: Met::default(),
         made: 0,
     };
-    comparisons.refused()?;
-    comparisons.shown()?;
-    comparisons.heads()?;
-    comparisons.damaged()?;
+    comparisons.depths()?;
+    comparisons.causes()?;
+    comparisons.kinds()?;
+    comparisons.bits()?;
+    comparisons.hashes()?;
+    comparisons.committed_otherwise()?;
+    comparisons.bytes()?;
+    comparisons.root_bytes()?;
+    comparisons.lengths()?;
+    comparisons.tables()?;
+    comparisons.values()?;
+    comparisons.heads_before_bodies()?;
+    comparisons.lengths_of_proofs()?;
+    comparisons.swapped_symbols()?;
+    comparisons.other_depths()?;
+    comparisons.withheld_members()?;
+    comparisons.written_by_repair()?;
+    comparisons.other_volumes()?;
+    comparisons.random_proofs()?;
+    comparisons.damage_for_right_trees()?;
     comparisons.met.demand(&LEAST);
     Ok(comparisons.made)
 }

@@ -43,9 +43,24 @@ pub fn compare(library: &Library) -> Result<u64, Failure> {
         met: Met::default(),
         made: 0,
     };
-    comparisons.refused()?;
-    comparisons.losses()?;
-    comparisons.miscoded()?;
+    comparisons.depths()?;
+    comparisons.causes()?;
+    comparisons.bad_marks()?;
+    comparisons.every_mark()?;
+    comparisons.one_fault()?;
+    comparisons.some_faults()?;
+    comparisons.known_stopping_sets()?;
+    comparisons.one_symbol()?;
+    comparisons.bad_copies()?;
+    comparisons.sets_of_one_layer()?;
+    comparisons.random_losses()?;
+    comparisons.lost_layers()?;
+    comparisons.found_stopping_sets()?;
+    comparisons.faults_in_some_layers()?;
+    comparisons.other_hashes()?;
+    comparisons.junk()?;
+    comparisons.lengths()?;
+    comparisons.tables()?;
     comparisons.met.demand(&LEAST);
     Ok(comparisons.made)
 }

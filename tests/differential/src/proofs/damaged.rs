@@ -3,23 +3,13 @@
 use super::{Comparisons, Input};
 use crate::difference::Failure;
 use crate::inputs::DEPTHS;
-use crate::volumes::{some_depth, some_table, Volume};
 use reference::proof::HEAD;
-use reference::tree::{symbol_at, HASH, ROOT, SYMBOL};
+use reference::tree::{HASH, ROOT, SYMBOL};
 
 impl Comparisons {
-    pub(super) fn damaged(&mut self) -> Result<(), Failure> {
-        self.bytes()?;
-        self.root_bytes()?;
-        self.hashes()?;
-        self.lengths_of_proofs()?;
-        self.swapped_symbols()?;
-        self.damage_for_right_trees()
-    }
-
     /// Each byte, or, of the longer proofs, some of each symbol: one bit of it
     /// changed.
-    fn bytes(&mut self) -> Result<(), Failure> {
+    pub(super) fn bytes(&mut self) -> Result<(), Failure> {
         for depth in DEPTHS {
             for layer in 0..depth {
                 let (right, ..) = Input::of_fault(depth, layer, &mut self.random);
@@ -36,7 +26,7 @@ impl Comparisons {
         Ok(())
     }
 
-    fn root_bytes(&mut self) -> Result<(), Failure> {
+    pub(super) fn root_bytes(&mut self) -> Result<(), Failure> {
         for depth in DEPTHS {
             let layer = self.random.below(depth);
             let (right, ..) = Input::of_fault(depth, layer, &mut self.random);
@@ -51,7 +41,7 @@ impl Comparisons {
 
     /// The hash for each symbol of the proof, the only one that is wrong, in
     /// one byte.
-    fn hashes(&mut self) -> Result<(), Failure> {
+    pub(super) fn hashes(&mut self) -> Result<(), Failure> {
         for depth in DEPTHS {
             for layer in 0..depth {
                 let (_, volume, head) = Input::of_fault(depth, layer, &mut self.random);
@@ -70,7 +60,7 @@ impl Comparisons {
 
     /// Cut and extended: to every length at depth 1, else near those that end
     /// a part.
-    fn lengths_of_proofs(&mut self) -> Result<(), Failure> {
+    pub(super) fn lengths_of_proofs(&mut self) -> Result<(), Failure> {
         for depth in DEPTHS {
             for layer in 0..depth {
                 let (right, ..) = Input::of_fault(depth, layer, &mut self.random);
@@ -89,7 +79,7 @@ impl Comparisons {
     }
 
     /// Two symbols of the proof in each other's place.
-    fn swapped_symbols(&mut self) -> Result<(), Failure> {
+    pub(super) fn swapped_symbols(&mut self) -> Result<(), Failure> {
         for depth in DEPTHS {
             for layer in 0..depth {
                 let (right, ..) = Input::of_fault(depth, layer, &mut self.random);
@@ -105,41 +95,5 @@ impl Comparisons {
             }
         }
         Ok(())
-    }
-
-    /// Proofs of correctly coded trees, damaged in some ways at once.
-    fn damage_for_right_trees(&mut self) -> Result<(), Failure> {
-        for _ in 0..600 {
-            let depth = some_depth(&mut self.random);
-            let words = some_table(depth, &mut self.random);
-            let volume = Volume::new(depth, &words, &mut self.random);
-            let layer = self.random.below(depth);
-            for _ in 0..10 {
-                let head = volume.some_head(layer, &mut self.random);
-                let mut input = Input::new(&volume, volume.proof(head));
-                for _ in 0..1 + self.random.below(3) {
-                    self.damage(&mut input.proof, &volume);
-                }
-                self.make_for_right_tree("a damaged proof of a right tree", &input)?;
-            }
-        }
-        Ok(())
-    }
-
-    /// Changes a byte of the head or of a symbol, or puts another symbol of
-    /// the tree, or random bytes, in the place of one.
-    fn damage(&mut self, proof: &mut [u8], volume: &Volume) {
-        let symbols = (proof.len() - HEAD) / SYMBOL;
-        let start = HEAD + SYMBOL * self.random.below(symbols);
-        match self.random.below(4) {
-            0 => proof[self.random.below(HEAD)] ^= 1 << self.random.below(8),
-            1 => proof[start + self.random.below(SYMBOL)] ^= 1 << self.random.below(8),
-            2 => {
-                let all = volume.tree.len() / SYMBOL;
-                let other = symbol_at(&volume.tree, self.random.below(all));
-                proof[start..start + SYMBOL].copy_from_slice(other);
-            }
-            _ => proof[start..start + SYMBOL].copy_from_slice(&self.random.bytes(SYMBOL)),
-        }
     }
 }

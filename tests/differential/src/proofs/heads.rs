@@ -24,15 +24,8 @@ const LARGE: [u32; 12] = [
 ];
 
 impl Comparisons {
-    pub(super) fn heads(&mut self) -> Result<(), Failure> {
-        self.kinds()?;
-        self.values()?;
-        self.bits()?;
-        self.heads_before_bodies()
-    }
-
     /// Each word of the head with each kind.
-    fn kinds(&mut self) -> Result<(), Failure> {
+    pub(super) fn kinds(&mut self) -> Result<(), Failure> {
         for depth in DEPTHS {
             for layer in 0..depth {
                 let (right, _, head) = Input::of_fault(depth, layer, &mut self.random);
@@ -48,7 +41,7 @@ impl Comparisons {
     }
 
     /// Each word with each value that is near, and with large ones.
-    fn values(&mut self) -> Result<(), Failure> {
+    pub(super) fn values(&mut self) -> Result<(), Failure> {
         for depth in DEPTHS {
             for layer in 0..depth {
                 let (right, _, head) = Input::of_fault(depth, layer, &mut self.random);
@@ -68,7 +61,7 @@ impl Comparisons {
     }
 
     /// Each bit of the head.
-    fn bits(&mut self) -> Result<(), Failure> {
+    pub(super) fn bits(&mut self) -> Result<(), Failure> {
         for depth in DEPTHS {
             for layer in 0..depth {
                 let (right, ..) = Input::of_fault(depth, layer, &mut self.random);
@@ -84,7 +77,7 @@ impl Comparisons {
 
     /// Heads, in form or not, before bodies of the length that they demand, or
     /// of another.
-    fn heads_before_bodies(&mut self) -> Result<(), Failure> {
+    pub(super) fn heads_before_bodies(&mut self) -> Result<(), Failure> {
         for depth in DEPTHS {
             let (right, volume, _) = Input::of_fault(depth, depth - 1, &mut self.random);
             for turn in 0..1000 {

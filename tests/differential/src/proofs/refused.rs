@@ -1,26 +1,16 @@
-//! Each way to be refused, and proofs for something else.
+//! Each way to be refused before a hash is looked at, and several at once.
 
 use super::{Comparisons, Input};
 use crate::difference::Failure;
 use crate::inputs::{by_one, depths_to_ask, large, with_other_lengths, DEPTHS, MADE_FOR};
 use crate::tables::lists::{random_damage, random_table};
-use crate::volumes::{some_depth, Volume};
+use crate::volumes::Volume;
 use reference::proof::HEAD;
 use reference::table::{house, to_bytes};
-use reference::tree::{ROOT, SYMBOL};
 
 impl Comparisons {
-    pub(super) fn refused(&mut self) -> Result<(), Failure> {
-        self.depths()?;
-        self.lengths()?;
-        self.tables()?;
-        self.other_volumes()?;
-        self.random_proofs()?;
-        self.causes()
-    }
-
     /// A proof of one depth, asked for another.
-    fn depths(&mut self) -> Result<(), Failure> {
+    pub(super) fn depths(&mut self) -> Result<(), Failure> {
         for made_for in MADE_FOR {
             let there_is = made_for.clamp(*DEPTHS.start(), *DEPTHS.end());
             let layer = self.random.below(there_is);
@@ -37,7 +27,7 @@ impl Comparisons {
     }
 
     /// One buffer of another length.
-    fn lengths(&mut self) -> Result<(), Failure> {
+    pub(super) fn lengths(&mut self) -> Result<(), Failure> {
         for depth in DEPTHS {
             for layer in 0..depth {
                 let (right, ..) = Input::of_fault(depth, layer, &mut self.random);
@@ -51,7 +41,7 @@ impl Comparisons {
     }
 
     /// Tables with some words damaged, and tables of another depth.
-    fn tables(&mut self) -> Result<(), Failure> {
+    pub(super) fn tables(&mut self) -> Result<(), Failure> {
         for depth in DEPTHS {
             let (right, volume, _) = Input::of_fault(depth, depth - 1, &mut self.random);
             let words = reference::table::write(&volume.equations);
@@ -69,56 +59,10 @@ impl Comparisons {
         Ok(())
     }
 
-    /// A proof for another root or another table of its depth. A correctly
-    /// coded tree has the other root.
-    fn other_volumes(&mut self) -> Result<(), Failure> {
-        for _ in 0..400 {
-            let depth = some_depth(&mut self.random);
-            let layer = self.random.below(depth);
-            let (right, volume, _) = Input::of_fault(depth, layer, &mut self.random);
-            let words = reference::table::write(&volume.equations);
-            let other = Volume::new(depth, &words, &mut self.random);
-            let mut input = Input::new(&other, right.proof.clone());
-            self.make_for_right_tree("the root of another tree", &input)?;
-            input.root = self.random.bytes(ROOT);
-            self.make("a random root", &input)?;
-            for words in [house(depth), random_table(depth, &mut self.random)] {
-                let mut input = right.clone();
-                input.table = to_bytes(&words);
-                self.make("another table", &input)?;
-            }
-        }
-        Ok(())
-    }
-
-    /// Bytes that are no proofs, with a head that is one or without.
-    fn random_proofs(&mut self) -> Result<(), Failure> {
-        for turn in 0..3000 {
-            let depth = some_depth(&mut self.random);
-            let words = random_table(depth, &mut self.random);
-            let volume = Volume::new(depth, &words, &mut self.random);
-            let layer = self.random.below(depth);
-            let head = volume.some_head(layer, &mut self.random);
-            let right = volume.proof(head);
-            let len = match turn % 4 {
-                0 => self.random.below(2 * HEAD),
-                1 => self.random.below(12_000),
-                2 => HEAD + SYMBOL * self.random.below(40),
-                _ => right.len(),
-            };
-            let mut proof = self.random.bytes(len);
-            if len >= HEAD && turn % 8 > 3 {
-                proof[..HEAD].copy_from_slice(&right[..HEAD]);
-            }
-            self.make_for_right_tree("random bytes", &Input::new(&volume, proof))?;
-        }
-        Ok(())
-    }
-
     /// Every set of causes: the length of each buffer, a proof under twelve
     /// bytes, the depth, a word of the table, the head, a wrong hash, and no
     /// fault.
-    fn causes(&mut self) -> Result<(), Failure> {
+    pub(super) fn causes(&mut self) -> Result<(), Failure> {
         for depth in DEPTHS {
             let layer = self.random.below(depth);
             let (fault, volume, head) = Input::of_fault(depth, layer, &mut self.random);

@@ -12,16 +12,9 @@ use reference::table::{house, to_bytes};
 use reference::tree::{tree_symbols, HASH};
 
 impl Comparisons {
-    pub(super) fn shown(&mut self) -> Result<(), Failure> {
-        self.withheld_members()?;
-        self.written_by_repair()?;
-        self.other_depths()?;
-        self.committed_otherwise()
-    }
-
     /// Every equation with every member withheld, of a tree with one replaced
     /// symbol and of one without.
-    fn withheld_members(&mut self) -> Result<(), Failure> {
+    pub(super) fn withheld_members(&mut self) -> Result<(), Failure> {
         for depth in DEPTHS {
             let random = random_table(depth, &mut self.random);
             for words in [house(depth), random, table_of(depth, 8), table_of(depth, 2)] {
@@ -61,7 +54,7 @@ impl Comparisons {
     }
 
     /// What a repair writes.
-    fn written_by_repair(&mut self) -> Result<(), Failure> {
+    pub(super) fn written_by_repair(&mut self) -> Result<(), Failure> {
         for _ in 0..2000 {
             let depth = some_depth(&mut self.random);
             let words = some_table(depth, &mut self.random);
@@ -85,7 +78,7 @@ impl Comparisons {
 
     /// The root says nothing of the depth: a proof passes for any depth whose
     /// table has its layers.
-    fn other_depths(&mut self) -> Result<(), Failure> {
+    pub(super) fn other_depths(&mut self) -> Result<(), Failure> {
         for depth in DEPTHS {
             let words = house(depth);
             for layer in 0..depth {
@@ -106,7 +99,7 @@ impl Comparisons {
 
     /// The symbols are correctly coded, but the hash for the withheld one is
     /// another, in one byte.
-    fn committed_otherwise(&mut self) -> Result<(), Failure> {
+    pub(super) fn committed_otherwise(&mut self) -> Result<(), Failure> {
         for depth in DEPTHS {
             let words = some_table(depth, &mut self.random);
             let right = Volume::new(depth, &words, &mut self.random);

@@ -23,20 +23,9 @@ fn some_volume(random: &mut Random) -> Volume {
 }
 
 impl Comparisons {
-    pub(super) fn losses(&mut self) -> Result<(), Failure> {
-        self.known_stopping_sets()?;
-        self.sets_of_one_layer()?;
-        self.one_symbol()?;
-        self.random_losses()?;
-        self.lost_layers()?;
-        self.bad_copies()?;
-        self.found_stopping_sets()?;
-        self.junk()
-    }
-
     /// In the top layer, with a symbol beside it that can be stored, or none;
     /// and every symbol of each layer.
-    fn known_stopping_sets(&mut self) -> Result<(), Failure> {
+    pub(super) fn known_stopping_sets(&mut self) -> Result<(), Failure> {
         for depth in DEPTHS {
             let volume = Volume::new(depth, &house(depth), &mut self.random);
             for more in [None, Some(15)] {
@@ -59,7 +48,7 @@ impl Comparisons {
     }
 
     /// Many sets of the sixteen symbols of depth 1.
-    fn sets_of_one_layer(&mut self) -> Result<(), Failure> {
+    pub(super) fn sets_of_one_layer(&mut self) -> Result<(), Failure> {
         for turn in 0..4000 {
             let words = some_table(1, &mut self.random);
             let volume = Volume::new(1, &words, &mut self.random);
@@ -72,7 +61,7 @@ impl Comparisons {
     }
 
     /// Each place alone: absent, and a bad copy.
-    fn one_symbol(&mut self) -> Result<(), Failure> {
+    pub(super) fn one_symbol(&mut self) -> Result<(), Failure> {
         for depth in DEPTHS {
             let volume = Volume::new(depth, &house(depth), &mut self.random);
             let right = Input::new(&volume, &mut self.random);
@@ -91,7 +80,7 @@ impl Comparisons {
         Ok(())
     }
 
-    fn random_losses(&mut self) -> Result<(), Failure> {
+    pub(super) fn random_losses(&mut self) -> Result<(), Failure> {
         for turn in 0..2500 {
             let volume = some_volume(&mut self.random);
             let mut input = Input::new(&volume, &mut self.random);
@@ -103,7 +92,7 @@ impl Comparisons {
     }
 
     /// Few lost above a layer that loses much, and any below.
-    fn lost_layers(&mut self) -> Result<(), Failure> {
+    pub(super) fn lost_layers(&mut self) -> Result<(), Failure> {
         for turn in 0..600 {
             let depth = 2 + turn % 4;
             let words = some_table(depth, &mut self.random);
@@ -119,7 +108,7 @@ impl Comparisons {
         Ok(())
     }
 
-    fn bad_copies(&mut self) -> Result<(), Failure> {
+    pub(super) fn bad_copies(&mut self) -> Result<(), Failure> {
         for turn in 0..2500 {
             let volume = some_volume(&mut self.random);
             let mut input = Input::new(&volume, &mut self.random);
@@ -137,7 +126,7 @@ impl Comparisons {
 
     /// The gaps that a repair left are all that is lost: nothing is stored in
     /// that layer.
-    fn found_stopping_sets(&mut self) -> Result<(), Failure> {
+    pub(super) fn found_stopping_sets(&mut self) -> Result<(), Failure> {
         for _ in 0..800 {
             let volume = some_volume(&mut self.random);
             let right = Input::new(&volume, &mut self.random);
@@ -161,7 +150,7 @@ impl Comparisons {
     }
 
     /// Random bytes, marks and roots, in some or in all of the buffers.
-    fn junk(&mut self) -> Result<(), Failure> {
+    pub(super) fn junk(&mut self) -> Result<(), Failure> {
         for turn in 0..800 {
             let volume = some_volume(&mut self.random);
             let mut input = Input::new(&volume, &mut self.random);

@@ -10,16 +10,9 @@ use reference::repair::{End, Repaired};
 use reference::tree::symbols;
 
 impl Comparisons {
-    pub(super) fn miscoded(&mut self) -> Result<(), Failure> {
-        self.one_fault()?;
-        self.some_faults()?;
-        self.faults_in_some_layers()?;
-        self.other_hashes()
-    }
-
     /// One replaced symbol of each layer: all held, the symbol itself absent
     /// or a bad copy, or another member of its equation absent.
-    fn one_fault(&mut self) -> Result<(), Failure> {
+    pub(super) fn one_fault(&mut self) -> Result<(), Failure> {
         for turn in 0..60 {
             for depth in DEPTHS.filter(|depth| turn % depth == 0) {
                 for layer in 0..depth {
@@ -57,7 +50,7 @@ impl Comparisons {
 
     /// Several replaced symbols of one layer, data too, and losses and bad
     /// copies: which equation is taken first decides.
-    fn some_faults(&mut self) -> Result<(), Failure> {
+    pub(super) fn some_faults(&mut self) -> Result<(), Failure> {
         for turn in 0..4000 {
             let depth = some_depth(&mut self.random);
             let words = some_table(depth, &mut self.random);
@@ -78,7 +71,7 @@ impl Comparisons {
     }
 
     /// Replaced symbols in more than one layer: the topmost shows.
-    fn faults_in_some_layers(&mut self) -> Result<(), Failure> {
+    pub(super) fn faults_in_some_layers(&mut self) -> Result<(), Failure> {
         for turn in 0..500 {
             let depth = 2 + turn % 4;
             let words = some_table(depth, &mut self.random);
@@ -96,7 +89,7 @@ impl Comparisons {
     }
 
     /// The symbols are correctly coded, but the hash for one is another.
-    fn other_hashes(&mut self) -> Result<(), Failure> {
+    pub(super) fn other_hashes(&mut self) -> Result<(), Failure> {
         for turn in 0..800 {
             let depth = some_depth(&mut self.random);
             let words = some_table(depth, &mut self.random);

@@ -29,17 +29,8 @@ impl Input {
 }
 
 impl Comparisons {
-    pub(super) fn refused(&mut self) -> Result<(), Failure> {
-        self.depths()?;
-        self.lengths()?;
-        self.tables()?;
-        self.every_mark()?;
-        self.bad_marks()?;
-        self.causes()
-    }
-
     /// Buffers for one depth, asked for another.
-    fn depths(&mut self) -> Result<(), Failure> {
+    pub(super) fn depths(&mut self) -> Result<(), Failure> {
         for made_for in MADE_FOR {
             for words in [house(made_for), random_table(made_for, &mut self.random)] {
                 let mut input = Input::junk(made_for, &words, &mut self.random);
@@ -53,7 +44,7 @@ impl Comparisons {
     }
 
     /// One buffer of another length.
-    fn lengths(&mut self) -> Result<(), Failure> {
+    pub(super) fn lengths(&mut self) -> Result<(), Failure> {
         for depth in DEPTHS {
             for _ in 0..4 {
                 let words = some_table(depth, &mut self.random);
@@ -69,7 +60,7 @@ impl Comparisons {
     }
 
     /// Tables with some words damaged, and tables of another depth.
-    fn tables(&mut self) -> Result<(), Failure> {
+    pub(super) fn tables(&mut self) -> Result<(), Failure> {
         for turn in 0..1500 {
             let depth = some_depth(&mut self.random);
             let words = some_table(depth, &mut self.random);
@@ -89,7 +80,7 @@ impl Comparisons {
 
     /// Each place alone with a mark that is none, those too whose layers would
     /// never be entered.
-    fn every_mark(&mut self) -> Result<(), Failure> {
+    pub(super) fn every_mark(&mut self) -> Result<(), Failure> {
         for depth in DEPTHS {
             let volume = Volume::new(depth, &house(depth), &mut self.random);
             let mut input = Input::new(&volume, &mut self.random);
@@ -105,7 +96,7 @@ impl Comparisons {
     }
 
     /// Several marks that are none.
-    fn bad_marks(&mut self) -> Result<(), Failure> {
+    pub(super) fn bad_marks(&mut self) -> Result<(), Failure> {
         for turn in 0..1000 {
             let depth = some_depth(&mut self.random);
             let mut input = Input::junk(depth, &house(depth), &mut self.random);
@@ -119,7 +110,7 @@ impl Comparisons {
 
     /// Every set of causes: the length of each buffer, the depth, a word of
     /// the table, a mark that is none.
-    fn causes(&mut self) -> Result<(), Failure> {
+    pub(super) fn causes(&mut self) -> Result<(), Failure> {
         for depth in DEPTHS {
             let words = some_table(depth, &mut self.random);
             let volume = Volume::new(depth, &words, &mut self.random);

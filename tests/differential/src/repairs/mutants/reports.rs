@@ -1,0 +1,148 @@
+//! Wrong reports, and a wrong output.
+
+use crate::difference::Difference;
+use crate::right::call::Call;
+use crate::right::repairs::Repairing;
+use reference::proof::HEAD;
+use reference::tree::SYMBOL;
+
+/// The end, or nothing where the repair was refused.
+fn end(result: u64) -> Option<u64> {
+    (result % 256 == 0).then_some(result >> 8 & 0xff_ffff)
+}
+
+fn stored(result: u64) -> u64 {
+    result >> 32 & 0xffff
+}
+
+/// What is reported beside the symbols stored.
+fn more(result: u64) -> u64 {
+    result >> 48
+}
+
+/// The result with another number of symbols stored.
+fn with_stored(result: u64, stored: u64) -> u64 {
+    result & !(0xffff << 32) | stored << 32
+}
+
+/// `right`, with other symbols stored, where it is not refused.
+unsafe fn stored_as(r: Repairing, other: impl FnOnce(u64) -> u64) -> u64 {
+    let result = r.right();
+    match end(result) {
+        Some(_) => with_stored(result, other(result)),
+        None => result,
+    }
+}
+
+/// The places marked 0.
+unsafe fn absent(r: Repairing) -> u64 {
+    r.marks.bytes().iter().filter(|&&mark| mark == 0).count() as u64
+}
+
+// Symbols stored.
+
+wrong!(none_stored, Difference::Result { .. }, |r| stored_as(r, |_| 0));
+
+wrong!(one_more_stored, Difference::Result { .. }, |r| stored_as(r, |result| stored(result) + 1));
+
+wrong!(bad_copies_not_counted, Difference::Result { .. }, |r| {
+    let before = absent(r);
+    stored_as(r, |result| if end(result) == Some(0) { before } else { stored(result) })
+});
+
+wrong!(all_gaps_counted, Difference::Result { .. }, |r| {
+    let before = absent(r);
+    stored_as(r, |_| before)
+});
+
+wrong!(stored_only_when_whole, Difference::Result { .. }, |r| {
+    stored_as(r, |result| if end(result) == Some(0) { stored(result) } else { 0 })
+});
+
+wrong!(stored_of_8_bits, Difference::Result { .. }, |r| stored_as(r, |result| stored(result)
+    % 256));
+
+// The ends.
+
+wrong!(whole_for_unavailable, Difference::Result { .. }, |r| match r.right() {
+    result if end(result) == Some(2) => with_stored(0, stored(result)),
+    result => result,
+});
+
+wrong!(twins_for_fault, Difference::Result { .. }, |r| match r.right() {
+    result if end(result) == Some(1) => result ^ 2 << 8,
+    result => result,
+});
+
+wrong!(no_layer, Difference::Result { .. }, |r| match r.right() {
+    result if end(result) == Some(2) => result % (1 << 48),
+    result => result,
+});
+
+wrong!(layer_counted_from_1, Difference::Result { .. }, |r| match r.right() {
+    result if end(result) == Some(2) => result + (1 << 48),
+    result => result,
+});
+
+wrong!(no_proof_length, Difference::Result { .. }, |r| match r.right() {
+    result if end(result) == Some(1) => result % (1 << 48),
+    result => result,
+});
+
+wrong!(whole_output_for_the_proof, Difference::Result { .. }, |r| match r.right() {
+    result if end(result) == Some(1) => result % (1 << 48) | (r.output.len() as u64) << 48,
+    result => result,
+});
+
+// The output.
+
+/// `right`, and then a change to the output with a proof.
+unsafe fn output_as(r: Repairing, change: impl Fn(&mut [u8], usize)) -> u64 {
+    let result = r.right();
+    if end(result) == Some(1) {
+        change(r.output.bytes_mut(), more(result) as usize);
+    }
+    result
+}
+
+wrong!(no_proof_written, Difference::Inside { buffer: "output", .. }, |r| {
+    let before = r.output.bytes().to_vec();
+    output_as(r, |output, _| output.copy_from_slice(&before))
+});
+
+wrong!(rest_of_the_output_zeroed, Difference::Inside { buffer: "output", .. }, |r| {
+    output_as(r, |output, len| output[len..].fill(0))
+});
+
+wrong!(last_byte_of_the_proof, Difference::Inside { buffer: "output", .. }, |r| {
+    output_as(r, |output, len| output[len - 1] ^= 1)
+});
+
+wrong!(head_in_the_other_byte_order, Difference::Inside { buffer: "output", .. }, |r| {
+    output_as(r, |output, _| output[..HEAD].chunks_mut(4).for_each(|word| word.reverse()))
+});
+
+wrong!(withheld_path_not_written, Difference::Inside { buffer: "output", .. }, |r| {
+    let before = r.output.bytes().to_vec();
+    output_as(r, |output, len| {
+        let start = len - SYMBOL * usize::from(output[3]);
+        output[start..len].copy_from_slice(&before[start..len]);
+    })
+});
+
+wrong!(members_in_another_order, Difference::Inside { buffer: "output", .. }, |r| {
+    output_as(r, |output, _| {
+        let given = SYMBOL * (1 + usize::from(output[3]));
+        let (_, rest) = output.split_at_mut(HEAD);
+        let (first, rest) = rest.split_at_mut(given);
+        first.swap_with_slice(&mut rest[..given]);
+    })
+});
+
+wrong!(output_zeroed_at_the_start, Difference::Inside { buffer: "output", .. }, |r| {
+    let result = r.right();
+    if matches!(end(result), Some(0 | 2)) {
+        r.output.bytes_mut().fill(0);
+    }
+    result
+});
