@@ -160,7 +160,7 @@ wrong!(longest_proof_first, Difference::Result { found: 2, .. }, |p| match p.rig
     r => r,
 });
 
-wrong!(longer_proof_taken, Difference::Result { expected: 2, found: 0 }, |p| match demanded(p) {
+wrong!(longer_proof_taken, Difference::Result { expected: 2, .. }, |p| match demanded(p) {
     Some(len) => Proving { proof: p.proof.first(len.min(p.proof.len())), ..p }.right(),
     None => p.right(),
 });

@@ -13,80 +13,44 @@ fn right_rules_pass() {
     compare(&Library { repair: f, ..RIGHT }).unwrap_or_else(|failure| panic!("{failure}"));
 }
 
+/// A test that a repairer by another rule differs as the pattern says, or in
+/// its result or a byte: which comes first lies with the trees compared.
+macro_rules! other_rule {
+    ($name:ident, $rule:ident: $value:expr) => {
+        other_rule!($name, $rule: $value, Difference::Result { .. } | Difference::Inside { .. });
+    };
+    ($name:ident, $rule:ident: $value:expr, $difference:pat) => {
+        wrong!($name, $difference, |r| repair_by(&Rules { $rule: $value, ..RULES }, r));
+    };
+}
+
 // Layers.
 
-wrong!(top_layer_only_and_the_rest_marked, Difference::Result { .. }, |r| {
-    repair_by(&Rules { layers: 1, ..RULES }, r)
-});
-
-wrong!(base_only_marked, Difference::Result { .. }, |r| {
-    repair_by(&Rules { layers: 4, ..RULES }, r)
-});
-
-wrong!(goes_on_past_an_unavailable_layer, Difference::Inside { buffer: "tree", .. }, |r| {
-    repair_by(&Rules { past_unavailable: true, ..RULES }, r)
-});
+other_rule!(top_layer_only_and_the_rest_marked, layers: 1);
+other_rule!(base_of_depth_5_only_marked, layers: 4);
+other_rule!(goes_on_past_an_unavailable_layer, past_unavailable: true);
 
 // Step (a).
 
-wrong!(bad_copies_taken_for_faults, Difference::Inside { buffer: "tree", .. }, |r| {
-    repair_by(&Rules { bad_copies_absent: false, ..RULES }, r)
-});
-
-wrong!(right_bytes_under_mark_0_held, Difference::Inside { buffer: "tree", .. }, |r| {
-    repair_by(&Rules { right_bytes_held: true, ..RULES }, r)
-});
-
-wrong!(absent_places_not_zeroed, Difference::Inside { buffer: "tree", .. }, |r| {
-    repair_by(&Rules { zeroed: Zeroed::None, ..RULES }, r)
-});
-
-wrong!(bad_copies_not_zeroed, Difference::Inside { buffer: "tree", .. }, |r| {
-    repair_by(&Rules { zeroed: Zeroed::Lent, ..RULES }, r)
-});
-
-wrong!(lower_layers_touched, Difference::Inside { buffer: "tree", .. }, |r| {
-    repair_by(&Rules { zeroed: Zeroed::Below, ..RULES }, r)
-});
-
-wrong!(hashes_of_the_lent_layer_above, Difference::Result { .. }, |r| {
-    repair_by(&Rules { lent_hashes: true, ..RULES }, r)
-});
+other_rule!(bad_copies_taken_for_faults, bad_copies_absent: false);
+other_rule!(right_bytes_under_mark_0_held, right_bytes_held: true);
+other_rule!(absent_places_not_zeroed, zeroed: Zeroed::None,
+    Difference::Inside { buffer: "tree", .. });
+other_rule!(bad_copies_not_zeroed, zeroed: Zeroed::Lent,
+    Difference::Inside { buffer: "tree", .. });
+other_rule!(lower_layers_touched, zeroed: Zeroed::Below,
+    Difference::Inside { buffer: "tree", .. });
+other_rule!(hashes_of_the_lent_layer_above, lent_hashes: true);
 
 // Step (b).
 
-wrong!(unavailable_before_peeling, Difference::Result { .. }, |r| {
-    repair_by(&Rules { gaps_first: true, ..RULES }, r)
-});
-
-wrong!(complete_equations_not_tested, Difference::Result { .. }, |r| {
-    repair_by(&Rules { taken: Taken::OneAbsent, ..RULES }, r)
-});
-
-wrong!(complete_equations_last, Difference::Result { .. }, |r| {
-    repair_by(&Rules { taken: Taken::CompleteLast, ..RULES }, r)
-});
-
-wrong!(complete_equations_first, Difference::Result { .. }, |r| {
-    repair_by(&Rules { taken: Taken::CompleteFirst, ..RULES }, r)
-});
-
-wrong!(search_not_begun_again, Difference::Result { .. }, |r| {
-    repair_by(&Rules { goes_on: true, ..RULES }, r)
-});
-
-wrong!(highest_equation_first, Difference::Result { .. } | Difference::Inside { .. }, |r| {
-    repair_by(&Rules { highest: true, ..RULES }, r)
-});
-
-wrong!(formed_symbols_not_tested, Difference::Result { .. }, |r| {
-    repair_by(&Rules { formed_tested: false, ..RULES }, r)
-});
-
-wrong!(symbol_of_a_fault_stored, Difference::Result { .. }, |r| {
-    repair_by(&Rules { fault_stored: true, ..RULES }, r)
-});
-
-wrong!(first_member_withheld, Difference::Inside { buffer: "output", .. }, |r| {
-    repair_by(&Rules { withheld: |members| members[0], ..RULES }, r)
-});
+other_rule!(unavailable_before_peeling, gaps_first: true);
+other_rule!(complete_equations_not_tested, taken: Taken::OneAbsent);
+other_rule!(complete_equations_last, taken: Taken::CompleteLast);
+other_rule!(complete_equations_first, taken: Taken::CompleteFirst);
+other_rule!(search_not_begun_again, goes_on: true);
+other_rule!(highest_equation_first, highest: true);
+other_rule!(formed_symbols_not_tested, formed_tested: false);
+other_rule!(symbol_of_a_fault_stored, fault_stored: true);
+other_rule!(first_member_withheld, withheld: |members| members[0],
+    Difference::Inside { buffer: "output", .. });
