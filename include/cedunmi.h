@@ -13,13 +13,17 @@
  *      the number of words where the table is short
  *   4  stopped: a mark is neither 0 nor 1; the value is the lowest such place
  *   5  stopped: the base has no symbol of this number
+ *   6  stopped: the proof's head has a wrong kind, layer or equation, or the
+ *      equation has no such member
  *   7  stopped: a hash doesn't lead to the root
+ *   8  stopped: the withheld hash fits, the proof shows no fault
  *   9  stopped: a needed symbol is absent; the value is the index in the sample
  *      of the first, or, reading a block, its base number
  *
  * A call that stops changes no byte of any buffer. The bits above the low
  * eight are the value that goes with the number, zero where there is none.
- * Read them with cmt_number() and cmt_value().
+ * Read them with cmt_number() and cmt_value(); of a repair that ended, with
+ * cmt_repair_end() and the functions after it.
  *
  * Buffers. Every pointer is followed by its length in bytes. A pointer is not
  * NULL, even where its length is 0, and it points to at least that many bytes.
@@ -50,8 +54,18 @@ enum {
     CMT_WRONG_TABLE = 3,
     CMT_WRONG_MARK = 4,
     CMT_WRONG_NUMBER = 5,
+    CMT_WRONG_HEAD = 6,
     CMT_WRONG_HASH = 7,
+    CMT_NO_FAULT = 8,
     CMT_ABSENT = 9
+};
+
+/* The ends that cmt_repair_end() gives. */
+enum {
+    CMT_WHOLE = 0,
+    CMT_FAULT = 1,
+    CMT_UNAVAILABLE = 2,
+    CMT_TWINS = 3
 };
 
 /* The most stack that a call uses, in bytes. */
@@ -75,6 +89,17 @@ enum {
 #define CMT_SAMPLE_BYTES(depth) (256 * (2 * (size_t)(depth) - 1))
 #define CMT_ROOT_BYTES 512
 
+/*
+ * The bytes of a fault proof at a layer, of an equation of 2 to 8 members, its
+ * head among them; and of the output buffer of a repair, which the longest
+ * proof of its depth fills.
+ */
+#define CMT_PROOF_HEAD_BYTES 12
+#define CMT_PROOF_BYTES(layer, members) \
+    (CMT_PROOF_HEAD_BYTES + 256 * (((size_t)(members) - 1) * ((size_t)(layer) + 1) + (size_t)(layer)))
+#define CMT_OUTPUT_BYTES(depth) CMT_PROOF_BYTES((depth) - 1, 8)
+#define CMT_TWINS_BYTES 512
+
 /* The number in a result: CMT_DONE, or why the call stopped. */
 static inline uint64_t cmt_number(uint64_t result)
 {
@@ -85,6 +110,30 @@ static inline uint64_t cmt_number(uint64_t result)
 static inline uint64_t cmt_value(uint64_t result)
 {
     return result / 256;
+}
+
+/* How a repair ended, where its number is CMT_DONE. */
+static inline uint64_t cmt_repair_end(uint64_t result)
+{
+    return result / 256 % 16777216;
+}
+
+/* How many symbols a repair that ended has formed and stored. */
+static inline uint64_t cmt_repair_stored(uint64_t result)
+{
+    return result / 4294967296 % 65536;
+}
+
+/* The bytes of the proof that a repair wrote, where its end is CMT_FAULT. */
+static inline uint64_t cmt_repair_proof_bytes(uint64_t result)
+{
+    return result / 281474976710656;
+}
+
+/* The layer that a repair left incomplete, where its end is CMT_UNAVAILABLE. */
+static inline uint64_t cmt_repair_layer(uint64_t result)
+{
+    return result / 281474976710656;
 }
 
 /*
@@ -166,6 +215,53 @@ uint64_t cmt_sample_take(uint64_t depth, uint64_t number,
 uint64_t cmt_sample_check(uint64_t depth, uint64_t number,
                           const uint8_t *root, size_t root_len,
                           const uint8_t *sample, size_t sample_len);
+
+/*
+ * Checks a fault proof against the root and the table.
+ *
+ * CMT_DONE          every hash leads to the root, and the hash of the
+ *                   exclusive-or of the given members is not the one committed
+ *                   for the withheld one: the volume is not correctly coded.
+ * CMT_WRONG_DEPTH   the depth is not 1 to CMT_DEPTH_MAX.
+ * CMT_WRONG_LENGTH  root_len is not CMT_ROOT_BYTES, the table's is over
+ *                   CMT_TABLE_BYTES_MAX or no multiple of 4, proof_len is under
+ *                   CMT_PROOF_HEAD_BYTES; or, after the next two, proof_len is
+ *                   not the one that the head demands.
+ * CMT_WRONG_TABLE   the table breaks a rule, as for cmt_table_check().
+ * CMT_WRONG_HEAD    the head has a wrong kind, a layer or an equation that the
+ *                   table has not, or withholds no member of the equation.
+ * CMT_WRONG_HASH    a hash doesn't lead to the root, on a given member's path
+ *                   or on the withheld one's.
+ * CMT_NO_FAULT      the hashes are equal.
+ */
+uint64_t cmt_proof_check(uint64_t depth, const uint8_t *root, size_t root_len,
+                         const uint8_t *table, size_t table_len,
+                         const uint8_t *proof, size_t proof_len);
+
+/*
+ * Repairs a tree, layer by layer from the top: makes a held symbol whose hash
+ * is not the committed one absent, zeroes the absent places, and forms what the
+ * equations give. Stops with 1, 2, 3 or 4. Otherwise the number is CMT_DONE, and
+ * cmt_repair_end() is one of:
+ *
+ * CMT_WHOLE         every symbol is marked held, and the tree is correctly
+ *                   coded and agrees with the root and the table.
+ * CMT_FAULT         the output begins with a fault proof that
+ *                   cmt_proof_check() accepts, of cmt_repair_proof_bytes().
+ * CMT_UNAVAILABLE   the places of cmt_repair_layer() that are now marked 0
+ *                   can't be formed from the rest.
+ * CMT_TWINS         the output begins with two different symbols of equal
+ *                   SHA-256, CMT_TWINS_BYTES in all.
+ *
+ * Each also gives cmt_repair_stored(). The rest of the output, all of it where
+ * nothing is written, and the layers below the last one entered are as they
+ * were.
+ */
+uint64_t cmt_repair(uint64_t depth, const uint8_t *root, size_t root_len,
+                    const uint8_t *table, size_t table_len,
+                    uint8_t *tree, size_t tree_len,
+                    uint8_t *marks, size_t marks_len,
+                    uint8_t *output, size_t output_len);
 
 #ifdef __cplusplus
 }

@@ -4,10 +4,12 @@
  */
 #define _DEFAULT_SOURCE
 #include "cedunmi.h"
+#include "volume.h"
 
 #include <signal.h>
 #include <stdio.h>
 #include <stdlib.h>
+#include <string.h>
 #include <sys/mman.h>
 #include <sys/wait.h>
 #include <unistd.h>
@@ -89,6 +91,98 @@ static void lend_tables(void)
     }
 }
 
+/* A room, and what is lent in it. */
+struct room {
+    uint8_t *start;
+    size_t bytes;
+};
+
+enum { ROOT, TABLE, TREE, MARKS, OUTPUT, ROOMS };
+
+static struct room rooms[ROOMS];
+
+static void make_rooms(void)
+{
+    const size_t bytes[ROOMS] = {CMT_ROOT_BYTES, CMT_TABLE_BYTES_MAX, CMT_TREE_BYTES(CMT_DEPTH_MAX),
+                                 CMT_MARKS_BYTES(CMT_DEPTH_MAX), CMT_OUTPUT_BYTES(CMT_DEPTH_MAX)};
+    for (int i = 0; i < ROOMS; i++) {
+        rooms[i].bytes = (bytes[i] / PAGE + 1) * PAGE;
+        rooms[i].start = fenced(rooms[i].bytes);
+    }
+}
+
+/* A copy of bytes at the start of a room, or at its end. */
+static uint8_t *copy(int room, int at_end, const uint8_t *bytes, size_t len)
+{
+    uint8_t *lent = rooms[room].start + (at_end ? rooms[room].bytes - len : 0);
+    return memcpy(lent, bytes, len);
+}
+
+/* The lengths of a volume's buffers. */
+struct lengths {
+    size_t of[ROOMS];
+};
+
+/* Repairs a copy of a volume, and keeps what it writes. */
+static uint64_t lend_repair(struct volume *v, struct lengths len, int at_end)
+{
+    uint8_t *output = copy(OUTPUT, at_end, v->output, len.of[OUTPUT]);
+    uint64_t result = cmt_repair(
+        v->depth, copy(ROOT, at_end, v->root, len.of[ROOT]), len.of[ROOT],
+        copy(TABLE, at_end, v->table, len.of[TABLE]), len.of[TABLE],
+        copy(TREE, at_end, v->tree, len.of[TREE]), len.of[TREE],
+        copy(MARKS, at_end, v->marks, len.of[MARKS]), len.of[MARKS], output, len.of[OUTPUT]);
+    memcpy(v->output, output, len.of[OUTPUT]);
+    return result;
+}
+
+/* Checks the first bytes of a volume's output as a proof. */
+static uint64_t lend_proof(const struct volume *v, struct lengths len, int at_end, size_t proof_len)
+{
+    return cmt_proof_check(v->depth, copy(ROOT, at_end, v->root, len.of[ROOT]), len.of[ROOT],
+                           copy(TABLE, at_end, v->table, len.of[TABLE]), len.of[TABLE],
+                           copy(OUTPUT, at_end, v->output, proof_len), proof_len);
+}
+
+/* Lends a volume with its right lengths, and with each buffer a byte shorter. */
+static void lend_volume(struct volume *v, int at_end)
+{
+    const struct lengths right = {{CMT_ROOT_BYTES, CMT_HOUSE_TABLE_BYTES(v->depth),
+                                   CMT_TREE_BYTES(v->depth), CMT_MARKS_BYTES(v->depth),
+                                   CMT_OUTPUT_BYTES(v->depth)}};
+    size_t proof_len = cmt_repair_proof_bytes(lend_repair(v, right, at_end));
+    for (size_t n = 0; n < 16 && n < proof_len; n++) {
+        lend_proof(v, right, at_end, n);
+        lend_proof(v, right, at_end, proof_len - n);
+    }
+    for (int cut = 0; cut < ROOMS; cut++) {
+        struct lengths shorter = right;
+        shorter.of[cut]--;
+        lend_repair(v, shorter, at_end);
+        lend_proof(v, shorter, at_end, proof_len);
+    }
+}
+
+/* Trees of each depth: whole, with losses, and with a fault. */
+static void lend_volumes(void)
+{
+    static struct volume v;
+    for (uint64_t depth = 1; depth <= CMT_DEPTH_MAX; depth++) {
+        for (size_t lost = 0; lost < 16; lost += 5) {
+            volume_begin(&v, depth);
+            volume_write(&v);
+            for (size_t place = 0; place < CMT_MARKS_BYTES(depth); place++) {
+                v.marks[place] = place % 16 >= lost;
+            }
+            lend_volume(&v, 0);
+            lend_volume(&v, 1);
+            volume_change_table(&v);
+            lend_volume(&v, 0);
+            lend_volume(&v, 1);
+        }
+    }
+}
+
 /* Wrong functions, to show that the fences find what they do. */
 
 static uint64_t reads_after(const uint8_t *m, size_t n, uint8_t *d, size_t dn)
@@ -131,6 +225,7 @@ int main(void)
     message_room = fenced(MESSAGE_ROOM);
     digest_room = fenced(PAGE);
     table_room = fenced(TABLE_ROOM);
+    make_rooms();
     signal(SIGSEGV, touched);
     if (!found(reads_after) || !found(reads_before) || !found(writes_without_looking)) {
         printf("fences: a wrong function was not found\n");
@@ -138,6 +233,7 @@ int main(void)
     }
     lend_all(cmt_sha256);
     lend_tables();
+    lend_volumes();
     printf("fences: ok\n");
     return 0;
 }

@@ -5,6 +5,7 @@
  */
 #define _XOPEN_SOURCE 700
 #include "cedunmi.h"
+#include "volume.h"
 
 #include <stdio.h>
 #include <string.h>
@@ -15,13 +16,9 @@ enum { STACK = 262144, KNOWN = 3 * CMT_STACK_BYTES };
 static uint8_t stack[STACK];
 static uint8_t message[CMT_SHA256_MESSAGE_MAX];
 static uint8_t digest[CMT_SHA256_DIGEST_BYTES];
-static uint8_t table[CMT_HOUSE_TABLE_BYTES(CMT_DEPTH_MAX)];
-static uint8_t block[CMT_BLOCK_BYTES(CMT_DEPTH_MAX)];
-static uint8_t tree[CMT_TREE_BYTES(CMT_DEPTH_MAX)];
-static uint8_t marks[CMT_MARKS_BYTES(CMT_DEPTH_MAX)];
-static uint8_t root[CMT_ROOT_BYTES];
+static struct volume volume;
 static uint8_t sample[CMT_SAMPLE_BYTES(CMT_DEPTH_MAX)];
-static size_t message_len;
+static size_t message_len, proof_len;
 
 static void sha256(void)
 {
@@ -30,36 +27,60 @@ static void sha256(void)
 
 static void house_table(void)
 {
-    cmt_house_table(CMT_DEPTH_MAX, table, sizeof table);
+    volume_house_table(&volume);
 }
 
 /* Follows house_table(), so that the table is read to its end. */
 static void table_check(void)
 {
-    cmt_table_check(CMT_DEPTH_MAX, table, sizeof table);
+    cmt_table_check(CMT_DEPTH_MAX, volume.table, sizeof volume.table);
 }
 
 /* These follow house_table() and each other, so that each does all its work. */
 static void tree_write(void)
 {
-    cmt_tree_write(CMT_DEPTH_MAX, table, sizeof table, block, sizeof block, tree,
-                   sizeof tree, marks, sizeof marks, root, sizeof root);
+    volume_write(&volume);
 }
 
 static void block_read(void)
 {
-    cmt_block_read(CMT_DEPTH_MAX, tree, sizeof tree, marks, sizeof marks, block, sizeof block);
+    cmt_block_read(CMT_DEPTH_MAX, volume.tree, sizeof volume.tree, volume.marks,
+                   sizeof volume.marks, volume.block, sizeof volume.block);
 }
 
 static void sample_take(void)
 {
-    cmt_sample_take(CMT_DEPTH_MAX, 7, tree, sizeof tree, marks, sizeof marks, sample,
-                    sizeof sample);
+    cmt_sample_take(CMT_DEPTH_MAX, 7, volume.tree, sizeof volume.tree, volume.marks,
+                    sizeof volume.marks, sample, sizeof sample);
 }
 
 static void sample_check(void)
 {
-    cmt_sample_check(CMT_DEPTH_MAX, 7, root, sizeof root, sample, sizeof sample);
+    cmt_sample_check(CMT_DEPTH_MAX, 7, volume.root, sizeof volume.root, sample, sizeof sample);
+}
+
+/* Symbols are formed in every layer, and a fault is found in the base. */
+static void repair(void)
+{
+    for (size_t place = 3; place < sizeof volume.marks; place += 10) {
+        volume.marks[place] = 0;
+    }
+    volume_change_table(&volume);
+    proof_len = cmt_repair_proof_bytes(volume_repair(&volume));
+    volume_change_table(&volume);
+}
+
+static void repair_whole(void)
+{
+    volume_repair(&volume);
+}
+
+/* Follows repair(). */
+static void proof_check(void)
+{
+    volume_change_table(&volume);
+    volume_check(&volume, proof_len);
+    volume_change_table(&volume);
 }
 
 /* Uses at least KNOWN bytes, to show that the measuring finds them. */
@@ -122,6 +143,7 @@ int main(void)
         printf("stack: the measuring misses a known use\n");
         return 1;
     }
+    volume_begin(&volume, CMT_DEPTH_MAX);
     wrong |= over("cmt_sha256", used_by_sha256());
     wrong |= over("cmt_house_table", used(house_table));
     wrong |= over("cmt_table_check", used(table_check));
@@ -129,5 +151,12 @@ int main(void)
     wrong |= over("cmt_block_read", used(block_read));
     wrong |= over("cmt_sample_take", used(sample_take));
     wrong |= over("cmt_sample_check", used(sample_check));
+    wrong |= over("cmt_repair, to a fault", used(repair));
+    wrong |= over("cmt_proof_check", used(proof_check));
+    wrong |= over("cmt_repair", used(repair_whole));
+    if (proof_len != CMT_PROOF_BYTES(CMT_DEPTH_MAX - 1, 4)) {
+        printf("stack: the repair found no fault\n");
+        return 1;
+    }
     return wrong;
 }
