@@ -5,17 +5,24 @@
 //!     benchmarks work NAME LENGTH N     hashes N messages and prints nothing
 //!     benchmarks table TRIALS           prints NAME, WORDS and the fewest nanoseconds to read a table
 //!     benchmarks tree TRIALS            prints NAME, DEPTH, BYTES and the fewest nanoseconds to write a tree
+//!     benchmarks repair TRIALS          prints NAME, CASE, DEPTH, SYMBOLS and the fewest nanoseconds to repair a tree
+//!     benchmarks checks TRIALS          prints NAME, proof or sample, BYTES and the fewest nanoseconds to check it
 
+mod checks;
 mod clock;
 mod openssl;
+mod repair;
 mod sha256;
 mod table;
 mod timing;
 mod tree;
+mod turns;
+mod volume;
 
 use std::process::ExitCode;
 
-const USAGE: &str = "usage: check | time TRIALS NAME.. | work NAME LENGTH N | table TRIALS | tree TRIALS";
+const USAGE: &str = "usage: check | time TRIALS NAME.. | work NAME LENGTH N | table TRIALS | \
+    tree TRIALS | repair TRIALS | checks TRIALS";
 
 fn main() -> ExitCode {
     let words: Vec<String> = std::env::args().skip(1).collect();
@@ -36,6 +43,8 @@ fn run(words: &[&str]) -> Result<(), String> {
         ["work", name, len, times] => timing::work(hasher(name)?, number(len)?, number(times)?),
         ["table", trials] => table::time(number(trials)?),
         ["tree", trials] => tree::time(number(trials)?),
+        ["repair", trials] => repair::time(number(trials)?),
+        ["checks", trials] => checks::time(number(trials)?),
         _ => Err(USAGE.to_string()),
     }
 }

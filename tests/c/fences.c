@@ -144,8 +144,9 @@ static uint64_t lend_proof(const struct volume *v, struct lengths len, int at_en
                            copy(OUTPUT, at_end, v->output, proof_len), proof_len);
 }
 
-/* Lends a volume with its right lengths, and with each buffer a byte shorter. */
-static void lend_volume(struct volume *v, int at_end)
+/* Lends a volume with its right lengths, and with each buffer a byte shorter. Gives whether there
+ * was a proof to lend. */
+static int lend_volume(struct volume *v, int at_end)
 {
     const struct lengths right = {{CMT_ROOT_BYTES, CMT_HOUSE_TABLE_BYTES(v->depth),
                                    CMT_TREE_BYTES(v->depth), CMT_MARKS_BYTES(v->depth),
@@ -161,12 +162,14 @@ static void lend_volume(struct volume *v, int at_end)
         lend_repair(v, shorter, at_end);
         lend_proof(v, shorter, at_end, proof_len);
     }
+    return proof_len > 0;
 }
 
-/* Trees of each depth: whole, with losses, and with a fault. */
-static void lend_volumes(void)
+/* Trees of each depth: whole, with losses, and with a fault. Gives how many proofs were lent. */
+static int lend_volumes(void)
 {
     static struct volume v;
+    int proofs = 0;
     for (uint64_t depth = 1; depth <= CMT_DEPTH_MAX; depth++) {
         for (size_t lost = 0; lost < 16; lost += 5) {
             volume_begin(&v, depth);
@@ -177,10 +180,11 @@ static void lend_volumes(void)
             lend_volume(&v, 0);
             lend_volume(&v, 1);
             volume_change_table(&v);
-            lend_volume(&v, 0);
-            lend_volume(&v, 1);
+            proofs += lend_volume(&v, 0);
+            proofs += lend_volume(&v, 1);
         }
     }
+    return proofs;
 }
 
 /* Wrong functions, to show that the fences find what they do. */
@@ -233,7 +237,10 @@ int main(void)
     }
     lend_all(cmt_sha256);
     lend_tables();
-    lend_volumes();
+    if (lend_volumes() < 2 * CMT_DEPTH_MAX) {
+        printf("fences: proofs were not lent at every depth\n");
+        return 1;
+    }
     printf("fences: ok\n");
     return 0;
 }
