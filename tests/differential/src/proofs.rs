@@ -14,7 +14,7 @@ use crate::inputs::{lend, Buffer};
 use crate::met::Met;
 use crate::random::Random;
 use crate::results::{number, stop_name};
-use crate::volumes::Volume;
+use crate::volumes::{equation_of, Volume};
 use cedunmi_sys::{Library, ProofCheck};
 use reference::proof::{self, Head};
 
@@ -22,7 +22,7 @@ const SEED: u64 = 6022;
 
 /// How often each result must be met.
 const LEAST: [(&str, u64); 7] = [
-    ("accepted", 5000),
+    ("accepted", 7000),
     ("1", 500),
     ("2", 2000),
     ("3", 500),
@@ -89,8 +89,7 @@ impl Input {
     /// tree and its head.
     fn of_fault(depth: usize, layer: usize, random: &mut Random) -> (Input, Volume, Head) {
         let (volume, parity) = Volume::with_fault(depth, layer, random);
-        let equation = parity - volume.equations[layer].len() / 3;
-        let head = volume.withholding(layer, equation, random);
+        let head = volume.withholding(layer, equation_of(layer, parity), random);
         (Input::new(&volume, volume.proof(head)), volume, head)
     }
 

@@ -23,12 +23,17 @@ use reference::tree::{place, tree_symbols, SYMBOL};
 
 const SEED: u64 = 2997;
 
-/// How often each end and each number must be met.
-const LEAST: [(&str, u64); 7] = [
-    ("whole", 3000),
-    ("fault", 3000),
+/// How often each end, each layer of a lone fault and each number must be met.
+const LEAST: [(&str, u64); 12] = [
+    ("whole", 5000),
+    ("fault", 5000),
     ("unavailable", 3000),
-    ("1", 200),
+    ("top", 500),
+    ("layer 1", 300),
+    ("layer 2", 150),
+    ("layer 3", 100),
+    ("layer 4", 40),
+    ("1", 500),
     ("2", 1000),
     ("3", 1000),
     ("4", 1000),
@@ -50,6 +55,7 @@ pub fn compare(library: &Library) -> Result<u64, Failure> {
     comparisons.one_fault()?;
     comparisons.some_faults()?;
     comparisons.known_stopping_sets()?;
+    comparisons.lost_parity()?;
     comparisons.one_symbol()?;
     comparisons.bad_copies()?;
     comparisons.sets_of_one_layer()?;

@@ -42,6 +42,16 @@ pub fn some_parity(layer: usize, random: &mut Random) -> usize {
     data_symbols(layer) + random.below(3 * data_symbols(layer))
 }
 
+/// The equation whose last member a parity symbol is.
+pub fn equation_of(layer: usize, parity: usize) -> usize {
+    parity - data_symbols(layer)
+}
+
+/// A random symbol of a layer.
+pub fn some_symbol(layer: usize, random: &mut Random) -> usize {
+    random.below(symbols(layer))
+}
+
 impl Volume {
     /// The correctly coded tree of a random block.
     pub fn new(depth: usize, words: &[u32], random: &mut Random) -> Volume {

@@ -5,7 +5,7 @@ use super::{Comparisons, Input};
 use crate::difference::Failure;
 use crate::inputs::DEPTHS;
 use crate::tables::lists::{random_table, table_of};
-use crate::volumes::{some_depth, some_parity, some_table, Volume};
+use crate::volumes::{equation_of, some_depth, some_parity, some_symbol, some_table, Volume};
 use reference::proof::Head;
 use reference::repair::{output_len, repair, End};
 use reference::table::{house, to_bytes};
@@ -20,7 +20,7 @@ impl Comparisons {
             for words in [house(depth), random, table_of(depth, 8), table_of(depth, 2)] {
                 let right = Volume::new(depth, &words, &mut self.random);
                 for layer in 0..depth {
-                    let symbol = some_parity(layer, &mut self.random);
+                    let symbol = some_symbol(layer, &mut self.random);
                     let faults = [(layer, symbol)];
                     let wrong = Volume::miscoded(depth, &words, &faults, &mut self.random);
                     self.withheld_members_of_layer(&right, &wrong, layer, symbol)?;
@@ -55,7 +55,7 @@ impl Comparisons {
 
     /// What a repair writes.
     pub(super) fn written_by_repair(&mut self) -> Result<(), Failure> {
-        for _ in 0..2000 {
+        for _ in 0..4000 {
             let depth = some_depth(&mut self.random);
             let words = some_table(depth, &mut self.random);
             let layer = self.random.below(depth);
@@ -84,7 +84,7 @@ impl Comparisons {
             for layer in 0..depth {
                 let symbol = some_parity(layer, &mut self.random);
                 let volume = Volume::miscoded(depth, &words, &[(layer, symbol)], &mut self.random);
-                let head = volume.withholding(layer, symbol - (4 << layer), &mut self.random);
+                let head = volume.withholding(layer, equation_of(layer, symbol), &mut self.random);
                 let mut input = Input::new(&volume, volume.proof(head));
                 for other in DEPTHS {
                     input.depth = other as u64;

@@ -6,7 +6,7 @@ use crate::inputs::DEPTHS;
 use crate::random::Random;
 use crate::volumes::{some_depth, some_table, Volume};
 use reference::repair::{End, Repaired};
-use reference::table::house;
+use reference::table::{data_symbols, house};
 use reference::tree::{place, symbols, tree_symbols, ROOT, SYMBOL};
 
 /// Parts of 256 that are lost: none to all.
@@ -47,9 +47,30 @@ impl Comparisons {
         Ok(())
     }
 
+    /// All parity of all layers, absent or bad copies: the data give it back,
+    /// by any table.
+    pub(super) fn lost_parity(&mut self) -> Result<(), Failure> {
+        for turn in 0..20 {
+            let depth = 1 + turn % 5;
+            let words = some_table(depth, &mut self.random);
+            let volume = Volume::new(depth, &words, &mut self.random);
+            let mut input = Input::new(&volume, &mut self.random);
+            let parity = |&(layer, symbol): &(usize, usize)| symbol >= data_symbols(layer);
+            for (layer, symbol) in volume.all_symbols().into_iter().filter(parity) {
+                match turn % 2 {
+                    0 => input.lose(layer, symbol, &mut self.random),
+                    _ => input.spoil(layer, symbol, &mut self.random),
+                }
+            }
+            let stored = 3 * tree_symbols(depth) / 4;
+            self.ends("all parity lost", &input, End::Whole, stored)?;
+        }
+        Ok(())
+    }
+
     /// Many sets of the sixteen symbols of depth 1.
     pub(super) fn sets_of_one_layer(&mut self) -> Result<(), Failure> {
-        for turn in 0..4000 {
+        for turn in 0..6000 {
             let words = some_table(1, &mut self.random);
             let volume = Volume::new(1, &words, &mut self.random);
             let mut input = Input::new(&volume, &mut self.random);
@@ -81,7 +102,7 @@ impl Comparisons {
     }
 
     pub(super) fn random_losses(&mut self) -> Result<(), Failure> {
-        for turn in 0..2500 {
+        for turn in 0..4000 {
             let volume = some_volume(&mut self.random);
             let mut input = Input::new(&volume, &mut self.random);
             let parts = PARTS[turn % PARTS.len()];
@@ -109,7 +130,7 @@ impl Comparisons {
     }
 
     pub(super) fn bad_copies(&mut self) -> Result<(), Failure> {
-        for turn in 0..2500 {
+        for turn in 0..4000 {
             let volume = some_volume(&mut self.random);
             let mut input = Input::new(&volume, &mut self.random);
             let parts = PARTS[turn % PARTS.len()];

@@ -4,10 +4,10 @@ use super::{Comparisons, Input};
 use crate::difference::Failure;
 use crate::inputs::DEPTHS;
 use crate::random::Random;
-use crate::volumes::{some_depth, some_parity, some_table, Volume};
+use crate::volumes::{equation_of, some_depth, some_parity, some_symbol, some_table, Volume};
 use reference::proof::HEAD;
 use reference::repair::{End, Repaired};
-use reference::tree::symbols;
+use reference::tree::{HASH, SYMBOL};
 
 impl Comparisons {
     /// One replaced symbol of each layer: all held, the symbol itself absent
@@ -25,7 +25,7 @@ impl Comparisons {
                     let mut input = right.clone();
                     input.spoil(layer, parity, &mut self.random);
                     self.shows_fault("the replaced one a bad copy", &input, layer)?;
-                    let equation = parity - (4 << layer);
+                    let equation = equation_of(layer, parity);
                     let head = volume.withholding(layer, equation, &mut self.random);
                     let mut input = right.clone();
                     input.lose(layer, head.withheld, &mut self.random);
@@ -40,7 +40,7 @@ impl Comparisons {
     fn shows_fault(&mut self, what: &str, input: &Input, layer: usize) -> Result<(), Failure> {
         match self.result_of(what, input)? {
             Ok(Repaired { end: End::Fault(len), .. }) => {
-                assert!(len > HEAD && len % 256 == HEAD, "a proof of {len} bytes");
+                assert!(len > HEAD && len % SYMBOL == HEAD, "a proof of {len} bytes");
                 self.met.count(["top", "layer 1", "layer 2", "layer 3", "layer 4"][layer]);
             }
             other => panic!("{other:?} is no fault: {}", input.description(what)),
@@ -51,7 +51,7 @@ impl Comparisons {
     /// Several replaced symbols of one layer, data too, and losses and bad
     /// copies: which equation is taken first decides.
     pub(super) fn some_faults(&mut self) -> Result<(), Failure> {
-        for turn in 0..4000 {
+        for turn in 0..7000 {
             let depth = some_depth(&mut self.random);
             let words = some_table(depth, &mut self.random);
             let layer = self.random.below(depth);
@@ -75,11 +75,11 @@ impl Comparisons {
         for turn in 0..500 {
             let depth = 2 + turn % 4;
             let words = some_table(depth, &mut self.random);
-            let faults: Vec<_> = (0..3).map(|_| self.random.below(depth)).collect::<Vec<_>>();
-            let faults: Vec<_> = faults
-                .into_iter()
-                .map(|layer| (layer, some_parity(layer, &mut self.random)))
-                .collect();
+            let mut faults = Vec::new();
+            for _ in 0..3 {
+                let layer = self.random.below(depth);
+                faults.push((layer, some_parity(layer, &mut self.random)));
+            }
             let volume = Volume::miscoded(depth, &words, &faults, &mut self.random);
             let mut input = Input::new(&volume, &mut self.random);
             input.lose_some(&volume.all_symbols(), turn % 40, &mut self.random);
@@ -95,8 +95,8 @@ impl Comparisons {
             let words = some_table(depth, &mut self.random);
             let mut volume = Volume::new(depth, &words, &mut self.random);
             let layer = self.random.below(depth);
-            let symbol = self.random.below(symbols(layer));
-            volume.break_hash(layer, symbol, self.random.below(32));
+            let symbol = some_symbol(layer, &mut self.random);
+            volume.break_hash(layer, symbol, self.random.below(HASH));
             let mut input = Input::new(&volume, &mut self.random);
             input.lose_some(&volume.all_symbols(), turn % 60, &mut self.random);
             self.make("another hash", &input)?;
@@ -107,5 +107,5 @@ impl Comparisons {
 
 /// One to four symbols of a layer.
 fn some_symbols(layer: usize, random: &mut Random) -> Vec<(usize, usize)> {
-    (0..1 + random.below(4)).map(|_| (layer, random.below(symbols(layer)))).collect()
+    (0..1 + random.below(4)).map(|_| (layer, some_symbol(layer, random))).collect()
 }

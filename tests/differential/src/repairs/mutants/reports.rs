@@ -90,7 +90,7 @@ wrong!(no_proof_length, Difference::Result { .. }, |r| match r.right() {
 });
 
 wrong!(whole_output_for_the_proof, Difference::Result { .. }, |r| match r.right() {
-    result if end(result) == Some(1) => result % (1 << 48) | (r.output.len() as u64) << 48,
+    result if end(result) == Some(1) => result % (1 << 48) + ((r.output.len() as u64) << 48),
     result => result,
 });
 

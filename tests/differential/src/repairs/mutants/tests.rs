@@ -26,7 +26,7 @@ fn at_most(buffer: Part, len: usize) -> Part {
 
 /// The depth, where there is one.
 fn depth(r: Repairing) -> Option<usize> {
-    (1..=5).contains(&r.depth).then(|| r.depth as usize)
+    (1..=5).contains(&r.depth).then_some(r.depth as usize)
 }
 
 // Marks.
