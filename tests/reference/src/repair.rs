@@ -3,9 +3,9 @@
 use crate::proof::{self, Head, HEAD};
 use crate::sha256::sha256;
 use crate::stop::Stop;
-use crate::table::{self, byte_length, layers_of};
+use crate::table::{self, byte_length, layers_of, Layers};
 use crate::tree::{committed_hash, exactly, exclusive_or, marks_in_form, place, symbol_at};
-use crate::tree::{symbols, tree_symbols, Symbol, ROOT, SYMBOL};
+use crate::tree::{symbols, tree_symbols, Symbol, HASH, ROOT, SYMBOL};
 
 /// How a repair ends.
 #[derive(Clone, Copy, Debug, PartialEq, Eq)]
@@ -48,17 +48,14 @@ pub fn repair(
     let equations = table::equations(depth, table)?;
     marks_in_form(marks)?;
 
-    let mut repair = Repair { root, tree, marks, output, stored: 0 };
-    for (layer, equations) in equations.iter().enumerate() {
-        repair.sweep(layer);
-        if let Some(end) = repair.peel(layer, equations) {
-            return Ok(Repaired { end, stored: repair.stored });
-        }
-    }
-    Ok(Repaired { end: End::Whole, stored: repair.stored })
+    let mut repair = Repair { hash: sha256, root, tree, marks, output, stored: 0 };
+    let end = repair.run(&equations);
+    Ok(Repaired { end, stored: repair.stored })
 }
 
 struct Repair<'a> {
+    /// The hash of a symbol. Only a test has another than SHA-256.
+    hash: fn(&[u8]) -> [u8; HASH],
     root: &'a [u8],
     tree: &'a mut [u8],
     marks: &'a mut [u8],
@@ -67,6 +64,17 @@ struct Repair<'a> {
 }
 
 impl Repair<'_> {
+    /// Layers from the top.
+    fn run(&mut self, equations: &Layers) -> End {
+        for (layer, equations) in equations.iter().enumerate() {
+            self.sweep(layer);
+            if let Some(end) = self.peel(layer, equations) {
+                return end;
+            }
+        }
+        End::Whole
+    }
+
     /// Step (a).
     fn sweep(&mut self, layer: usize) {
         for symbol in 0..symbols(layer) {
@@ -143,7 +151,7 @@ impl Repair<'_> {
 
     /// Whether bytes have the hash that is committed for a symbol.
     fn fits(&self, layer: usize, symbol: usize, bytes: &[u8]) -> bool {
-        sha256(bytes) == committed_hash(self.root, self.tree, layer, symbol)
+        (self.hash)(bytes) == committed_hash(self.root, self.tree, layer, symbol)
     }
 
     fn held(&self, layer: usize, symbol: usize) -> bool {

@@ -181,6 +181,25 @@ fn the_search_begins_again() {
     assert_eq!(output[..HEAD], Head { layer: 0, equation: 0, withheld: 0 }.bytes());
 }
 
+/// With a hash that all symbols share, a formed symbol always fits, and an
+/// equation that is complete and fails shows twins: equation 1, {1, 2, 4, 5},
+/// gives symbol 5, and then 2, {2, 3, 5, 6}, fails.
+#[test]
+fn twins_of_a_poor_hash() {
+    let mut w = cases_tree();
+    let layers = w.equations();
+    lose(&mut w, &[5]);
+    w.tree[6 * SYMBOL..7 * SYMBOL].fill(0x66);
+    let mut output = vec![LENT; output_len(1)];
+    let (root, hash) = ([0; ROOT], |_: &[u8]| [0; HASH]);
+    let Written { tree, marks, .. } = &mut w;
+    let mut repair = Repair { hash, root: &root, tree, marks, output: &mut output, stored: 0 };
+    assert_eq!(repair.run(&layers), End::Twins);
+    assert_eq!(repair.stored, 1);
+    assert_eq!(output[..2 * SYMBOL], [[0x66; SYMBOL], [0x04 ^ 0x08 ^ 0x05; SYMBOL]].concat());
+    assert!(output[2 * SYMBOL..].iter().all(|&byte| byte == LENT));
+}
+
 /// What a repair stops with for these lengths of root, table, tree, marks and
 /// output at depth 1, and for these marks. A table of another length is none.
 fn stop_of(depth: u64, lens: [usize; 5], mark: u8) -> Option<Stop> {
