@@ -151,7 +151,8 @@ static int lend_volume(struct volume *v, int at_end)
     const struct lengths right = {{CMT_ROOT_BYTES, CMT_HOUSE_TABLE_BYTES(v->depth),
                                    CMT_TREE_BYTES(v->depth), CMT_MARKS_BYTES(v->depth),
                                    CMT_OUTPUT_BYTES(v->depth)}};
-    size_t proof_len = cmt_repair_proof_bytes(lend_repair(v, right, at_end));
+    uint64_t result = lend_repair(v, right, at_end);
+    size_t proof_len = cmt_repair_end(result) == CMT_FAULT ? cmt_repair_proof_bytes(result) : 0;
     for (size_t n = 0; n < 16 && n < proof_len; n++) {
         lend_proof(v, right, at_end, n);
         lend_proof(v, right, at_end, proof_len - n);

@@ -56,6 +56,7 @@ pub fn compare(library: &Library) -> Result<u64, Failure> {
     comparisons.other_depths()?;
     comparisons.withheld_members()?;
     comparisons.written_by_repair()?;
+    comparisons.forged_members()?;
     comparisons.other_volumes()?;
     comparisons.random_proofs()?;
     comparisons.damage_for_right_trees()?;

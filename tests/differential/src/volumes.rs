@@ -85,6 +85,11 @@ impl Volume {
         (Volume::miscoded(depth, &words, &[(layer, parity)], random), parity)
     }
 
+    /// The words of the table.
+    pub fn words(&self) -> Vec<u32> {
+        table::write(&self.equations)
+    }
+
     /// The members of the equation that a head names.
     pub fn members(&self, head: Head) -> &[usize] {
         &self.equations[head.layer][head.equation]

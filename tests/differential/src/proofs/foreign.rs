@@ -3,9 +3,10 @@
 
 use super::{Comparisons, Input};
 use crate::difference::Failure;
+use crate::inputs::DEPTHS;
 use crate::tables::lists::random_table;
-use crate::volumes::{some_depth, some_table, Volume};
-use reference::proof::HEAD;
+use crate::volumes::{some_depth, some_symbol, some_table, Volume};
+use reference::proof::{self, Head, HEAD};
 use reference::table::{house, to_bytes};
 use reference::tree::{symbol_at, ROOT, SYMBOL};
 
@@ -17,7 +18,7 @@ impl Comparisons {
             let depth = some_depth(&mut self.random);
             let layer = self.random.below(depth);
             let (right, volume, _) = Input::of_fault(depth, layer, &mut self.random);
-            let words = reference::table::write(&volume.equations);
+            let words = volume.words();
             let other = Volume::new(depth, &words, &mut self.random);
             let mut input = Input::new(&other, right.proof.clone());
             self.make_for_right_tree("the root of another tree", &input)?;
@@ -27,6 +28,30 @@ impl Comparisons {
                 let mut input = right.clone();
                 input.table = to_bytes(&words);
                 self.make("another table", &input)?;
+            }
+        }
+        Ok(())
+    }
+
+    /// Proofs of another equation than the table's, in which a symbol that is no
+    /// member stands for one: for the withheld one, or for a given one.
+    pub(super) fn forged_members(&mut self) -> Result<(), Failure> {
+        for depth in DEPTHS {
+            for turn in 0..200 {
+                let words = some_table(depth, &mut self.random);
+                let volume = Volume::new(depth, &words, &mut self.random);
+                let layer = turn % depth;
+                let head = volume.some_head(layer, &mut self.random);
+                let mut members = volume.members(head).to_vec();
+                let replaced = self.random.below(members.len());
+                let other = some_symbol(layer, &mut self.random);
+                if members.contains(&other) {
+                    continue;
+                }
+                let withheld = if turn % 2 == 0 { other } else { members[replaced] };
+                members[replaced] = other;
+                let proof = proof::write(Head { withheld, ..head }, &members, &volume.tree);
+                self.make_for_right_tree("a forged member", &Input::new(&volume, proof))?;
             }
         }
         Ok(())

@@ -44,7 +44,7 @@ impl Comparisons {
     pub(super) fn tables(&mut self) -> Result<(), Failure> {
         for depth in DEPTHS {
             let (right, volume, _) = Input::of_fault(depth, depth - 1, &mut self.random);
-            let words = reference::table::write(&volume.equations);
+            let words = volume.words();
             for damages in (1..=3).cycle().take(150) {
                 let mut input = right.clone();
                 input.table = to_bytes(&random_damage(&words, damages, &mut self.random));
@@ -66,7 +66,7 @@ impl Comparisons {
         for depth in DEPTHS {
             let layer = self.random.below(depth);
             let (fault, volume, head) = Input::of_fault(depth, layer, &mut self.random);
-            let words = reference::table::write(&volume.equations);
+            let words = volume.words();
             let sound = Volume::new(depth, &words, &mut self.random);
             let no_fault = Input::new(&sound, sound.proof(head));
             for causes in 0..1 << 9 {

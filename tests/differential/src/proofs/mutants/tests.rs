@@ -68,16 +68,27 @@ fn fold(sum: u32, &byte: &u8) -> u32 {
     sum << 8 | u32::from(byte)
 }
 
-wrong!(no_member_withheld, Difference::Result { expected: 6, found: 7 }, |p| match p.right() {
-    6 => {
-        let equations = equations(p.depth, p.table.bytes()).expect("a table");
-        let word = |at: usize| p.proof.bytes()[4 * at..4 * at + 4].iter().fold(0, fold);
-        let layer = equations.get((word(0) ^ 1 << 30) as usize);
-        match layer.and_then(|layer| layer.get((word(1) ^ 2 << 30) as usize)) {
-            Some(_) if word(2) >> 30 == 3 => 7,
-            _ => 6,
-        }
+/// The table with the withheld number among the members of the equation that
+/// the head names, in the place of the first.
+unsafe fn with_named_member(p: Proving) -> Option<Vec<u8>> {
+    let mut layers = equations(p.depth, p.table.bytes()).ok()?;
+    let word = |at: usize| p.proof.bytes()[4 * at..4 * at + 4].iter().fold(0, fold);
+    let [layer, equation, withheld] =
+        [(0, 1), (1, 2), (2, 3)].map(|(at, kind): (usize, u32)| (word(at) ^ kind << 30) as usize);
+    let members = layers.get_mut(layer)?.get_mut(equation)?;
+    if withheld >= members[members.len() - 1] {
+        return None;
     }
+    members[0] = withheld;
+    members.sort_unstable();
+    Some(table::to_bytes(&table::write(&layers)))
+}
+
+wrong!(members_named_in_the_proof, Difference::Result { expected: 6, .. }, |p| match p.right() {
+    6 => match with_named_member(p) {
+        Some(mut table) => Proving { table: Part::of_mut(&mut table), ..p }.right(),
+        None => 6,
+    },
     r => r,
 });
 
