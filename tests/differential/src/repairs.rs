@@ -3,6 +3,7 @@
 
 mod losses;
 mod miscoded;
+mod promises;
 mod refused;
 
 #[cfg(test)]
@@ -51,11 +52,11 @@ pub fn compare(library: &Library) -> Result<u64, Failure> {
     comparisons.depths()?;
     comparisons.causes()?;
     comparisons.bad_marks()?;
-    comparisons.every_mark()?;
-    comparisons.one_fault()?;
-    comparisons.some_faults()?;
     comparisons.known_stopping_sets()?;
     comparisons.lost_parity()?;
+    comparisons.one_fault()?;
+    comparisons.some_faults()?;
+    comparisons.every_mark()?;
     comparisons.one_symbol()?;
     comparisons.bad_copies()?;
     comparisons.sets_of_one_layer()?;
@@ -154,6 +155,9 @@ impl Comparisons {
         self.call(input, &after, repaired(result))
             .and_then(|()| self.check_proof(&after, result))
             .map_err(|difference| Failure { call: input.description(what), difference })?;
+        if let Ok(ended) = result {
+            promises::hold(input, &after, ended);
+        }
         Ok(result)
     }
 
