@@ -124,16 +124,16 @@ static inline uint64_t cmt_repair_stored(uint64_t result)
     return result / 4294967296 % 65536;
 }
 
-/* The bytes of the proof that a repair wrote, where its end is CMT_FAULT. */
+/* The bytes of the proof that a repair wrote; 0 where its end is not CMT_FAULT. */
 static inline uint64_t cmt_repair_proof_bytes(uint64_t result)
 {
-    return result / 281474976710656;
+    return cmt_repair_end(result) == CMT_FAULT ? result / 281474976710656 : 0;
 }
 
-/* The layer that a repair left incomplete, where its end is CMT_UNAVAILABLE. */
+/* The layer that a repair left incomplete; 0 where its end is not CMT_UNAVAILABLE. */
 static inline uint64_t cmt_repair_layer(uint64_t result)
 {
-    return result / 281474976710656;
+    return cmt_repair_end(result) == CMT_UNAVAILABLE ? result / 281474976710656 : 0;
 }
 
 /*
