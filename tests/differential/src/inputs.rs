@@ -35,6 +35,12 @@ pub fn spoil_mark(marks: &mut [u8], random: &mut Random) {
     marks[at] = BAD_MARKS[random.below(BAD_MARKS.len())];
 }
 
+/// Gives a random word of a table another kind.
+pub fn spoil_table(table: &mut [u8], random: &mut Random) {
+    let at = 4 * random.below(table.len() / 4);
+    table[at] ^= 0xc0;
+}
+
 /// Copies of an input, in each of which one buffer has another length, those
 /// of `more` among them.
 pub fn with_other_lengths<I: Clone, const N: usize>(
@@ -64,9 +70,22 @@ fn other_lengths(len: usize) -> Vec<usize> {
 }
 
 /// Gives a buffer one byte more or one less.
-pub fn by_one(buffer: &mut Vec<u8>, random: &mut Random) {
+fn by_one(buffer: &mut Vec<u8>, random: &mut Random) {
     if random.below(2) == 0 || buffer.pop().is_none() {
         buffer.push(1);
+    }
+}
+
+/// The same of each buffer that has the cause of its number.
+pub fn each_by_one<const N: usize>(
+    buffers: [&mut Vec<u8>; N],
+    has: impl Fn(usize) -> bool,
+    random: &mut Random,
+) {
+    for (cause, buffer) in buffers.into_iter().enumerate() {
+        if has(cause) {
+            by_one(buffer, random);
+        }
     }
 }
 

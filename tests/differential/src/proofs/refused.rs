@@ -2,7 +2,8 @@
 
 use super::{Comparisons, Input};
 use crate::difference::Failure;
-use crate::inputs::{by_one, depths_to_ask, large, with_other_lengths, DEPTHS, MADE_FOR};
+use crate::inputs::{depths_to_ask, each_by_one, large, spoil_table, with_other_lengths};
+use crate::inputs::{DEPTHS, MADE_FOR};
 use crate::tables::lists::{random_damage, random_table};
 use crate::volumes::Volume;
 use reference::proof::HEAD;
@@ -80,15 +81,12 @@ impl Comparisons {
                     input.proof[self.random.below(HEAD / 2)] ^= 0x40;
                 }
                 if has(5) {
-                    let at = 4 * self.random.below(input.table.len() / 4);
-                    input.table[at] ^= 0xc0;
+                    spoil_table(&mut input.table, &mut self.random);
                 }
                 if has(4) {
                     input.proof.truncate(self.random.below(HEAD));
                 }
-                for buffer in (0..3).filter(|&buffer| has(buffer)) {
-                    by_one(input.buffers()[buffer], &mut self.random);
-                }
+                each_by_one(input.buffers(), has, &mut self.random);
                 if has(3) {
                     input.depth = large(depth)[self.random.below(5)];
                 }

@@ -2,7 +2,9 @@
 
 use super::{Comparisons, Input};
 use crate::difference::Failure;
-use crate::inputs::{by_one, depths_to_ask, large, spoil_mark, with_other_lengths};
+use crate::inputs::{
+    depths_to_ask, each_by_one, large, spoil_mark, spoil_table, with_other_lengths,
+};
 use crate::inputs::{BAD_MARKS, DEPTHS, MADE_FOR};
 use crate::random::Random;
 use crate::tables::lists::{random_damage, random_table};
@@ -122,12 +124,9 @@ impl Comparisons {
                     spoil_mark(&mut input.marks, &mut self.random);
                 }
                 if has(6) {
-                    let at = 4 * self.random.below(input.table.len() / 4);
-                    input.table[at] ^= 0xc0;
+                    spoil_table(&mut input.table, &mut self.random);
                 }
-                for buffer in (0..5).filter(|&buffer| has(buffer)) {
-                    by_one(input.buffers()[buffer], &mut self.random);
-                }
+                each_by_one(input.buffers(), has, &mut self.random);
                 if has(5) {
                     input.depth = large(depth)[self.random.below(5)];
                 }

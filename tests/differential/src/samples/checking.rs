@@ -3,8 +3,8 @@
 
 use super::{base_symbols, wrong_numbers};
 use crate::difference::Failure;
-use crate::inputs::{by_one, depths_to_ask, large, lend, Buffer, Coded};
-use crate::inputs::{with_other_lengths, DEPTHS, MADE_FOR};
+use crate::inputs::{depths_to_ask, each_by_one, large, lend, with_other_lengths};
+use crate::inputs::{Buffer, Coded, DEPTHS, MADE_FOR};
 use crate::random::Random;
 use crate::results::number;
 use crate::tables::lists::random_table;
@@ -240,9 +240,7 @@ impl Comparisons {
                     let numbers = wrong_numbers(depth, input.number as usize);
                     input.number = numbers[self.random.below(numbers.len())];
                 }
-                for buffer in (0..2).filter(|&buffer| has(buffer)) {
-                    by_one(input.buffers()[buffer], &mut self.random);
-                }
+                each_by_one(input.buffers(), has, &mut self.random);
                 if has(2) {
                     input.depth = large(depth)[self.random.below(5)];
                 }

@@ -2,8 +2,8 @@
 
 use super::{base_symbols, wrong_numbers};
 use crate::difference::Failure;
-use crate::inputs::{by_one, depths_to_ask, large, lend, Buffer, Coded};
-use crate::inputs::{spoil_mark, with_other_lengths, BAD_MARKS, DEPTHS, MADE_FOR};
+use crate::inputs::{depths_to_ask, each_by_one, large, lend, spoil_mark, with_other_lengths};
+use crate::inputs::{Buffer, Coded, BAD_MARKS, DEPTHS, MADE_FOR};
 use crate::random::Random;
 use crate::results::number;
 use crate::tables::lists::random_table;
@@ -193,9 +193,7 @@ impl Comparisons {
                 if has(4) {
                     spoil_mark(&mut input.marks, &mut self.random);
                 }
-                for buffer in (0..3).filter(|&buffer| has(buffer)) {
-                    by_one(input.buffers()[buffer], &mut self.random);
-                }
+                each_by_one(input.buffers(), has, &mut self.random);
                 if has(3) {
                     input.depth = large(depth)[self.random.below(5)];
                 }

@@ -1,8 +1,10 @@
 //! `cmt_tree_write`: blocks and tables, and each way to be refused.
 
 use crate::difference::Failure;
-use crate::inputs::{block_len, by_one, depths_to_ask, large, lend, Buffer};
-use crate::inputs::{with_other_lengths, BAD_MARKS, DEPTHS, MADE_FOR};
+use crate::inputs::{
+    block_len, depths_to_ask, each_by_one, large, lend, spoil_table, with_other_lengths,
+};
+use crate::inputs::{Buffer, BAD_MARKS, DEPTHS, MADE_FOR};
 use crate::messages::{Content, CONTENTS};
 use crate::random::Random;
 use crate::results::number;
@@ -145,12 +147,9 @@ impl Comparisons {
                 let mut input = right.clone();
                 let has = |cause: usize| causes >> cause & 1 == 1;
                 if has(6) {
-                    let at = 4 * self.random.below(input.table.len() / 4);
-                    input.table[at] ^= 0xc0;
+                    spoil_table(&mut input.table, &mut self.random);
                 }
-                for buffer in (0..5).filter(|&buffer| has(buffer)) {
-                    by_one(input.buffers()[buffer], &mut self.random);
-                }
+                each_by_one(input.buffers(), has, &mut self.random);
                 if has(5) {
                     input.depth = large(depth)[self.random.below(5)];
                 }
