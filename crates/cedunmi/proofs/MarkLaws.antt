@@ -40,6 +40,6 @@ unfolding isBad
 marks-pass m a =
     let low = lowest-is (isBad m) 0 (length m) in
     elim (decLt (lowestBad m) (length m)) [
-      yes h ↦ absurd (omega (arith, ltb-true 1 (getD m (lowestBad m) 0) (low .found (omega arith)), every-below 2 m a (lowestBad m) h))
-    | no h ↦ omega arith
+      | yes h ↦ absurd (omega (arith, ltb-true 1 (getD m (lowestBad m) 0) (low .found (omega arith)), every-below 2 m a (lowestBad m) h))
+      | no h ↦ omega arith
     ]

@@ -75,13 +75,12 @@ module _ (d : ℕ) (root table t m o : List ℕ) where
       × (m ≡ leftBy (repairTested d root table t m o) (repairOf root table t m o .marks) m)
       × (o ≡ leftBy (repairTested d root table t m o) (repairOf root table t m o .out) o)
   unfolding repaired
-  refused s e =
-      (
-        ap (λ (a : Answer). resultBy a after) e,
-        ap (λ (a : Answer). leftBy a (after .tree) t) e,
-        ap (λ (a : Answer). leftBy a (after .marks) m) e,
-        ap (λ (a : Answer). leftBy a (after .out) o) e,
-      )
+  refused s e = (
+    ap (λ (a : Answer). resultBy a after) e,
+    ap (λ (a : Answer). leftBy a (after .tree) t) e,
+    ap (λ (a : Answer). leftBy a (after .marks) m) e,
+    ap (λ (a : Answer). leftBy a (after .out) o) e,
+  )
 
   pub done : (ws t′ m′ o′ : List ℕ) (s : ℕ) (z : End) → ws ≡ wordsOf table → Repaired root (tableOf ws) t m o t′ m′ o′ s z → Done ≡ repairTested d root table t m o
       → (ended s (endOf z) ≡ repaired d root table t m o) × (t′ ≡ leftBy (repairTested d root table t m o) (repairOf root table t m o .tree) t)
@@ -89,8 +88,7 @@ module _ (d : ℕ) (root table t m o : List ℕ) where
       × (o′ ≡ leftBy (repairTested d root table t m o) (repairOf root table t m o .out) o)
   unfolding repaired repairOf
   done ws t′ m′ o′ s z ew k e =
-      let r : Repaired root (tableOf (wordsOf table)) t m o t′ m′ o′ s z = subst (λ (q : List ℕ). Repaired root (tableOf q) t m o t′ m′ o′ s z) ew k in
-      (
+      let r : Repaired root (tableOf (wordsOf table)) t m o t′ m′ o′ s z = subst (λ (q : List ℕ). Repaired root (tableOf q) t m o t′ m′ o′ s z) ew k in (
         ap₂ ended (r .stored-is) (r .end-is) ∙ ap (λ (a : Answer). resultBy a after) e,
         r .tree-is ∙ ap (λ (a : Answer). leftBy a (after .tree) t) e,
         r .marks-is ∙ ap (λ (a : Answer). leftBy a (after .marks) m) e,

@@ -227,6 +227,18 @@ module _ (p : ℕ → Bool) (xs : List ℕ) (i : ℕ) where
   unfolding count
   count-end h = ap (count p) (drop-of-length-le xs h)
 
+  pub first-skip : i < length xs → p (getD xs i 0) ≡ false → firstOf p (drop i xs) ≡ firstOf p (drop (i + 1) xs)
+  unfolding firstOf
+  first-skip h f = ap (firstOf p) (from-here xs i h) ∙ pick-no (p (getD xs i 0)) _ _ f
+
+  pub first-here : i < length xs → p (getD xs i 0) ≡ true → firstOf p (drop i xs) ≡ getD xs i 0
+  unfolding firstOf
+  first-here h f = ap (firstOf p) (from-here xs i h) ∙ pick-yes (p (getD xs i 0)) _ _ f
+
+  pub first-end : length xs ≤ i → firstOf p (drop i xs) ≡ 0
+  unfolding firstOf
+  first-end h = ap (firstOf p) (drop-of-length-le xs h)
+
 -- the search from number i on, one turn of a loop: it comes to v
 module _ (p : ℕ → Bool) (n i v : ℕ) (e : lowest p i (n - i) ≡ v) where
   pub lowest-hit : i < n → p i ≡ true → i ≡ v

@@ -3,12 +3,12 @@ use mathlib.Core.Bool.{Bool, true}
 use mathlib.Core.List.{List, [], _∷_}
 use mathlib.Core.Path.{_∙_, _≡_, ap, refl, subst, sym}
 use Prim.Native.Nat.{_+_, _<_, _≤_, suc, zero, ℕ}
-use native.Mathlib.Numerals.{add-one}
 use native.Mathlib.Omega.{arith}
 use lib.Dec.{eqb, leb, ltb}
 use lib.ListN.{drop, drop-of-length-le, getD, length, length-set, set}
-use lib.Seq.{drop-cons, getD-set-same}
+use lib.Seq.{getD-set-same}
 use borrow.Author.Tests.{eqb-false, eqb-true, le-leb, leb-true, lt-ltb, ltb-true}
+use Rattle.model.proofs.Members.{from-here}
 use Rattle.octets.proofs.Choice.{and-yes, by-test, yes-and}
 use Rattle.parity_table.specs.Members.{every}
 use Rattle.parity_table.specs.Table.{equationOf, layerOf}
@@ -49,7 +49,7 @@ setAll-at (y ∷ ys) v l a =
 module _ (ms : List ℕ) (v i : ℕ) (l : List ℕ) where
   pub set-next : i < length ms → setAll (drop i ms) v l ≡ setAll (drop (i + 1) ms) v (set l (getD ms i 0) v)
   unfolding setAll
-  set-next h = ap (λ (q : List ℕ). setAll q v l) (drop-cons ms i 0 h) ∙ ap (λ (n : ℕ). setAll (drop n ms) v (set l (getD ms i 0) v)) (sym (add-one i))
+  set-next h = ap (λ (q : List ℕ). setAll q v l) (from-here ms i h)
 
   pub set-done : length ms ≤ i → setAll (drop i ms) v l ≡ l
   unfolding setAll

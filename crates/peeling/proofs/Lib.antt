@@ -1,4 +1,3 @@
-pub mod MarkLaws
 pub mod SweepLaws
 pub mod TurnLaws
 pub mod FirstLaws

@@ -1,7 +1,7 @@
--- The sampler's loops: the lowest number that passes a test, and symbols copied one after the other. Assumes nothing.
+-- The sampler's loops: the first absent symbol, and symbols copied one after the other.
 use mathlib.Core.Path.{_≡_, sym, ap, ap₂, _∙_}
 use mathlib.Core.Logic.{_≢_}
-use mathlib.Core.Bool.{Bool, true, false, not}
+use mathlib.Core.Bool.{true, not}
 use mathlib.Core.List.{List, _++_, append-assoc, append-nil}
 use Prim.Native.Nat.{ℕ, zero, suc, _+_, _-_, _*_, _≤_, _<_}
 use native.Mathlib.Nat.{add-zero}
@@ -17,26 +17,9 @@ use Rattle.model.specs.Shape.{tree, place}
 use Rattle.model.specs.Symbols.{joined, symbolIn, lowest, symAt}
 use Rattle.model.specs.Sampling.{sampleSize, sampleLayer, sampleNumber, sampleBytes}
 use Rattle.sampling.specs.declared.Found.the-variants.{At, Nothing}
+use Rattle.model.specs.Repair.{absentAt}
+use Rattle.model.proofs.Counts.{lowest-hit, lowest-pass, lowest-none}
 use Rattle.sampling.specs.Absent.{absent, foundBelow, firstAbsent}
-
--- ---- the lowest number, from x on and below e
-
-module _ (p : ℕ → Bool) (e x : ℕ) where
-  lowest-next : x < e → p x ≡ false → lowest p (x + 1) (e - (x + 1)) ≡ lowest p x (e - x)
-  unfolding lowest
-  lowest-next h t =
-      let n : e - x ≡ suc (e - (x + 1)) = omega arith in
-      sym (ap (lowest p x) n ∙ pick-no (p x) x (lowest p (suc x) (e - (x + 1))) t ∙ ap (λ (y : ℕ). lowest p y (e - (x + 1))) (sym (add-one x)))
-
-  lowest-here : x < e → p x ≡ true → lowest p x (e - x) ≡ x
-  unfolding lowest
-  lowest-here h t =
-      let n : e - x ≡ suc (e - (x + 1)) = omega arith in
-      ap (lowest p x) n ∙ pick-yes (p x) x (lowest p (suc x) (e - (x + 1))) t
-
-  lowest-none : e ≤ x → lowest p x (e - x) ≡ x
-  unfolding lowest
-  lowest-none h = let n : e - x ≡ 0 = omega arith in ap (lowest p x) n
 
 -- ---- the first absent symbol of a sample
 
@@ -47,24 +30,24 @@ module _ (d i : ℕ) (marks : List ℕ) (x : ℕ) where
 
   module _ (q : ℕ) (at : q ≡ place tree (sampleLayer d x) (sampleNumber tree d i x)) (h : x < sampleSize d) (before : HeldBefore) where
     pub absent-here : getD marks q 0 ≢ 1 → At x ≡ firstAbsent d i marks
-    unfolding absent firstAbsent foundBelow
+    unfolding absent absentAt firstAbsent foundBelow
     absent-here n =
         let t : absent d i marks x ≡ true = ap not (ne-eqb _ 1 (λ e. n (ap (λ (y : ℕ). getD marks y 0) at ∙ e))) in
         sym
-        (ap (foundBelow (sampleSize d)) (sym before ∙ lowest-here (absent d i marks) (sampleSize d) x h t)
+        (ap (foundBelow (sampleSize d)) (sym (lowest-hit (absent d i marks) (sampleSize d) x _ before h t))
         ∙ pick-yes (ltb x (sampleSize d)) (At x) Nothing (lt-ltb x (sampleSize d) h))
 
     pub held-here : getD marks q 0 ≡ 1 → lowest (absent d i marks) (x + 1) (sampleSize d - (x + 1)) ≡ lowest (absent d i marks) 0 (sampleSize d)
-    unfolding absent
+    unfolding absent absentAt
     held-here e =
-        lowest-next (absent d i marks) (sampleSize d) x h (ap not (eq-eqb _ 1 (sym (ap (λ (y : ℕ). getD marks y 0) at) ∙ e))) ∙ before
+        lowest-pass (absent d i marks) (sampleSize d) x _ before h (ap not (eq-eqb _ 1 (sym (ap (λ (y : ℕ). getD marks y 0) at) ∙ e)))
 
-  pub all-held : sampleSize d ≤ x → HeldBefore → Nothing ≡ firstAbsent d i marks
+  pub all-held : x ≡ sampleSize d → HeldBefore → Nothing ≡ firstAbsent d i marks
   unfolding firstAbsent foundBelow
   all-held h before =
       sym
-      (ap (foundBelow (sampleSize d)) (sym before ∙ lowest-none (absent d i marks) (sampleSize d) x h)
-      ∙ pick-no (ltb x (sampleSize d)) (At x) Nothing (le-ltb x (sampleSize d) h))
+      (ap (foundBelow (sampleSize d)) (sym (lowest-none (absent d i marks) (sampleSize d) x _ before h))
+      ∙ pick-no (ltb (sampleSize d) (sampleSize d)) (At (sampleSize d)) Nothing (le-ltb (sampleSize d) (sampleSize d) (omega arith)))
 
 pub held-start : (d i : ℕ) (marks : List ℕ) → HeldBefore d i marks 0
 held-start d i marks = let n : sampleSize d - 0 ≡ sampleSize d = omega arith in ap (lowest (absent d i marks) 0) n

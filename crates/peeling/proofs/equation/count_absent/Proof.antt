@@ -6,12 +6,12 @@ use native.Mathlib.Nat.{zero-add}
 use native.Mathlib.Omega.{arith}
 use lib.ListN.{drop, getD, length}
 use Rattle.coded_tree.proofs.MarkLaws.{absent-is, held-is, mark-inside}
+use Rattle.model.proofs.Counts.{count-drop, count-end}
 use Rattle.model.proofs.Members.{every-below}
 use Rattle.model.specs.Repair.{absentAt}
 use Rattle.model.specs.Shape.{places, tree}
 use Rattle.model.specs.Symbols.{bit, count}
 use Rattle.parity_table.specs.Shape.{nOf}
-use Rattle.peeling.proofs.MarkLaws.{count-cut, count-end}
 use Rattle.model.specs.Shape.{tree as shape}
 use Rattle.peeling.proofs.equation.count_absent.Statement.{statement}
 use Rattle.peeling.proofs.equation.count_absent.Tie as tie
@@ -65,7 +65,7 @@ loop-again c =
     let l = c .before .before .before .before .loop in
     let p = absentAt shape (s .args .marks .now) (s .args .j) in
     let y = getD (s .args .members .now) (l .i) 0 in
-    let q = count-cut p (s .args .members .now) (l .i) (omega arith) in
+    let q = count-drop p (s .args .members .now) (l .i) (omega arith) in
     ⊎-elim
     (λ w. (omega arith, l .inv .1, l .inv .2, omega (arith, w .1), omega (arith, q, l .inv .4, w .1, ap bit (absent-is (s .args .marks .now) (s .args .j) _ (l .inv .2) y (w .0 .taken)))))
     (λ w. (omega arith, l .inv .1, l .inv .2, omega (arith, w .1), omega (arith, q, l .inv .4, w .1, ap bit (held-is (s .args .marks .now) (s .args .j) _ (l .inv .2) y (w .0 .left)))))

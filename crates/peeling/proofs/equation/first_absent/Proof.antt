@@ -4,12 +4,12 @@ use Prim.Native.Nat.{_-_, _≤_}
 use native.Mathlib.Omega.{arith}
 use lib.ListN.{drop, length}
 use Rattle.coded_tree.proofs.MarkLaws.{absent-is, held-is, mark-inside}
+use Rattle.model.proofs.Counts.{first-end, first-here, first-skip}
 use Rattle.model.proofs.Members.{every-below}
 use Rattle.model.specs.Repair.{absentAt}
 use Rattle.model.specs.Shape.{places, tree}
 use Rattle.model.specs.Symbols.{firstOf}
 use Rattle.parity_table.specs.Shape.{nOf}
-use Rattle.peeling.proofs.MarkLaws.{first-end, first-here, first-skip}
 use Rattle.model.specs.Shape.{tree as shape}
 use Rattle.peeling.proofs.equation.first_absent.Statement.{statement}
 use Rattle.peeling.proofs.equation.first_absent.Tie as tie
