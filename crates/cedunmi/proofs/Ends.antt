@@ -52,7 +52,7 @@ pub record Formed (d : ℕ) (root table t m o : List ℕ) : Type 0 where
   pub marks-full : length m ≡ places tree d
   pub out-full : length o ≡ 12 + 256 * (8 * d - 1)
 
-formed : (d : ℕ) (root table t m o : List ℕ) → repairTested d root table t m o ≡ Done → Formed d root table t m o
+pub formed : (d : ℕ) (root table t m o : List ℕ) → repairTested d root table t m o ≡ Done → Formed d root table t m o
 unfolding repairTested repairLengths
 formed d root table t m o =
     let P : Answer → Type 0 = λ a. a ≡ Done → Formed d root table t m o in
@@ -77,7 +77,7 @@ formed d root table t m o =
 -- ---- the four ends
 
 module _ (d : ℕ) (root table t m o : List ℕ) (k : Formed d root table t m o) where
-  deep : length (tableOf (wordsOf table)) ≡ d
+  pub deep : length (tableOf (wordsOf table)) ≡ d
   deep = accepted-table d (wordsOf table) (bytes-accepted d table (k .whole-table)) .depth
 
   ended-so : Ended tree symbolHash root (tableOf (wordsOf table)) t m o (repairOf root table t m o)

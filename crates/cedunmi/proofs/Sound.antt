@@ -35,11 +35,11 @@ done-judged (broken j) e = absurd (omega (arith, ap numberOf e))
 done-judged noFault e = absurd (omega (arith, ap numberOf e))
 
 -- the table is whole, and a proof is accepted for it
-record Passed (d : ℕ) (root table b : List ℕ) : Type 0 where
+pub record Passed (d : ℕ) (root table b : List ℕ) : Type 0 where
   pub whole : readBytesOf d table ≡ read.Whole
   pub accepts : verdict tree symbolHash root (tableOf (wordsOf table)) b ≡ accepted
 
-passed : (d : ℕ) (root table b : List ℕ) → proofChecked d root table b ≡ Done → Passed d root table b
+pub passed : (d : ℕ) (root table b : List ℕ) → proofChecked d root table b ≡ Done → Passed d root table b
 unfolding proofChecked
 passed d root table b =
     pick-ind (λ a. a ≡ Done → Passed d root table b) (depthFits d)
