@@ -1,0 +1,103 @@
+-- 01's starred cases: every row of the table holds.
+use mathlib.Core.Path.{_≡_, refl, sym, ap}
+use mathlib.Core.Bool.{false}
+use mathlib.Core.List.{List}
+use Prim.Native.Nat.{ℕ, suc, _+_, _-_, _*_, _≤_, _<_}
+use native.Mathlib.Nat.{mul-le-mul-right}
+use native.Mathlib.Omega.{arith}
+use lib.ListN.{length}
+use lib.Dec.{eqb}
+use Rattle.octets.specs.Choice.{pick}
+use Rattle.octets.proofs.Choice.{pick-no}
+use Rattle.parity_table.specs.Shape.{maxDepth, depthFits, kOf, nOf}
+use Rattle.parity_table.specs.Members.{lastOf}
+use Rattle.parity_table.specs.Table.{layerOf, equationOf, equationsWords, layersWords, tableWords}
+use Rattle.parity_table.specs.Bytes.{wordsOf}
+use Rattle.parity_table.specs.House.{houseEquation, houseEquations, houseLayers, houseTable, houseWords, houseAnswer}
+use Rattle.parity_table.specs.Right as reader
+use Rattle.parity_table.specs.declared.Answer.the-variants as read
+use Rattle.parity_table.proofs.Accepts.{accepted-table}
+use Rattle.parity_table.proofs.ByteForm.{bytes-depth, bytes-accepted}
+use Rattle.symbol_hash.specs.SymbolHash.{symbolHash}
+use Rattle.model.specs.Shape.{tree, place, places}
+use Rattle.model.specs.Symbols.{symbolIn, slot, symAt}
+use Rattle.model.specs.Fault.{proofLength, proofLayer, proofEquation, proofMembers}
+use Rattle.model.proofs.Sound.{accepted-is}
+use Rattle.cedunmi.specs.Stops.{numberOf}
+use Rattle.cedunmi.proofs.LoadLaws.{table-laws-of}
+use Rattle.cedunmi.proofs.WriteLaws.{write-depth}
+use Rattle.cedunmi.proofs.VolumeLaws.{read-depth}
+use Rattle.cedunmi.proofs.SampleLaws.{at-depth, sample-depth}
+use Rattle.cedunmi.proofs.ProofLaws.{proof-depth}
+use Rattle.cedunmi.proofs.RepairLaws.{tested-depth}
+use Rattle.cedunmi.proofs.Sound.{passed}
+use Rattle.guarantees.specs.Terms.{equationsOf}
+use Rattle.guarantees.specs.Cases.{StopsWith1, Longest, Stands, CasesHold}
+use Rattle.guarantees.proofs.RepairCases.{coded-is, two-turns, two-absent, eight-absent, all-absent}
+
+-- ---- case 8
+
+stops : (d : ℕ) → depthFits d ≡ false → StopsWith1 d
+unfolding houseAnswer
+stops d f =
+    record {
+      table-check = λ b. sym (ap reader.numberOf (bytes-depth d b f));
+      house-writer = λ n. ap reader.numberOf (pick-no (depthFits d) (pick (eqb n (length (houseWords d) * 4)) read.Whole read.Length) read.Depth f);
+      tree-writer = λ table b t m root. sym (ap numberOf (write-depth d table b t m root f));
+      block-reader = λ t m b. sym (ap numberOf (read-depth d t m b f));
+      sampler = λ i t m s. sym (ap numberOf (sample-depth d i t m s f));
+      sample-checker = λ i root s. sym (ap numberOf (at-depth d i root s f));
+      proof-checker = λ root table b. sym (ap numberOf (proof-depth d root table b f));
+      repairer = λ root table t m o. sym (ap numberOf (tested-depth d root table t m o f));
+    }
+
+-- ---- case 9
+
+longer : (j d : ℕ) → j < 5 → d ≤ 8 → proofLength j d ≤ 9996
+unfolding proofLength
+longer j d h k = omega (arith, mul-le-mul-right {m = d - 1} {n = 7} (suc j) (omega arith))
+
+longest : Longest 5 9996
+unfolding proofLength proofMembers
+longest =
+    record {
+      reached = refl;
+      none-longer = longer;
+      none-accepted = λ root table b e.
+          let p = passed 5 root table b e in
+          let tbl : List (List (List ℕ)) = equationsOf table in
+          let a = accepted-is tree symbolHash root tbl b (p .accepts) in
+          let j : ℕ = proofLayer b in
+          let ms : List ℕ = equationOf tbl j (proofEquation b) in
+          let deep : length tbl ≡ 5 = accepted-table 5 (wordsOf table) (bytes-accepted 5 table (p .whole)) .depth in
+          let few : length ms ≤ 8 = table-laws-of 5 table (p .whole) .few-members j (proofEquation b) (a .named .layer-ok) (a .named .equation-ok) in
+          omega (arith, a .exact, longer j (length ms) (omega (arith, deep, a .named .layer-ok)) few);
+    }
+
+-- ---- case 10
+
+stands : Stands 2 31 3 224 255
+unfolding slot kOf nOf symbolHash
+stands = record { bytes = refl; stands = λ tbl f deep c. c .stands 0 31 (omega arith, omega arith) }
+
+-- ---- all of them
+
+infixr 40 _also_
+_also_ : {A B : Type 0} → A → B → A × B
+a also b = (a, b)
+
+pub cases-hold : CasesHold
+unfolding houseTable houseLayers houseEquations houseEquation houseWords tableWords layersWords equationsWords layerOf equationOf lastOf kOf nOf depthFits places place symAt symbolIn pick
+cases-hold =
+    -- 1, 2
+    refl also refl also refl
+    also (refl, refl)
+    -- 3
+    also ap (λ (t : List ℕ). symAt tree t 0 5) coded-is
+    also ap (λ (t : List ℕ). symAt tree t 0 7) coded-is
+    also ap (λ (t : List ℕ). symAt tree t 0 9) coded-is
+    -- 4, 5, 6
+    also two-turns also two-absent also eight-absent also all-absent
+    -- 8, 9, 10
+    also stops 0 refl also stops (maxDepth + 1) refl also refl
+    also longest also stands also tt

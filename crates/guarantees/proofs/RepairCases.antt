@@ -1,0 +1,299 @@
+-- Cases 4, 5 and 6 of 01. Hashing is not computed: where a symbol's bytes are those that were coded, its hash is the committed one, whatever
+-- the hash; so the repair of layer 0 runs with a test that compares bytes first.
+use mathlib.Core.Path.{_≡_, refl, sym, ap, _∙_, subst, fun-ext}
+use mathlib.Core.Bool.{Bool, true, false, not, _&&_}
+use mathlib.Core.List.{List, [], _∷_, _++_}
+use Prim.Native.Nat.{ℕ, zero, suc, _-_, _*_}
+use native.Mathlib.Omega.{arith}
+use lib.ListN.{length, getD, set, replicate}
+use lib.Dec.{ltb, eqb}
+use borrow.Author.Tests.{ltb-true}
+use Rattle.octets.specs.Choice.{pick}
+use Rattle.octets.specs.ByteLists.{same, xors}
+use Rattle.octets.proofs.Choice.{and-yes}
+use Rattle.parity_table.specs.Shape.{kOf, nOf}
+use Rattle.parity_table.specs.Members.{lastOf}
+use Rattle.parity_table.specs.Table.{layerOf, equationOf}
+use Rattle.parity_table.specs.House.{houseEquation, houseEquations, houseLayers, houseTable}
+use Rattle.parity_table.proofs.HouseRules.{house-rules}
+use Rattle.symbol_hash.specs.SymbolHash.{symbolHash}
+use Rattle.symbol_hash.proofs.Laws.{length-symbolHash}
+use Rattle.model.specs.Shape.{tree, place, places}
+use Rattle.model.specs.Symbols.{symbolIn, zeros, xorOf, others, count, firstOf, lowest, slot, committed, symAt, putAt}
+use Rattle.model.specs.Coded.{Agrees}
+use Rattle.model.specs.Writer.{parities, code, writeTree}
+use Rattle.model.specs.Fault.{proofBytes}
+use Rattle.model.specs.Repair.{End, working, whole, unavailable, going, St, useEq, writeFault, writeTwins, fresh, endAs, finish, absentAt, storeSym, eraseSym, restOf, gapsLeft, settle, fitsAt, sweepAt, sweep, form, refute, act, takeable, lowestEq, step, peel, enter, layer, layers, repair}
+use Rattle.model.proofs.Bytes.{same-yes, yes-same}
+use Rattle.model.proofs.Shapes.{tree-ok}
+use Rattle.model.proofs.Tables.{table-fits}
+use Rattle.model.proofs.Writer.{written}
+use Rattle.model.proofs.Binding.{hashes}
+use Rattle.guarantees.specs.Cases.{block, coded, codedRoot, marksBut, treeBut, repairCoded, entersCoded, turn, Gives, Turns, Leaves}
+
+-- ---- the coded tree
+
+-- the first byte of each symbol, as the program `listing` prints them
+abbrev firstBytes : List ℕ
+firstBytes =
+    0x01 ∷ 0x02 ∷ 0x04 ∷ 0x08 ∷ 0x03 ∷ 0x05 ∷ 0x09 ∷ 0x00 ∷ 0x05 ∷ 0x0F ∷ 0x0A ∷ 0x00 ∷ 0x09 ∷ 0x0A ∷ 0x0C ∷ 0x00 ∷ []
+
+-- n symbols from number i on, each all of its first byte
+abbrev symbolsFrom : ℕ → ℕ → List ℕ
+symbolsFrom i zero = []
+symbolsFrom i (suc n) = replicate 256 (getD firstBytes i 0) ++ symbolsFrom (suc i) n
+
+abbrev listed : List ℕ
+listed = symbolsFrom 0 16
+
+pub coded-is : coded ≡ listed
+unfolding coded block writeTree code parities putAt symAt symbolIn place places xorOf xors zeros others pick houseTable houseLayers houseEquations houseEquation layerOf kOf nOf
+coded-is = refl
+
+-- ---- the repair of layer 0, with any test of a symbol of a number
+
+module _ (fits : ℕ → List ℕ → Bool) where
+  abbrev sweepAtBy : ℕ → St → St
+  sweepAtBy i st = pick (not (absentAt tree (st .marks) 0 i) && fits i (symAt tree (st .tree) 0 i)) st (eraseSym tree 0 i st)
+
+  abbrev sweepBy : ℕ → ℕ → St → St
+  sweepBy i zero st = st
+  sweepBy i (suc n) st = sweepBy (suc i) n (sweepAtBy i st)
+
+  abbrev formBy : ℕ → List ℕ → ℕ → List ℕ → St → St
+  formBy e ms x v st = pick (fits x v) (storeSym tree 0 e x v st) (writeFault 0 e x (proofBytes tree (symAt tree (st .tree)) 0 e x ms) st)
+
+  abbrev refuteBy : ℕ → List ℕ → ℕ → List ℕ → St → St
+  refuteBy e ms x v st =
+      pick (fits x v) (writeTwins 0 x (symAt tree (st .tree) 0 x) v st) (writeFault 0 e x (proofBytes tree (symAt tree (st .tree)) 0 e x ms) st)
+
+  abbrev actBy : ℕ → List ℕ → St → St
+  actBy e ms st =
+      pick (eqb (count (absentAt tree (st .marks) 0) ms) 0)
+      (pick (same (xorOf (symAt tree (st .tree) 0) ms) zeros) (useEq e st) (refuteBy e ms (lastOf ms 0) (restOf tree 0 ms (lastOf ms 0) st) st))
+      (formBy e ms (firstOf (absentAt tree (st .marks) 0) ms) (restOf tree 0 ms (firstOf (absentAt tree (st .marks) 0) ms) st) st)
+
+  abbrev stepBy : St → St
+  stepBy st =
+      pick (going (st .end) && ltb (lowestEq tree (houseTable 1) 0 st) (length (layerOf (houseTable 1) 0)))
+      (actBy (lowestEq tree (houseTable 1) 0 st) (equationOf (houseTable 1) 0 (lowestEq tree (houseTable 1) 0 st)) st) st
+
+  abbrev peelBy : ℕ → St → St
+  peelBy zero st = st
+  peelBy (suc n) st = peelBy n (stepBy st)
+
+  abbrev enterBy : St → St
+  enterBy st = sweepBy 0 (nOf 0) (fresh 0 (length (layerOf (houseTable 1) 0)) st)
+
+  abbrev repairBy : St → St
+  repairBy st = finish (settle tree 0 (peelBy (length (layerOf (houseTable 1) 0)) (enterBy st)))
+
+-- the test of the definition: the symbol's hash is the one that the root has for it
+abbrev fitsRoot : ℕ → List ℕ → Bool
+fitsRoot i x = same (symbolHash 0 i x) (slot codedRoot i)
+
+sweep-by : (n i : ℕ) (st : St) → sweep tree symbolHash codedRoot 0 i n st ≡ sweepBy fitsRoot i n st
+unfolding sweep sweepAt fitsAt committed
+sweep-by zero i st = refl
+sweep-by (suc n) i st = sweep-by n (suc i) (sweepAt tree symbolHash codedRoot 0 i st)
+
+step-by : (st : St) → step tree symbolHash codedRoot (houseTable 1) 0 st ≡ stepBy fitsRoot st
+unfolding step act form refute fitsAt committed
+step-by st = refl
+
+peel-by : (n : ℕ) (st : St) → peel tree symbolHash codedRoot (houseTable 1) 0 n st ≡ peelBy fitsRoot n st
+unfolding peel
+peel-by zero st = refl
+peel-by (suc n) st = peel-by n (step tree symbolHash codedRoot (houseTable 1) 0 st) ∙ ap (peelBy fitsRoot n) (step-by st)
+
+abbrev start : List ℕ → List ℕ → List ℕ → St
+start t m o = record { tree = t; marks = m; out = o; used = []; stored = 0; entered = 0; end = working }
+
+enter-by : (st : St) → enter tree symbolHash codedRoot (houseTable 1) 0 st ≡ enterBy fitsRoot st
+unfolding enter
+enter-by st = sweep-by (nOf 0) 0 (fresh 0 (length (layerOf (houseTable 1) 0)) st)
+
+repair-by : (t m o : List ℕ) → repair tree symbolHash codedRoot (houseTable 1) t m o ≡ repairBy fitsRoot (start t m o)
+unfolding repair layers layer going pick houseTable houseLayers
+repair-by t m o =
+    ap (λ (st : St). finish (settle tree 0 st))
+    (peel-by (length (layerOf (houseTable 1) 0)) (enter tree symbolHash codedRoot (houseTable 1) 0 (start t m o))
+    ∙ ap (peelBy fitsRoot (length (layerOf (houseTable 1) 0))) (enter-by (start t m o)))
+
+-- ---- bytes first
+
+-- x is the coded symbol i
+abbrev isCoded : ℕ → List ℕ → Bool
+isCoded i x = ltb i 16 && same x (symAt tree listed 0 i)
+
+abbrev bytesFirst : (ℕ → List ℕ → Bool) → ℕ → List ℕ → Bool
+bytesFirst fits i x = elim (isCoded i x) [ true ↦ true | false ↦ fits i x ]
+
+block-size : length block ≡ 256 * kOf (length (houseTable 1) - 1)
+unfolding block kOf houseTable houseLayers
+block-size = refl
+
+lent-size : length {A = ℕ} (replicate 4096 0) ≡ 256 * places tree (length (houseTable 1))
+unfolding places kOf nOf houseTable houseLayers
+lent-size = refl
+
+-- the coded tree agrees with its root, so a coded symbol has the committed hash
+coded-agrees : Agrees tree symbolHash (houseTable 1) codedRoot (symAt tree coded)
+unfolding coded codedRoot
+coded-agrees =
+    written tree tree-ok symbolHash length-symbolHash (houseTable 1) (table-fits 1 (houseTable 1) (omega arith) (house-rules 1)) block block-size (replicate 4096 0)
+    lent-size .agrees
+
+coded-fits : (i : ℕ) (x : List ℕ) → isCoded i x ≡ true → fitsRoot i x ≡ true
+unfolding committed kOf nOf houseTable houseLayers
+coded-fits i x e =
+    let (a, b) = and-yes (ltb i 16) (same x (symAt tree listed 0 i)) e in
+    let q : x ≡ symAt tree coded 0 i = same-yes x (symAt tree listed 0 i) b ∙ ap (λ (t : List ℕ). symAt tree t 0 i) (sym coded-is) in
+    yes-same
+    (ap (symbolHash 0 i) q
+    ∙ hashes tree (tree-ok .shape) symbolHash length-symbolHash (houseTable 1) codedRoot (symAt tree coded) coded-agrees 0 i (omega arith, ltb-true i 16 a))
+
+bytesFirst-fits : bytesFirst fitsRoot ≡ fitsRoot
+bytesFirst-fits = fun-ext λ i. fun-ext λ x. go i x (isCoded i x) refl
+  where
+    go : (i : ℕ) (x : List ℕ) (c : Bool) → isCoded i x ≡ c → bytesFirst fitsRoot i x ≡ fitsRoot i x
+    go i x true e = rw (e, bytesFirst) (sym (coded-fits i x e))
+    go i x false e = rw (e, bytesFirst) refl
+
+-- ---- the repairs, computed for any test
+
+-- the coded tree with zeros for the listed symbols
+abbrev listedBut : List ℕ → List ℕ
+listedBut [] = listed
+listedBut (x ∷ xs) = putAt tree (listedBut xs) 0 x zeros
+
+-- layer 0 entered, these symbols missing and n stored; these equations used
+abbrev at : List ℕ → List ℕ → ℕ → End → List ℕ → St
+at missing us n z o = record { tree = listedBut missing; marks = marksBut missing; out = o; used = us; stored = n; entered = 1; end = z }
+
+-- the sets of symbols of cases 4, 5 and 6
+abbrev pub two : List ℕ
+two = 0 ∷ 1 ∷ []
+
+abbrev pub eight : List ℕ
+eight = 0 ∷ 4 ∷ 5 ∷ 6 ∷ 8 ∷ 9 ∷ 12 ∷ 15 ∷ []
+
+abbrev pub seven : List ℕ
+seven = 0 ∷ 4 ∷ 5 ∷ 6 ∷ 8 ∷ 9 ∷ 12 ∷ []
+
+abbrev pub sixteen : List ℕ
+sixteen = 0 ∷ 1 ∷ 2 ∷ 3 ∷ 4 ∷ 5 ∷ 6 ∷ 7 ∷ 8 ∷ 9 ∷ 10 ∷ 11 ∷ 12 ∷ 13 ∷ 14 ∷ 15 ∷ []
+
+-- how the repair of case 4 stands before its first turn, and after each of two
+abbrev begun : List ℕ → St
+begun o = at two (replicate 12 0) 0 working o
+
+abbrev once : List ℕ → St
+once o = at (0 ∷ []) (set (replicate 12 0) 1 1) 1 working o
+
+abbrev twice : List ℕ → St
+twice o = at [] (set (set (replicate 12 0) 1 1) 0 1) 2 working o
+
+-- a turn takes equation e, which gives symbol x
+record Taken (fits : ℕ → List ℕ → Bool) (e x : ℕ) (st st′ : St) : Type 0 where
+  goes : stepBy fits st ≡ st′
+  takes : lowestEq tree (houseTable 1) 0 st ≡ e
+  was-absent : absentAt tree (st .marks) 0 x ≡ true
+  now-held : absentAt tree (st′ .marks) 0 x ≡ false
+  symbol : symAt tree (st′ .tree) 0 x ≡ symAt tree listed 0 x
+  counted : st′ .stored ≡ suc (st .stored)
+
+-- the repair with these symbols absent comes to this
+abbrev Comes : (ℕ → List ℕ → Bool) → List ℕ → List ℕ → St → Type 0
+Comes fits o absent st = repairBy fits (start listed (marksBut absent) o) ≡ st
+
+record Computed (fits : ℕ → List ℕ → Bool) (o : List ℕ) : Type 0 where
+  enters : enterBy fits (start listed (marksBut two) o) ≡ begun o
+  first-turn : Taken fits 1 1 (begun o) (once o)
+  second-turn : Taken fits 0 0 (once o) (twice o)
+  two-absent : Comes fits o two (at [] (replicate 12 1) 2 whole o)
+  eight-absent : Comes fits o eight (at seven (0 ∷ 0 ∷ 0 ∷ 0 ∷ 0 ∷ 0 ∷ 0 ∷ 1 ∷ 0 ∷ 0 ∷ 1 ∷ 1 ∷ []) 1 (unavailable 0) o)
+  all-absent : Comes fits o sixteen (at sixteen (replicate 12 0) 0 (unavailable 0) o)
+
+computed : (fits : ℕ → List ℕ → Bool) (o : List ℕ) → Computed (bytesFirst fits) o
+unfolding useEq fresh finish endAs absentAt storeSym eraseSym restOf gapsLeft settle going takeable lowestEq putAt symAt symbolIn place places xorOf xors zeros others count firstOf lowest same pick lastOf houseTable houseLayers houseEquations houseEquation layerOf equationOf kOf nOf marksBut
+computed fits o =
+    record {
+      enters = refl;
+      first-turn = record { goes = refl; takes = refl; was-absent = refl; now-held = refl; symbol = refl; counted = refl };
+      second-turn = record { goes = refl; takes = refl; was-absent = refl; now-held = refl; symbol = refl; counted = refl };
+      two-absent = refl;
+      eight-absent = refl;
+      all-absent = refl;
+    }
+
+-- and so with the definition's test
+computed-root : (o : List ℕ) → Computed fitsRoot o
+computed-root o = subst (λ (f : ℕ → List ℕ → Bool). Computed f o) bytesFirst-fits (computed fitsRoot o)
+
+-- ---- the ends
+
+-- zeros for the same symbols
+but-is : (xs : List ℕ) → listedBut xs ≡ treeBut xs
+unfolding treeBut
+but-is [] = sym coded-is
+but-is (x ∷ xs) = ap (λ (t : List ℕ). putAt tree t 0 x zeros) (but-is xs)
+
+leaves : (absent missing us : List ℕ) (n : ℕ) (z : End) (o : List ℕ) → Comes fitsRoot o absent (at missing us n z o)
+    → Leaves z missing n o (repairCoded (marksBut absent) o)
+unfolding repairCoded
+leaves absent missing us n z o comes =
+    let q : repairCoded (marksBut absent) o ≡ at missing us n z o =
+    ap (λ (t : List ℕ). repair tree symbolHash codedRoot (houseTable 1) t (marksBut absent) o) coded-is
+    ∙ repair-by listed (marksBut absent) o
+    ∙ comes in
+    record {
+      end-is = ap (λ (st : St). st .end) q;
+      marks-are = ap (λ (st : St). st .marks) q;
+      tree-is = ap (λ (st : St). st .tree) q ∙ but-is missing;
+      stored-is = ap (λ (st : St). st .stored) q;
+      out-untouched = ap (λ (st : St). st .out) q;
+    }
+
+-- ---- the turns
+
+turn-is : (e x : ℕ) (st st′ : St) → Taken fitsRoot e x st st′ → turn st ≡ st′
+unfolding turn
+turn-is e x st st′ k = step-by st ∙ k .goes
+
+gives : (e x : ℕ) (st st′ : St) → Taken fitsRoot e x st st′ → Gives e x st
+gives e x st st′ k =
+    let q = turn-is e x st st′ k in
+    record {
+      takes = k .takes;
+      was-absent = k .was-absent;
+      now-held = ap (λ (s : St). absentAt tree (s .marks) 0 x) q ∙ k .now-held;
+      symbol = ap (λ (s : St). symAt tree (s .tree) 0 x) q ∙ k .symbol ∙ ap (λ (t : List ℕ). symAt tree t 0 x) (sym coded-is);
+      counted = ap (λ (s : St). s .stored) q ∙ k .counted;
+    }
+
+enters-is : (o : List ℕ) → entersCoded (marksBut two) o ≡ begun o
+unfolding entersCoded
+enters-is o =
+    ap (λ (t : List ℕ). enter tree symbolHash codedRoot (houseTable 1) 0 (start t (marksBut two) o)) coded-is
+    ∙ enter-by (start listed (marksBut two) o)
+    ∙ computed-root o .enters
+
+-- ---- the rows
+
+pub two-turns : (o : List ℕ) → Turns ((1, 1) ∷ (0, 0) ∷ []) (entersCoded (marksBut two) o)
+two-turns o =
+    let k = computed-root o in
+    subst (Turns ((1, 1) ∷ (0, 0) ∷ [])) (sym (enters-is o)) (
+      gives 1 1 (begun o) (once o) (k .first-turn),
+      subst (Turns ((0, 0) ∷ [])) (sym (turn-is 1 1 (begun o) (once o) (k .first-turn))) (gives 0 0 (once o) (twice o) (k .second-turn), tt),
+    )
+
+pub two-absent : (o : List ℕ) → Leaves whole [] 2 o (repairCoded (marksBut two) o)
+two-absent o = leaves two [] (replicate 12 1) 2 whole o (computed-root o .two-absent)
+
+pub eight-absent : (o : List ℕ) → Leaves (unavailable 0) seven 1 o (repairCoded (marksBut eight) o)
+eight-absent o = leaves eight seven (0 ∷ 0 ∷ 0 ∷ 0 ∷ 0 ∷ 0 ∷ 0 ∷ 1 ∷ 0 ∷ 0 ∷ 1 ∷ 1 ∷ []) 1 (unavailable 0) o (computed-root o .eight-absent)
+
+pub all-absent : (o : List ℕ) → Leaves (unavailable 0) sixteen 0 o (repairCoded (marksBut sixteen) o)
+all-absent o = leaves sixteen sixteen (replicate 12 0) 0 (unavailable 0) o (computed-root o .all-absent)

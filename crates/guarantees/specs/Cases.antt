@@ -1,0 +1,174 @@
+-- 01, "Cases at depth 1, house table": the starred cases as rows of one table. What a row says is `Holds`; that all hold is one theorem,
+-- `cases-hold` of proofs/Cases.antt. Statements only.
+use mathlib.Core.Path.{_≡_}
+use mathlib.Core.Bool.{true, false}
+use mathlib.Core.List.{List, [], _∷_, _++_}
+use Prim.Native.Nat.{ℕ, suc, _+_, _-_, _*_, _≤_, _<_}
+use lib.ListN.{length, take, drop, set, replicate}
+use Rattle.sha256.specs.Hash.{sha256}
+use Rattle.parity_table.specs.Shape.{maxDepth}
+use Rattle.parity_table.specs.Members.{lastOf}
+use Rattle.parity_table.specs.Table.{equationOf, endWord}
+use Rattle.parity_table.specs.Bytes.{readBytesOf}
+use Rattle.parity_table.specs.House.{houseTable, houseWords, houseAnswer}
+use Rattle.parity_table.specs.Right as reader
+use Rattle.symbol_hash.specs.SymbolHash.{symbolHash}
+use Rattle.model.specs.Shape.{tree, places}
+use Rattle.model.specs.Symbols.{zeros, symAt, putAt}
+use Rattle.model.specs.Coded.{Coded}
+use Rattle.model.specs.Writer.{writeTree, writtenRoot}
+use Rattle.model.specs.Fault.{proofLength}
+use Rattle.model.specs.Repair.{End, working, whole, unavailable, St, absentAt, lowestEq, step, enter, repair}
+use Rattle.cedunmi.specs.declared.Answer.the-variants.{Done}
+use Rattle.cedunmi.specs.Stops.{numberOf}
+use Rattle.cedunmi.specs.Volume.{treeWritten, blockRead}
+use Rattle.cedunmi.specs.Sample.{sampleTaken, sampleChecked}
+use Rattle.cedunmi.specs.Proof.{proofChecked}
+use Rattle.cedunmi.specs.Repairs.{repairTested}
+
+-- ---- the tree of the cases
+
+-- "Block: 256 bytes each of 01, 02, 04, 08."
+unfoldable pub block : List ℕ
+block = replicate 256 0x01 ++ replicate 256 0x02 ++ replicate 256 0x04 ++ replicate 256 0x08
+
+-- its tree at depth 1 by the house table, and the root
+unfoldable pub coded : List ℕ
+coded = writeTree tree symbolHash (houseTable 1) block (replicate 4096 0)
+
+unfoldable pub codedRoot : List ℕ
+codedRoot = writtenRoot tree symbolHash coded
+
+-- the marks of all sixteen symbols but these, and the tree with zeros for these
+unfoldable pub marksBut : List ℕ → List ℕ
+marksBut [] = replicate 16 1
+marksBut (x ∷ xs) = set (marksBut xs) x 0
+
+unfoldable pub treeBut : List ℕ → List ℕ
+treeBut [] = coded
+treeBut (x ∷ xs) = putAt tree (treeBut xs) 0 x zeros
+
+-- ---- a repair of it, lent the marks m and the output o
+
+unfoldable pub repairCoded : List ℕ → List ℕ → St
+repairCoded m o = repair tree symbolHash codedRoot (houseTable 1) coded m o
+
+-- layer 0 once it is entered: (a) is done
+unfoldable pub entersCoded : List ℕ → List ℕ → St
+entersCoded m o =
+    enter tree symbolHash codedRoot (houseTable 1) 0 (record { tree = coded; marks = m; out = o; used = []; stored = 0; entered = 0; end = working })
+
+-- a turn of (b)
+unfoldable pub turn : St → St
+turn st = step tree symbolHash codedRoot (houseTable 1) 0 st
+
+-- the turn takes equation e, which gives symbol x
+pub record Gives (e x : ℕ) (st : St) : Type 0 where
+  pub takes : lowestEq tree (houseTable 1) 0 st ≡ e
+  pub was-absent : absentAt tree (st .marks) 0 x ≡ true
+  pub now-held : absentAt tree (turn st .marks) 0 x ≡ false
+  pub symbol : symAt tree (turn st .tree) 0 x ≡ symAt tree coded 0 x
+  pub counted : turn st .stored ≡ suc (st .stored)
+
+-- the next turns take these equations, each giving its symbol
+abbrev pub Turns : List (ℕ × ℕ) → St → Type 0
+Turns [] st = Unit {0}
+Turns (g ∷ gs) st = Gives (g .0) (g .1) st × Turns gs (turn st)
+
+-- the repair leaves this end, these symbols missing (marked 0 and zeroed) and every other one held, and this number stored
+pub record Leaves (end : End) (missing : List ℕ) (stored : ℕ) (o : List ℕ) (st : St) : Type 0 where
+  pub end-is : st .end ≡ end
+  pub marks-are : st .marks ≡ marksBut missing
+  pub tree-is : st .tree ≡ treeBut missing
+  pub stored-is : st .stored ≡ stored
+  pub out-untouched : st .out ≡ o
+
+-- ---- other claims
+
+-- every call that is given a depth stops with 1 at this one, whatever else it is lent
+pub record StopsWith1 (depth : ℕ) : Type 0 where
+  pub table-check : (b : List ℕ) → reader.numberOf (readBytesOf depth b) ≡ 1
+  pub house-writer : (n : ℕ) → reader.numberOf (houseAnswer depth n (length (houseWords depth) * 4)) ≡ 1
+  pub tree-writer : (table b t m root : List ℕ) → numberOf (treeWritten depth table b t m root) ≡ 1
+  pub block-reader : (t m b : List ℕ) → numberOf (blockRead depth t m b) ≡ 1
+  pub sampler : (i : ℕ) (t m s : List ℕ) → numberOf (sampleTaken depth i t m s) ≡ 1
+  pub sample-checker : (i : ℕ) (root s : List ℕ) → numberOf (sampleChecked depth i root s) ≡ 1
+  pub proof-checker : (root table b : List ℕ) → numberOf (proofChecked depth root table b) ≡ 1
+  pub repairer : (root table t m o : List ℕ) → numberOf (repairTested depth root table t m o) ≡ 1
+
+-- a proof of a layer and of an equation with at most 8 members has at most this many bytes, some equation's has so many, and so has every proof
+-- that is accepted
+pub record Longest (depth bytes : ℕ) : Type 0 where
+  pub reached : proofLength (depth - 1) 8 ≡ bytes
+  pub none-longer : (j d : ℕ) → j < depth → d ≤ 8 → proofLength j d ≤ bytes
+  pub none-accepted : (root table b : List ℕ) → proofChecked depth root table b ≡ Done → length b ≤ bytes
+
+-- In every correctly coded tree of this depth the hash of base symbol i stands in data symbol s of the layer above, in these bytes.
+pub record Stands (depth i s from upto : ℕ) : Type 0 where
+  pub bytes : upto ≡ from + 31
+  pub stands : (tbl : List (List (List ℕ))) (f : ℕ → ℕ → List ℕ) → length tbl ≡ depth → Coded tree symbolHash tbl f
+      → take 32 (drop from (f (depth - 2) s)) ≡ sha256 (f (depth - 1) i)
+
+-- ---- the table
+
+-- one constructor for each kind of claim
+pub data Case : Type 0 where
+  equationIs : (e : ℕ) (members : List ℕ) → Case
+  tableHas : (words value : ℕ) → Case
+  symbolIs : (i byte : ℕ) → Case
+  repairGives : (absent : List ℕ) (gives : List (ℕ × ℕ)) → Case
+  repairLeaves : (absent : List ℕ) (end : End) (missing : List ℕ) (stored : ℕ) → Case
+  depthStops : (depth : ℕ) → Case
+  depthHas : (depth symbols : ℕ) → Case
+  longestProof : (depth bytes : ℕ) → Case
+  hashStands : (depth i s from upto : ℕ) → Case
+
+-- what a row says
+abbrev pub Holds : Case → Type 0
+Holds (equationIs e ms) = equationOf (houseTable 1) 0 e ≡ ms
+Holds (tableHas n v) = (length (houseWords 1) ≡ n) × (lastOf (houseWords 1) 0 ≡ endWord v)
+Holds (symbolIs i b) = symAt tree coded 0 i ≡ replicate 256 b
+Holds (repairGives absent gs) = (o : List ℕ) → Turns gs (entersCoded (marksBut absent) o)
+Holds (repairLeaves absent z missing n) = (o : List ℕ) → Leaves z missing n o (repairCoded (marksBut absent) o)
+Holds (depthStops d) = StopsWith1 d
+Holds (depthHas d n) = places tree d ≡ n
+Holds (longestProof d n) = Longest d n
+Holds (hashStands d i s a b) = Stands d i s a b
+
+abbrev pub cases : List Case
+cases =
+    -- 1. "Equation 0 is {0,1,4}; 3 is {0,3,6,7}; 9 is {0,1,12,13}."
+    equationIs 0 (0 ∷ 1 ∷ 4 ∷ [])
+    ∷ equationIs 3 (0 ∷ 3 ∷ 6 ∷ 7 ∷ [])
+    ∷ equationIs 9 (0 ∷ 1 ∷ 12 ∷ 13 ∷ [])
+    -- 2. "The table has 61 words; its end word's value is 60."
+    ∷ tableHas 61 60
+    -- 3. "Symbol 5 is all 05, symbol 7 all 00, symbol 9 all 0F."
+    ∷ symbolIs 5 0x05
+    ∷ symbolIs 7 0x00
+    ∷ symbolIs 9 0x0F
+    -- 4. "0 and 1 absent: equation 1 gives symbol 1, then equation 0 gives 0; whole, stored 2."
+    ∷ repairGives (0 ∷ 1 ∷ []) ((1, 1) ∷ (0, 0) ∷ [])
+    ∷ repairLeaves (0 ∷ 1 ∷ []) whole [] 2
+    -- 5. "0,4,5,6,8,9,12,15 absent: 15 is stored; unavailable {0,4,5,6,8,9,12}, stored 1."
+    ∷ repairLeaves (0 ∷ 4 ∷ 5 ∷ 6 ∷ 8 ∷ 9 ∷ 12 ∷ 15 ∷ []) (unavailable 0) (0 ∷ 4 ∷ 5 ∷ 6 ∷ 8 ∷ 9 ∷ 12 ∷ []) 1
+    -- 6. "All absent: unavailable, all sixteen, stored 0."
+    ∷ repairLeaves (0 ∷ 1 ∷ 2 ∷ 3 ∷ 4 ∷ 5 ∷ 6 ∷ 7 ∷ 8 ∷ 9 ∷ 10 ∷ 11 ∷ 12 ∷ 13 ∷ 14 ∷ 15 ∷ []) (unavailable 0)
+    (0 ∷ 1 ∷ 2 ∷ 3 ∷ 4 ∷ 5 ∷ 6 ∷ 7 ∷ 8 ∷ 9 ∷ 10 ∷ 11 ∷ 12 ∷ 13 ∷ 14 ∷ 15 ∷ []) 0
+    -- 8. "Depth 0 and depth 6: 1. Depth 5 has 496 symbols." Depth 6 is one more than the largest.
+    ∷ depthStops 0
+    ∷ depthStops (maxDepth + 1)
+    ∷ depthHas 5 496
+    -- 9. "At depth 5 the longest proof is 9,996 bytes."
+    ∷ longestProof 5 9996
+    -- 10. "At depth 2, base symbol 31's hash is in layer 0's data symbol 3, bytes 224 to 255."
+    ∷ hashStands 2 31 3 224 255
+    ∷ []
+
+-- all of them hold
+abbrev pub Every : (Case → Type 0) → List Case → Type 0
+Every P [] = Unit {0}
+Every P (c ∷ cs) = P c × Every P cs
+
+abbrev pub CasesHold : Type 0
+CasesHold = Every Holds cases
