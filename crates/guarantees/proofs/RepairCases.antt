@@ -3,19 +3,23 @@
 use mathlib.Core.Path.{_≡_, refl, sym, ap, _∙_, subst, fun-ext}
 use mathlib.Core.Bool.{Bool, true, false, not, _&&_}
 use mathlib.Core.List.{List, [], _∷_, _++_}
-use Prim.Native.Nat.{ℕ, zero, suc, _-_, _*_}
+use Prim.Native.Nat.{ℕ, zero, suc, _+_, _-_, _*_}
 use native.Mathlib.Omega.{arith}
-use lib.ListN.{length, getD, set, replicate}
+use lib.ListN.{length, getD, set, replicate, length-set}
 use lib.Dec.{ltb, eqb}
-use borrow.Author.Tests.{ltb-true}
+use borrow.Author.Tests.{ltb-true, eq-eqb}
+use Rattle.octets.specs.BigEndian.{be, wordAt, words, bytesOf}
 use Rattle.octets.specs.Choice.{pick}
 use Rattle.octets.specs.ByteLists.{same, xors}
-use Rattle.octets.proofs.Choice.{and-yes}
-use Rattle.parity_table.specs.Shape.{kOf, nOf}
+use Rattle.octets.proofs.Choice.{and-yes, yes-and}
+use Rattle.parity_table.specs.Shape.{depthFits, kOf, nOf}
 use Rattle.parity_table.specs.Members.{lastOf}
-use Rattle.parity_table.specs.Table.{layerOf, equationOf}
-use Rattle.parity_table.specs.House.{houseEquation, houseEquations, houseLayers, houseTable}
-use Rattle.parity_table.proofs.HouseRules.{house-rules}
+use Rattle.parity_table.specs.Table.{layerOf, equationOf, equationsWords, layersWords, tableWords}
+use Rattle.parity_table.specs.Bytes.{wordsOf, readBytesOf}
+use Rattle.parity_table.specs.Parse.{addWord, partsOf, tableOf}
+use Rattle.parity_table.specs.declared.Answer.the-variants.{Whole}
+use Rattle.parity_table.specs.House.{houseEquation, houseEquations, houseLayers, houseTable, houseWords}
+use Rattle.parity_table.proofs.RoundTrip.{house-bytes-accepted}
 use Rattle.symbol_hash.specs.SymbolHash.{symbolHash}
 use Rattle.symbol_hash.proofs.Laws.{length-symbolHash}
 use Rattle.model.specs.Shape.{tree, place, places}
@@ -26,10 +30,18 @@ use Rattle.model.specs.Fault.{proofBytes}
 use Rattle.model.specs.Repair.{End, working, whole, unavailable, going, St, useEq, writeFault, writeTwins, fresh, endAs, finish, absentAt, storeSym, eraseSym, restOf, gapsLeft, settle, fitsAt, sweepAt, sweep, form, refute, act, takeable, lowestEq, step, peel, enter, layer, layers, repair}
 use Rattle.model.proofs.Bytes.{same-yes, yes-same}
 use Rattle.model.proofs.Shapes.{tree-ok}
-use Rattle.model.proofs.Tables.{table-fits}
-use Rattle.model.proofs.Writer.{written}
 use Rattle.model.proofs.Binding.{hashes}
-use Rattle.guarantees.specs.Cases.{block, coded, codedRoot, marksBut, treeBut, repairCoded, entersCoded, turn, Gives, Turns, Leaves}
+use Rattle.cedunmi.specs.declared.Answer.{Answer}
+use Rattle.cedunmi.specs.declared.Answer.the-variants.{Done}
+use Rattle.cedunmi.specs.Marks.{isBad, lowestBad}
+use Rattle.cedunmi.specs.Volume.{treeWritten, treeLeft}
+use Rattle.cedunmi.specs.Repairs.{repairOf, repaired, resultBy, ended, leftBy}
+use Rattle.cedunmi.proofs.WriteLaws.{write-read}
+use Rattle.cedunmi.proofs.RepairLaws.{tested-done}
+use Rattle.guarantees.specs.Terms.{equationsOf}
+use Rattle.guarantees.specs.Demand2.{Exactly}
+use Rattle.guarantees.specs.Cases.{block, houseBytes, coded, codedRoot, marksBut, treeBut, tested, steps, entered, turn, Gives, Turns, Leaves}
+use Rattle.guarantees.proofs.Demand2.{demand-2}
 
 -- ---- the coded tree
 
@@ -46,9 +58,41 @@ symbolsFrom i (suc n) = replicate 256 (getD firstBytes i 0) ++ symbolsFrom (suc 
 abbrev listed : List ℕ
 listed = symbolsFrom 0 16
 
+-- the table that its bytes say
+said : equationsOf houseBytes ≡ houseTable 1
+unfolding houseBytes houseWords tableWords layersWords equationsWords tableOf partsOf addWord wordsOf words wordAt bytesOf be pick houseTable houseLayers houseEquations houseEquation kOf
+said = refl
+
+accepted : readBytesOf 1 houseBytes ≡ Whole
+unfolding houseBytes depthFits
+accepted = house-bytes-accepted 1 refl
+
+-- the call of the writer is done
+abbrev lent : ℕ → List ℕ
+lent n = replicate n 0
+
+written-done : treeWritten 1 houseBytes block (lent 4096) (lent 16) (lent 512) ≡ Done
+unfolding depthFits block kOf nOf places
+written-done = sym (write-read 1 houseBytes block (lent 4096) (lent 16) (lent 512) refl refl refl refl Whole (sym accepted))
+
+abbrev exact : Exactly 1 houseBytes block (lent 4096) (lent 16) (lent 512)
+exact = demand-2 .writes-exactly 1 houseBytes block (lent 4096) (lent 16) (lent 512) written-done
+
+written-listed : writeTree tree symbolHash (houseTable 1) block (lent 4096) ≡ listed
+unfolding block writeTree code parities putAt symAt symbolIn place places xorOf xors zeros others pick houseTable houseLayers houseEquations houseEquation layerOf kOf nOf
+written-listed = refl
+
 pub coded-is : coded ≡ listed
-unfolding coded block writeTree code parities putAt symAt symbolIn place places xorOf xors zeros others pick houseTable houseLayers houseEquations houseEquation layerOf kOf nOf
-coded-is = refl
+unfolding coded
+coded-is =
+    ap (λ (a : Answer). treeLeft a (wordsOf houseBytes) block (lent 4096)) written-done
+    ∙ ap (λ (tbl : List (List (List ℕ))). writeTree tree symbolHash tbl block (lent 4096)) said
+    ∙ written-listed
+
+-- the coded tree agrees with its root
+coded-agrees : Agrees tree symbolHash (houseTable 1) codedRoot (symAt tree coded)
+unfolding coded codedRoot
+coded-agrees = subst (λ (tbl : List (List (List ℕ))). Agrees tree symbolHash tbl codedRoot (symAt tree coded)) said (exact .agrees)
 
 -- ---- the repair of layer 0, with any test of a symbol of a number
 
@@ -129,21 +173,7 @@ isCoded i x = ltb i 16 && same x (symAt tree listed 0 i)
 abbrev bytesFirst : (ℕ → List ℕ → Bool) → ℕ → List ℕ → Bool
 bytesFirst fits i x = elim (isCoded i x) [ true ↦ true | false ↦ fits i x ]
 
-block-size : length block ≡ 256 * kOf (length (houseTable 1) - 1)
-unfolding block kOf houseTable houseLayers
-block-size = refl
-
-lent-size : length {A = ℕ} (replicate 4096 0) ≡ 256 * places tree (length (houseTable 1))
-unfolding places kOf nOf houseTable houseLayers
-lent-size = refl
-
--- the coded tree agrees with its root, so a coded symbol has the committed hash
-coded-agrees : Agrees tree symbolHash (houseTable 1) codedRoot (symAt tree coded)
-unfolding coded codedRoot
-coded-agrees =
-    written tree tree-ok symbolHash length-symbolHash (houseTable 1) (table-fits 1 (houseTable 1) (omega arith) (house-rules 1)) block block-size (replicate 4096 0)
-    lent-size .agrees
-
+-- a coded symbol has the committed hash
 coded-fits : (i : ℕ) (x : List ℕ) → isCoded i x ≡ true → fitsRoot i x ≡ true
 unfolding committed kOf nOf houseTable houseLayers
 coded-fits i x e =
@@ -203,9 +233,9 @@ record Taken (fits : ℕ → List ℕ → Bool) (e x : ℕ) (st st′ : St) : Ty
   symbol : symAt tree (st′ .tree) 0 x ≡ symAt tree listed 0 x
   counted : st′ .stored ≡ suc (st .stored)
 
--- the repair with these symbols absent comes to this
+-- the repair with these symbols absent comes to this; none of its sixteen marks is bad
 abbrev Comes : (ℕ → List ℕ → Bool) → List ℕ → List ℕ → St → Type 0
-Comes fits o absent st = repairBy fits (start listed (marksBut absent) o) ≡ st
+Comes fits o absent st = (repairBy fits (start listed (marksBut absent) o) ≡ st) × (lowestBad (marksBut absent) ≡ 16)
 
 record Computed (fits : ℕ → List ℕ → Bool) (o : List ℕ) : Type 0 where
   enters : enterBy fits (start listed (marksBut two) o) ≡ begun o
@@ -216,15 +246,15 @@ record Computed (fits : ℕ → List ℕ → Bool) (o : List ℕ) : Type 0 where
   all-absent : Comes fits o sixteen (at sixteen (replicate 12 0) 0 (unavailable 0) o)
 
 computed : (fits : ℕ → List ℕ → Bool) (o : List ℕ) → Computed (bytesFirst fits) o
-unfolding useEq fresh finish endAs absentAt storeSym eraseSym restOf gapsLeft settle going takeable lowestEq putAt symAt symbolIn place places xorOf xors zeros others count firstOf lowest same pick lastOf houseTable houseLayers houseEquations houseEquation layerOf equationOf kOf nOf marksBut
+unfolding useEq fresh finish endAs absentAt storeSym eraseSym restOf gapsLeft settle going takeable lowestEq putAt symAt symbolIn place places xorOf xors zeros others count firstOf lowest same pick lastOf houseTable houseLayers houseEquations houseEquation layerOf equationOf kOf nOf marksBut isBad
 computed fits o =
     record {
       enters = refl;
       first-turn = record { goes = refl; takes = refl; was-absent = refl; now-held = refl; symbol = refl; counted = refl };
       second-turn = record { goes = refl; takes = refl; was-absent = refl; now-held = refl; symbol = refl; counted = refl };
-      two-absent = refl;
-      eight-absent = refl;
-      all-absent = refl;
+      two-absent = (refl, refl);
+      eight-absent = (refl, refl);
+      all-absent = (refl, refl);
     }
 
 -- and so with the definition's test
@@ -239,61 +269,83 @@ unfolding treeBut
 but-is [] = sym coded-is
 but-is (x ∷ xs) = ap (λ (t : List ℕ). putAt tree t 0 x zeros) (but-is xs)
 
-leaves : (absent missing us : List ℕ) (n : ℕ) (z : End) (o : List ℕ) → Comes fitsRoot o absent (at missing us n z o)
-    → Leaves z missing n o (repairCoded (marksBut absent) o)
-unfolding repairCoded
-leaves absent missing us n z o comes =
-    let q : repairCoded (marksBut absent) o ≡ at missing us n z o =
-    ap (λ (t : List ℕ). repair tree symbolHash codedRoot (houseTable 1) t (marksBut absent) o) coded-is
-    ∙ repair-by listed (marksBut absent) o
-    ∙ comes in
-    record {
-      end-is = ap (λ (st : St). st .end) q;
-      marks-are = ap (λ (st : St). st .marks) q;
-      tree-is = ap (λ (st : St). st .tree) q ∙ but-is missing;
-      stored-is = ap (λ (st : St). st .stored) q;
-      out-untouched = ap (λ (st : St). st .out) q;
-    }
+marks-length : (xs : List ℕ) → length (marksBut xs) ≡ 16
+unfolding marksBut
+marks-length [] = refl
+marks-length (x ∷ xs) = length-set (marksBut xs) x 0 ∙ marks-length xs
+
+module _ (absent : List ℕ) (o : List ℕ) (room : length o ≡ 12 + 256 * (8 * 1 - 1)) (marks : lowestBad (marksBut absent) ≡ 16) where
+  -- the call is done
+  tested-so : tested absent o ≡ Done
+  unfolding tested coded codedRoot depthFits places kOf nOf
+  tested-so =
+      sym (tested-done 1 codedRoot houseBytes coded (marksBut absent) o refl (exact .root-length)
+      (yes-and (eq-eqb _ _ (exact .tree-length)) (eq-eqb _ _ (marks-length absent))) room Whole (sym accepted) refl
+      (omega (arith, marks, marks-length absent)))
+
+  module _ (missing us : List ℕ) (n : ℕ) (z : End) (comes : repairBy fitsRoot (start listed (marksBut absent) o) ≡ at missing us n z o) where
+    steps-are : steps absent o ≡ at missing us n z o
+    unfolding steps repairOf
+    steps-are =
+        ap (λ (tbl : List (List (List ℕ))). repair tree symbolHash codedRoot tbl coded (marksBut absent) o) said
+        ∙ ap (λ (t : List ℕ). repair tree symbolHash codedRoot (houseTable 1) t (marksBut absent) o) coded-is
+        ∙ repair-by listed (marksBut absent) o
+        ∙ comes
+
+    leaves : Leaves absent z missing n o
+    unfolding repaired tested steps
+    leaves =
+        let e = tested-so in
+        let q = steps-are in
+        record {
+          reports = ap (λ (a : Answer). resultBy a (steps absent o)) e ∙ ap (λ (st : St). ended (st .stored) (st .end)) q;
+          marks-are = ap (λ (a : Answer). leftBy a (steps absent o .marks) (marksBut absent)) e ∙ ap (λ (st : St). st .marks) q;
+          tree-is = ap (λ (a : Answer). leftBy a (steps absent o .tree) coded) e ∙ ap (λ (st : St). st .tree) q ∙ but-is missing;
+          out-untouched = ap (λ (a : Answer). leftBy a (steps absent o .out) o) e ∙ ap (λ (st : St). st .out) q;
+        }
 
 -- ---- the turns
 
 turn-is : (e x : ℕ) (st st′ : St) → Taken fitsRoot e x st st′ → turn st ≡ st′
 unfolding turn
-turn-is e x st st′ k = step-by st ∙ k .goes
+turn-is e x st st′ k = ap (λ (tbl : List (List (List ℕ))). step tree symbolHash codedRoot tbl 0 st) said ∙ step-by st ∙ k .goes
 
 gives : (e x : ℕ) (st st′ : St) → Taken fitsRoot e x st st′ → Gives e x st
 gives e x st st′ k =
     let q = turn-is e x st st′ k in
     record {
-      takes = k .takes;
+      takes = ap (λ (tbl : List (List (List ℕ))). lowestEq tree tbl 0 st) said ∙ k .takes;
       was-absent = k .was-absent;
       now-held = ap (λ (s : St). absentAt tree (s .marks) 0 x) q ∙ k .now-held;
       symbol = ap (λ (s : St). symAt tree (s .tree) 0 x) q ∙ k .symbol ∙ ap (λ (t : List ℕ). symAt tree t 0 x) (sym coded-is);
       counted = ap (λ (s : St). s .stored) q ∙ k .counted;
     }
 
-enters-is : (o : List ℕ) → entersCoded (marksBut two) o ≡ begun o
-unfolding entersCoded
-enters-is o =
-    ap (λ (t : List ℕ). enter tree symbolHash codedRoot (houseTable 1) 0 (start t (marksBut two) o)) coded-is
+entered-is : (o : List ℕ) → entered two o ≡ begun o
+unfolding entered
+entered-is o =
+    ap (λ (tbl : List (List (List ℕ))). enter tree symbolHash codedRoot tbl 0 (start coded (marksBut two) o)) said
+    ∙ ap (λ (t : List ℕ). enter tree symbolHash codedRoot (houseTable 1) 0 (start t (marksBut two) o)) coded-is
     ∙ enter-by (start listed (marksBut two) o)
     ∙ computed-root o .enters
 
 -- ---- the rows
 
-pub two-turns : (o : List ℕ) → Turns ((1, 1) ∷ (0, 0) ∷ []) (entersCoded (marksBut two) o)
+pub two-turns : (o : List ℕ) → Turns ((1, 1) ∷ (0, 0) ∷ []) (entered two o)
 two-turns o =
     let k = computed-root o in
-    subst (Turns ((1, 1) ∷ (0, 0) ∷ [])) (sym (enters-is o)) (
+    subst (Turns ((1, 1) ∷ (0, 0) ∷ [])) (sym (entered-is o)) (
       gives 1 1 (begun o) (once o) (k .first-turn),
       subst (Turns ((0, 0) ∷ [])) (sym (turn-is 1 1 (begun o) (once o) (k .first-turn))) (gives 0 0 (once o) (twice o) (k .second-turn), tt),
     )
 
-pub two-absent : (o : List ℕ) → Leaves whole [] 2 o (repairCoded (marksBut two) o)
-two-absent o = leaves two [] (replicate 12 1) 2 whole o (computed-root o .two-absent)
+pub two-absent : (o : List ℕ) → length o ≡ 12 + 256 * (8 * 1 - 1) → Leaves two whole [] 2 o
+two-absent o h = let (c, b) = computed-root o .two-absent in leaves two o h b [] (replicate 12 1) 2 whole c
 
-pub eight-absent : (o : List ℕ) → Leaves (unavailable 0) seven 1 o (repairCoded (marksBut eight) o)
-eight-absent o = leaves eight seven (0 ∷ 0 ∷ 0 ∷ 0 ∷ 0 ∷ 0 ∷ 0 ∷ 1 ∷ 0 ∷ 0 ∷ 1 ∷ 1 ∷ []) 1 (unavailable 0) o (computed-root o .eight-absent)
+pub eight-absent : (o : List ℕ) → length o ≡ 12 + 256 * (8 * 1 - 1) → Leaves eight (unavailable 0) seven 1 o
+eight-absent o h =
+    let (c, b) = computed-root o .eight-absent in
+    leaves eight o h b seven (0 ∷ 0 ∷ 0 ∷ 0 ∷ 0 ∷ 0 ∷ 0 ∷ 1 ∷ 0 ∷ 0 ∷ 1 ∷ 1 ∷ []) 1 (unavailable 0) c
 
-pub all-absent : (o : List ℕ) → Leaves (unavailable 0) sixteen 0 o (repairCoded (marksBut sixteen) o)
-all-absent o = leaves sixteen sixteen (replicate 12 0) 0 (unavailable 0) o (computed-root o .all-absent)
+pub all-absent : (o : List ℕ) → length o ≡ 12 + 256 * (8 * 1 - 1) → Leaves sixteen (unavailable 0) sixteen 0 o
+all-absent o h = let (c, b) = computed-root o .all-absent in leaves sixteen o h b sixteen (replicate 12 0) 0 (unavailable 0) c

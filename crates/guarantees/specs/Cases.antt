@@ -5,6 +5,7 @@ use mathlib.Core.Bool.{true, false}
 use mathlib.Core.List.{List, [], _∷_, _++_}
 use Prim.Native.Nat.{ℕ, suc, _+_, _-_, _*_, _≤_, _<_}
 use lib.ListN.{length, take, drop, set, replicate}
+use Rattle.octets.specs.BigEndian.{bytesOf}
 use Rattle.sha256.specs.Hash.{sha256}
 use Rattle.parity_table.specs.Shape.{maxDepth}
 use Rattle.parity_table.specs.Members.{lastOf}
@@ -16,15 +17,17 @@ use Rattle.symbol_hash.specs.SymbolHash.{symbolHash}
 use Rattle.model.specs.Shape.{tree, places}
 use Rattle.model.specs.Symbols.{zeros, symAt, putAt}
 use Rattle.model.specs.Coded.{Coded}
-use Rattle.model.specs.Writer.{writeTree, writtenRoot}
 use Rattle.model.specs.Fault.{proofLength}
-use Rattle.model.specs.Repair.{End, working, whole, unavailable, St, absentAt, lowestEq, step, enter, repair}
+use Rattle.model.specs.Repair.{End, working, whole, unavailable, St, absentAt, lowestEq, step, enter}
+use Rattle.cedunmi.specs.declared.Answer.{Answer}
 use Rattle.cedunmi.specs.declared.Answer.the-variants.{Done}
 use Rattle.cedunmi.specs.Stops.{numberOf}
 use Rattle.cedunmi.specs.Volume.{treeWritten, blockRead}
 use Rattle.cedunmi.specs.Sample.{sampleTaken, sampleChecked}
 use Rattle.cedunmi.specs.Proof.{proofChecked}
-use Rattle.cedunmi.specs.Repairs.{repairTested}
+use Rattle.cedunmi.specs.Repairs.{repairTested, repairOf, repaired, ended, leftBy}
+use Rattle.guarantees.specs.Terms.{equationsOf}
+use Rattle.guarantees.specs.Demand2.{treeAfter, rootAfter}
 
 -- ---- the tree of the cases
 
@@ -32,12 +35,16 @@ use Rattle.cedunmi.specs.Repairs.{repairTested}
 unfoldable pub block : List ℕ
 block = replicate 256 0x01 ++ replicate 256 0x02 ++ replicate 256 0x04 ++ replicate 256 0x08
 
--- its tree at depth 1 by the house table, and the root
+-- the house table of depth 1 as the calls are lent it
+unfoldable pub houseBytes : List ℕ
+houseBytes = bytesOf (houseWords 1)
+
+-- the tree and the root that the call of the writer leaves, in buffers that held zeros
 unfoldable pub coded : List ℕ
-coded = writeTree tree symbolHash (houseTable 1) block (replicate 4096 0)
+coded = treeAfter 1 houseBytes block (replicate 4096 0) (replicate 16 0) (replicate 512 0)
 
 unfoldable pub codedRoot : List ℕ
-codedRoot = writtenRoot tree symbolHash coded
+codedRoot = rootAfter 1 houseBytes block (replicate 4096 0) (replicate 16 0) (replicate 512 0)
 
 -- the marks of all sixteen symbols but these, and the tree with zeros for these
 unfoldable pub marksBut : List ℕ → List ℕ
@@ -48,23 +55,29 @@ unfoldable pub treeBut : List ℕ → List ℕ
 treeBut [] = coded
 treeBut (x ∷ xs) = putAt tree (treeBut xs) 0 x zeros
 
--- ---- a repair of it, lent the marks m and the output o
+-- ---- a repair of it with these symbols absent, lent the output o
 
-unfoldable pub repairCoded : List ℕ → List ℕ → St
-repairCoded m o = repair tree symbolHash codedRoot (houseTable 1) coded m o
+-- the answer of the tests
+unfoldable pub tested : List ℕ → List ℕ → Answer
+tested absent o = repairTested 1 codedRoot houseBytes coded (marksBut absent) o
+
+-- what 01's steps make of it
+unfoldable pub steps : List ℕ → List ℕ → St
+steps absent o = repairOf codedRoot houseBytes coded (marksBut absent) o
 
 -- layer 0 once it is entered: (a) is done
-unfoldable pub entersCoded : List ℕ → List ℕ → St
-entersCoded m o =
-    enter tree symbolHash codedRoot (houseTable 1) 0 (record { tree = coded; marks = m; out = o; used = []; stored = 0; entered = 0; end = working })
+unfoldable pub entered : List ℕ → List ℕ → St
+entered absent o =
+    enter tree symbolHash codedRoot (equationsOf houseBytes) 0
+    (record { tree = coded; marks = marksBut absent; out = o; used = []; stored = 0; entered = 0; end = working })
 
 -- a turn of (b)
 unfoldable pub turn : St → St
-turn st = step tree symbolHash codedRoot (houseTable 1) 0 st
+turn st = step tree symbolHash codedRoot (equationsOf houseBytes) 0 st
 
 -- the turn takes equation e, which gives symbol x
 pub record Gives (e x : ℕ) (st : St) : Type 0 where
-  pub takes : lowestEq tree (houseTable 1) 0 st ≡ e
+  pub takes : lowestEq tree (equationsOf houseBytes) 0 st ≡ e
   pub was-absent : absentAt tree (st .marks) 0 x ≡ true
   pub now-held : absentAt tree (turn st .marks) 0 x ≡ false
   pub symbol : symAt tree (turn st .tree) 0 x ≡ symAt tree coded 0 x
@@ -75,13 +88,12 @@ abbrev pub Turns : List (ℕ × ℕ) → St → Type 0
 Turns [] st = Unit {0}
 Turns (g ∷ gs) st = Gives (g .0) (g .1) st × Turns gs (turn st)
 
--- the repair leaves this end, these symbols missing (marked 0 and zeroed) and every other one held, and this number stored
-pub record Leaves (end : End) (missing : List ℕ) (stored : ℕ) (o : List ℕ) (st : St) : Type 0 where
-  pub end-is : st .end ≡ end
-  pub marks-are : st .marks ≡ marksBut missing
-  pub tree-is : st .tree ≡ treeBut missing
-  pub stored-is : st .stored ≡ stored
-  pub out-untouched : st .out ≡ o
+-- the call reports this end and this number stored, and leaves these symbols missing (marked 0 and zeroed) and every other one held
+pub record Leaves (absent : List ℕ) (end : End) (missing : List ℕ) (stored : ℕ) (o : List ℕ) : Type 0 where
+  pub reports : repaired 1 codedRoot houseBytes coded (marksBut absent) o ≡ ended stored end
+  pub marks-are : leftBy (tested absent o) (steps absent o .marks) (marksBut absent) ≡ marksBut missing
+  pub tree-is : leftBy (tested absent o) (steps absent o .tree) coded ≡ treeBut missing
+  pub out-untouched : leftBy (tested absent o) (steps absent o .out) o ≡ o
 
 -- ---- other claims
 
@@ -128,8 +140,8 @@ abbrev pub Holds : Case → Type 0
 Holds (equationIs e ms) = equationOf (houseTable 1) 0 e ≡ ms
 Holds (tableHas n v) = (length (houseWords 1) ≡ n) × (lastOf (houseWords 1) 0 ≡ endWord v)
 Holds (symbolIs i b) = symAt tree coded 0 i ≡ replicate 256 b
-Holds (repairGives absent gs) = (o : List ℕ) → Turns gs (entersCoded (marksBut absent) o)
-Holds (repairLeaves absent z missing n) = (o : List ℕ) → Leaves z missing n o (repairCoded (marksBut absent) o)
+Holds (repairGives absent gs) = (o : List ℕ) → Turns gs (entered absent o)
+Holds (repairLeaves absent z missing n) = (o : List ℕ) → length o ≡ 12 + 256 * (8 * 1 - 1) → Leaves absent z missing n o
 Holds (depthStops d) = StopsWith1 d
 Holds (depthHas d n) = places tree d ≡ n
 Holds (longestProof d n) = Longest d n
