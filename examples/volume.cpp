@@ -1,0 +1,62 @@
+// Codes a volume, loses a fifth of its symbols, repairs it, reads it back, and checks a sample.
+#include "cedunmi.h"
+
+#include <iostream>
+#include <stdexcept>
+#include <string>
+#include <vector>
+
+using Bytes = std::vector<std::uint8_t>;
+
+// The result of a call that must not stop.
+static std::uint64_t done(std::uint64_t result)
+{
+    if (cmt_number(result) != CMT_DONE) {
+        throw std::runtime_error("stopped with " + std::to_string(cmt_number(result)));
+    }
+    return result;
+}
+
+// A block of bytes that differ from symbol to symbol.
+static Bytes block_of(std::uint64_t depth)
+{
+    Bytes block(CMT_BLOCK_BYTES(depth));
+    for (std::size_t i = 0; i < block.size(); i++) {
+        block[i] = static_cast<std::uint8_t>(i + i / 256);
+    }
+    return block;
+}
+
+int main()
+{
+    const std::uint64_t depth = 3, number = 50;
+    const Bytes block = block_of(depth);
+    Bytes table(CMT_HOUSE_TABLE_BYTES(depth)), root(CMT_ROOT_BYTES), back(block.size());
+    Bytes tree(CMT_TREE_BYTES(depth)), marks(CMT_MARKS_BYTES(depth));
+    Bytes output(CMT_OUTPUT_BYTES(depth)), sample(CMT_SAMPLE_BYTES(depth));
+
+    done(cmt_house_table(depth, table.data(), table.size()));
+    done(cmt_tree_write(depth, table.data(), table.size(), block.data(), block.size(), tree.data(),
+                        tree.size(), marks.data(), marks.size(), root.data(), root.size()));
+
+    for (std::size_t place = 0; place < marks.size(); place += 5) {
+        marks[place] = 0;
+    }
+    const std::uint64_t repaired = done(cmt_repair(
+        depth, root.data(), root.size(), table.data(), table.size(), tree.data(), tree.size(),
+        marks.data(), marks.size(), output.data(), output.size()));
+    std::cout << "end " << cmt_repair_end(repaired) << ", stored " << cmt_repair_stored(repaired) << "\n";
+
+    done(cmt_block_read(depth, tree.data(), tree.size(), marks.data(), marks.size(), back.data(),
+                        back.size()));
+    std::cout << "the block is " << (back == block ? "as it was" : "another") << "\n";
+
+    done(cmt_sample_take(depth, number, tree.data(), tree.size(), marks.data(), marks.size(),
+                         sample.data(), sample.size()));
+    const auto check = [&] {
+        return cmt_sample_check(depth, number, root.data(), root.size(), sample.data(), sample.size());
+    };
+    std::cout << "sample: " << check();
+    sample[0] ^= 1;
+    std::cout << ", damaged: " << check() << "\n";
+}

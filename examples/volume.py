@@ -1,0 +1,55 @@
+"""Codes a volume, loses a fifth of its symbols, repairs it, reads it back, and checks a sample.
+
+    volume.py LIBRARY    the library as a shared object
+"""
+
+import ctypes
+import sys
+
+library = ctypes.CDLL(sys.argv[1])
+
+
+def call(name, *arguments):
+    """A call's result. A number goes as 64 bits, a bytearray as its pointer and its length."""
+    words = []
+    for argument in arguments:
+        if isinstance(argument, int):
+            words.append(ctypes.c_uint64(argument))
+        else:
+            words.append((ctypes.c_uint8 * len(argument)).from_buffer(argument))
+            words.append(ctypes.c_size_t(len(argument)))
+    function = getattr(library, name)
+    function.restype = ctypes.c_uint64
+    return function(*words)
+
+
+def done(name, *arguments):
+    """The value of a call that must not stop."""
+    value, number = divmod(call(name, *arguments), 256)
+    if number != 0:
+        raise RuntimeError(f"{name} stopped with {number}")
+    return value
+
+
+depth, number = 3, 50
+symbols = 16 * (2**depth - 1)
+block = bytearray((i + i // 256) % 256 for i in range(1024 * 2**(depth - 1)))
+back = bytearray(len(block))
+table = bytearray(4 * (60 * (2**depth - 1) + 1))
+tree, marks, root = bytearray(256 * symbols), bytearray(symbols), bytearray(512)
+output, sample = bytearray(12 + 256 * (8 * depth - 1)), bytearray(256 * (2 * depth - 1))
+
+done("cmt_house_table", depth, table)
+done("cmt_tree_write", depth, table, block, tree, marks, root)
+
+marks[::5] = bytes(len(marks[::5]))
+repaired = done("cmt_repair", depth, root, table, tree, marks, output)
+print(f"end {repaired % 2**24}, stored {repaired // 2**24 % 2**16}")
+
+done("cmt_block_read", depth, tree, marks, back)
+print("the block is", "as it was" if back == block else "another")
+
+done("cmt_sample_take", depth, number, tree, marks, sample)
+right = call("cmt_sample_check", depth, number, root, sample)
+sample[0] ^= 1
+print(f"sample: {right}, damaged: {call('cmt_sample_check', depth, number, root, sample)}")
