@@ -33,12 +33,7 @@ const LEAST: [(&str, u64); 7] = [
 
 /// Makes every comparison, and gives their number.
 pub fn compare(library: &Library) -> Result<u64, Failure> {
-    let mut comparisons = Comparisons {
-        proof_check: library.proof_check,
-        random: Random::new(SEED),
-        met: Met::default(),
-        made: 0,
-    };
+    let mut comparisons = Comparisons::of(library, Random::new(SEED));
     comparisons.depths()?;
     comparisons.causes()?;
     comparisons.kinds()?;
@@ -64,7 +59,7 @@ pub fn compare(library: &Library) -> Result<u64, Failure> {
     Ok(comparisons.made)
 }
 
-struct Comparisons {
+pub struct Comparisons {
     proof_check: ProofCheck,
     random: Random,
     met: Met,
@@ -73,15 +68,15 @@ struct Comparisons {
 
 /// What a call is lent.
 #[derive(Clone)]
-struct Input {
-    depth: u64,
-    root: Vec<u8>,
-    table: Vec<u8>,
-    proof: Vec<u8>,
+pub struct Input {
+    pub depth: u64,
+    pub root: Vec<u8>,
+    pub table: Vec<u8>,
+    pub proof: Vec<u8>,
 }
 
 impl Input {
-    fn new(volume: &Volume, proof: Vec<u8>) -> Input {
+    pub fn new(volume: &Volume, proof: Vec<u8>) -> Input {
         let (root, table) = (volume.root.clone(), volume.table.clone());
         Input { depth: volume.depth as u64, root, table, proof }
     }
@@ -94,14 +89,18 @@ impl Input {
         (Input::new(&volume, volume.proof(head)), volume, head)
     }
 
-    fn buffers(&mut self) -> [&mut Vec<u8>; 3] {
+    pub fn buffers(&mut self) -> [&mut Vec<u8>; 3] {
         [&mut self.root, &mut self.table, &mut self.proof]
     }
 }
 
 impl Comparisons {
+    pub fn of(library: &Library, random: Random) -> Comparisons {
+        Comparisons { proof_check: library.proof_check, random, met: Met::default(), made: 0 }
+    }
+
     /// The result of a call, if it is the reference's.
-    fn make(&mut self, what: &str, input: &Input) -> Result<u64, Failure> {
+    pub fn make(&mut self, what: &str, input: &Input) -> Result<u64, Failure> {
         self.made += 1;
         let result = proof::check(input.depth, &input.root, &input.table, &input.proof);
         self.met.count(result.map_or_else(stop_name, |()| "accepted"));

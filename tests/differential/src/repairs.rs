@@ -42,13 +42,7 @@ const LEAST: [(&str, u64); 12] = [
 
 /// Makes every comparison, and gives their number.
 pub fn compare(library: &Library) -> Result<u64, Failure> {
-    let mut comparisons = Comparisons {
-        repair: library.repair,
-        proof_check: library.proof_check,
-        random: Random::new(SEED),
-        met: Met::default(),
-        made: 0,
-    };
+    let mut comparisons = Comparisons::of(library, Random::new(SEED));
     comparisons.depths()?;
     comparisons.causes()?;
     comparisons.bad_marks()?;
@@ -72,7 +66,7 @@ pub fn compare(library: &Library) -> Result<u64, Failure> {
     Ok(comparisons.made)
 }
 
-struct Comparisons {
+pub struct Comparisons {
     repair: Repair,
     proof_check: ProofCheck,
     random: Random,
@@ -82,18 +76,18 @@ struct Comparisons {
 
 /// What a call is lent.
 #[derive(Clone)]
-struct Input {
-    depth: u64,
-    root: Vec<u8>,
-    table: Vec<u8>,
-    tree: Vec<u8>,
-    marks: Vec<u8>,
-    output: Vec<u8>,
+pub struct Input {
+    pub depth: u64,
+    pub root: Vec<u8>,
+    pub table: Vec<u8>,
+    pub tree: Vec<u8>,
+    pub marks: Vec<u8>,
+    pub output: Vec<u8>,
 }
 
 impl Input {
     /// A tree with every symbol held. The output buffer holds random bytes.
-    fn new(volume: &Volume, random: &mut Random) -> Input {
+    pub fn new(volume: &Volume, random: &mut Random) -> Input {
         Input {
             depth: volume.depth as u64,
             root: volume.root.clone(),
@@ -104,7 +98,7 @@ impl Input {
         }
     }
 
-    fn buffers(&mut self) -> [&mut Vec<u8>; 5] {
+    pub fn buffers(&mut self) -> [&mut Vec<u8>; 5] {
         [&mut self.root, &mut self.table, &mut self.tree, &mut self.marks, &mut self.output]
     }
 
@@ -141,7 +135,17 @@ impl Input {
 }
 
 impl Comparisons {
-    fn make(&mut self, what: &str, input: &Input) -> Result<(), Failure> {
+    pub fn of(library: &Library, random: Random) -> Comparisons {
+        Comparisons {
+            repair: library.repair,
+            proof_check: library.proof_check,
+            random,
+            met: Met::default(),
+            made: 0,
+        }
+    }
+
+    pub fn make(&mut self, what: &str, input: &Input) -> Result<(), Failure> {
         self.result_of(what, input).map(|_| ())
     }
 

@@ -1,7 +1,7 @@
 //! `cmt_sample_take` and `cmt_sample_check` beside the reference.
 
-mod checking;
-mod taking;
+pub mod checking;
+pub mod taking;
 
 #[cfg(test)]
 mod mutants;
@@ -17,7 +17,7 @@ pub fn compare(library: &Library) -> Result<u64, Failure> {
 }
 
 /// The base symbols of a depth.
-fn base_symbols(depth: usize) -> usize {
+pub fn base_symbols(depth: usize) -> usize {
     symbols(depth - 1)
 }
 

@@ -14,14 +14,14 @@ mod mutants;
 const DONE: u64 = 0;
 const WRONG_LENGTH: u64 = 2;
 
-const DIGEST: usize = 32;
+pub const DIGEST: usize = 32;
 const WRONG_DIGESTS: [usize; 5] = [0, 1, 31, 33, 64];
 
 const SEED: u64 = 1804;
 
 /// Makes every comparison, and gives their number.
 pub fn compare(library: &Library) -> Result<u64, Failure> {
-    let mut comparisons = Comparisons::of(library);
+    let mut comparisons = Comparisons::of(library, Random::new(SEED));
     comparisons.every_length()?;
     comparisons.every_alignment()?;
     comparisons.random_lengths()?;
@@ -30,7 +30,7 @@ pub fn compare(library: &Library) -> Result<u64, Failure> {
     Ok(comparisons.made)
 }
 
-struct Comparisons {
+pub struct Comparisons {
     sha256: Sha256,
     random: Random,
     made: u64,
@@ -53,8 +53,8 @@ struct Call<'a> {
 }
 
 impl Comparisons {
-    fn of(library: &Library) -> Comparisons {
-        Comparisons { sha256: library.sha256, random: Random::new(SEED), made: 0 }
+    pub fn of(library: &Library, random: Random) -> Comparisons {
+        Comparisons { sha256: library.sha256, random, made: 0 }
     }
 
     fn every_length(&mut self) -> Result<(), Failure> {
@@ -120,7 +120,7 @@ impl Comparisons {
     }
 
     /// A call that must write `digest`.
-    fn digest(&mut self, message: &Message, digest: &[u8; DIGEST]) -> Result<(), Failure> {
+    pub fn digest(&mut self, message: &Message, digest: &[u8; DIGEST]) -> Result<(), Failure> {
         let places = self.places();
         self.digest_at(message, digest, places)
     }
@@ -136,7 +136,7 @@ impl Comparisons {
     }
 
     /// A call that must be refused.
-    fn refusal(&mut self, message: &Message, digest_len: usize) -> Result<(), Failure> {
+    pub fn refusal(&mut self, message: &Message, digest_len: usize) -> Result<(), Failure> {
         let places = self.places();
         let digest = &self.random.bytes(digest_len);
         self.make(&Call { message, places, before: digest, after: digest, result: WRONG_LENGTH })

@@ -27,7 +27,7 @@ const SEED: u64 = 2718;
 
 /// Makes every comparison, and gives their number.
 pub fn compare(library: &Library) -> Result<u64, Failure> {
-    let mut comparisons = Comparisons::of(library);
+    let mut comparisons = Comparisons::of(library, Random::new(SEED));
     comparisons.depths()?;
     comparisons.every_word()?;
     comparisons.more_words()?;
@@ -38,7 +38,7 @@ pub fn compare(library: &Library) -> Result<u64, Failure> {
     Ok(comparisons.made)
 }
 
-struct Comparisons {
+pub struct Comparisons {
     table_check: TableCheck,
     house_table: HouseTable,
     random: Random,
@@ -46,11 +46,11 @@ struct Comparisons {
 }
 
 impl Comparisons {
-    fn of(library: &Library) -> Comparisons {
+    pub fn of(library: &Library, random: Random) -> Comparisons {
         Comparisons {
             table_check: library.table_check,
             house_table: library.house_table,
-            random: Random::new(SEED),
+            random,
             made: 0,
         }
     }
@@ -180,7 +180,7 @@ impl Comparisons {
         self.check_bytes(list, depth, &table::to_bytes(words))
     }
 
-    fn check_bytes(&mut self, list: &str, depth: u64, bytes: &[u8]) -> Result<(), Failure> {
+    pub fn check_bytes(&mut self, list: &str, depth: u64, bytes: &[u8]) -> Result<(), Failure> {
         self.made += 1;
         let alignment = self.random.below(ALIGNMENTS);
         let call = || format!("{list} of {} bytes, depth {depth}, at {alignment}", bytes.len());
@@ -193,7 +193,7 @@ impl Comparisons {
             .map_err(|difference| Failure { call: call(), difference })
     }
 
-    fn house(&mut self, depth: u64, len: usize) -> Result<(), Failure> {
+    pub fn house(&mut self, depth: u64, len: usize) -> Result<(), Failure> {
         self.made += 1;
         let alignment = self.random.below(ALIGNMENTS);
         let before = self.random.bytes(len);

@@ -1,7 +1,7 @@
 //! `cmt_tree_write` and `cmt_block_read` beside the reference.
 
-mod reading;
-mod writing;
+pub mod reading;
+pub mod writing;
 
 #[cfg(test)]
 mod mutants;

@@ -87,6 +87,7 @@ macro_rules! as_repair {
     };
 }
 
+#[cfg(test)]
 pub(crate) use {as_proof_check, as_repair};
 
 as_proof_check!(proof_check, |p| p.right());

@@ -158,6 +158,7 @@ macro_rules! as_sample_check {
     };
 }
 
+#[cfg(test)]
 pub(crate) use {as_block_read, as_sample_check, as_sample_take, as_tree_write};
 
 as_tree_write!(tree_write, |w| w.right());

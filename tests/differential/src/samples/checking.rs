@@ -17,8 +17,7 @@ use reference::tree::{committed, symbol_at, Committed, HASH, ROOT, SYMBOL};
 const SEED: u64 = 1414;
 
 pub fn compare(library: &Library) -> Result<u64, Failure> {
-    let random = Random::new(SEED);
-    let mut comparisons = Comparisons { sample_check: library.sample_check, random, made: 0 };
+    let mut comparisons = Comparisons::of(library, Random::new(SEED));
     comparisons.every_number()?;
     comparisons.every_byte()?;
     comparisons.every_hash()?;
@@ -31,7 +30,7 @@ pub fn compare(library: &Library) -> Result<u64, Failure> {
     Ok(comparisons.made)
 }
 
-struct Comparisons {
+pub struct Comparisons {
     sample_check: SampleCheck,
     random: Random,
     made: u64,
@@ -39,16 +38,16 @@ struct Comparisons {
 
 /// What a call is lent.
 #[derive(Clone)]
-struct Input {
-    depth: u64,
-    number: u64,
-    root: Vec<u8>,
-    sample: Vec<u8>,
+pub struct Input {
+    pub depth: u64,
+    pub number: u64,
+    pub root: Vec<u8>,
+    pub sample: Vec<u8>,
 }
 
 impl Input {
     /// A sample of a coded tree.
-    fn of(depth: usize, number: usize, coded: &Coded) -> Input {
+    pub fn of(depth: usize, number: usize, coded: &Coded) -> Input {
         let mut sample = vec![0; sample_len(depth)];
         sample::take(depth as u64, number as u64, &coded.tree, &coded.marks, &mut sample)
             .expect("a sample that can be taken");
@@ -62,7 +61,7 @@ impl Input {
         Input::of(depth, random.below(base_symbols(depth)), &coded)
     }
 
-    fn buffers(&mut self) -> [&mut Vec<u8>; 2] {
+    pub fn buffers(&mut self) -> [&mut Vec<u8>; 2] {
         [&mut self.root, &mut self.sample]
     }
 
@@ -101,6 +100,10 @@ impl Input {
 }
 
 impl Comparisons {
+    pub fn of(library: &Library, random: Random) -> Comparisons {
+        Comparisons { sample_check: library.sample_check, random, made: 0 }
+    }
+
     fn every_number(&mut self) -> Result<(), Failure> {
         for depth in DEPTHS {
             for words in [house(depth), random_table(depth, &mut self.random)] {
@@ -250,7 +253,7 @@ impl Comparisons {
         Ok(())
     }
 
-    fn make(&mut self, what: &str, input: &Input) -> Result<(), Failure> {
+    pub fn make(&mut self, what: &str, input: &Input) -> Result<(), Failure> {
         self.made += 1;
         let (depth, base) = (input.depth, input.number);
         let result = sample::check(depth, base, &input.root, &input.sample);

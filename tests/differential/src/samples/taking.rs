@@ -14,8 +14,7 @@ use reference::tree::{place, tree_symbols, SYMBOL};
 const SEED: u64 = 5772;
 
 pub fn compare(library: &Library) -> Result<u64, Failure> {
-    let random = Random::new(SEED);
-    let mut comparisons = Comparisons { sample_take: library.sample_take, random, made: 0 };
+    let mut comparisons = Comparisons::of(library, Random::new(SEED));
     comparisons.every_number()?;
     comparisons.every_mark()?;
     comparisons.absent_members()?;
@@ -27,7 +26,7 @@ pub fn compare(library: &Library) -> Result<u64, Failure> {
     Ok(comparisons.made)
 }
 
-struct Comparisons {
+pub struct Comparisons {
     sample_take: SampleTake,
     random: Random,
     made: u64,
@@ -35,17 +34,17 @@ struct Comparisons {
 
 /// What a call is lent.
 #[derive(Clone)]
-struct Input {
-    depth: u64,
-    number: u64,
-    tree: Vec<u8>,
-    marks: Vec<u8>,
-    sample: Vec<u8>,
+pub struct Input {
+    pub depth: u64,
+    pub number: u64,
+    pub tree: Vec<u8>,
+    pub marks: Vec<u8>,
+    pub sample: Vec<u8>,
 }
 
 impl Input {
     /// Buffers of the right lengths: random bytes, each symbol held.
-    fn new(depth: usize, random: &mut Random) -> Input {
+    pub fn new(depth: usize, random: &mut Random) -> Input {
         Input {
             depth: depth as u64,
             number: random.below(base_symbols(depth.max(1))) as u64,
@@ -55,7 +54,7 @@ impl Input {
         }
     }
 
-    fn buffers(&mut self) -> [&mut Vec<u8>; 3] {
+    pub fn buffers(&mut self) -> [&mut Vec<u8>; 3] {
         [&mut self.tree, &mut self.marks, &mut self.sample]
     }
 
@@ -67,6 +66,10 @@ impl Input {
 }
 
 impl Comparisons {
+    pub fn of(library: &Library, random: Random) -> Comparisons {
+        Comparisons { sample_take: library.sample_take, random, made: 0 }
+    }
+
     /// Of random bytes, which no table gives, and of a coded tree; with every
     /// other symbol absent, too.
     fn every_number(&mut self) -> Result<(), Failure> {
@@ -203,7 +206,7 @@ impl Comparisons {
         Ok(())
     }
 
-    fn make(&mut self, what: &str, input: &Input) -> Result<(), Failure> {
+    pub fn make(&mut self, what: &str, input: &Input) -> Result<(), Failure> {
         self.made += 1;
         let mut sample = input.sample.clone();
         let (depth, base) = (input.depth, input.number);

@@ -3,6 +3,7 @@
 
 use super::{compare, Comparisons, DIGEST, DONE, LONGEST, WRONG_LENGTH};
 use crate::difference::Difference;
+use crate::random::Random;
 use crate::right::{sha256 as right, write_digest, RIGHT};
 use cedunmi_sys::Library;
 
@@ -148,7 +149,8 @@ fn system_tool_finds_a_wrong_digest() {
     unsafe extern "C" fn f(m: *const u8, n: usize, d: *mut u8, dn: usize) -> u64 {
         right_but((m, n, d, dn), |r| r == DONE, d)
     }
-    let failure =
-        Comparisons::of(&Library { sha256: f, ..RIGHT }).system_tool().expect_err("it passed");
+    let failure = Comparisons::of(&Library { sha256: f, ..RIGHT }, Random::new(1))
+        .system_tool()
+        .expect_err("it passed");
     assert!(matches!(failure.difference, Difference::Inside { buffer: "digest", at: 0, .. }));
 }

@@ -15,8 +15,7 @@ use reference::tree::{self, place, tree_symbols, SYMBOL};
 const SEED: u64 = 1618;
 
 pub fn compare(library: &Library) -> Result<u64, Failure> {
-    let random = Random::new(SEED);
-    let mut comparisons = Comparisons { block_read: library.block_read, random, made: 0 };
+    let mut comparisons = Comparisons::of(library, Random::new(SEED));
     comparisons.coded_trees()?;
     comparisons.every_mark()?;
     comparisons.random_marks()?;
@@ -26,7 +25,7 @@ pub fn compare(library: &Library) -> Result<u64, Failure> {
     Ok(comparisons.made)
 }
 
-struct Comparisons {
+pub struct Comparisons {
     block_read: BlockRead,
     random: Random,
     made: u64,
@@ -34,16 +33,16 @@ struct Comparisons {
 
 /// What a call is lent.
 #[derive(Clone)]
-struct Input {
-    depth: u64,
-    tree: Vec<u8>,
-    marks: Vec<u8>,
-    block: Vec<u8>,
+pub struct Input {
+    pub depth: u64,
+    pub tree: Vec<u8>,
+    pub marks: Vec<u8>,
+    pub block: Vec<u8>,
 }
 
 impl Input {
     /// Buffers of the right lengths: random bytes, each symbol held.
-    fn new(depth: usize, random: &mut Random) -> Input {
+    pub fn new(depth: usize, random: &mut Random) -> Input {
         Input {
             depth: depth as u64,
             tree: random.bytes(SYMBOL * tree_symbols(depth)),
@@ -52,12 +51,16 @@ impl Input {
         }
     }
 
-    fn buffers(&mut self) -> [&mut Vec<u8>; 3] {
+    pub fn buffers(&mut self) -> [&mut Vec<u8>; 3] {
         [&mut self.tree, &mut self.marks, &mut self.block]
     }
 }
 
 impl Comparisons {
+    pub fn of(library: &Library, random: Random) -> Comparisons {
+        Comparisons { block_read: library.block_read, random, made: 0 }
+    }
+
     /// Trees that the reference wrote.
     fn coded_trees(&mut self) -> Result<(), Failure> {
         for depth in DEPTHS {
@@ -160,7 +163,7 @@ impl Comparisons {
         Ok(())
     }
 
-    fn make(&mut self, what: &str, input: &Input) -> Result<(), Failure> {
+    pub fn make(&mut self, what: &str, input: &Input) -> Result<(), Failure> {
         self.made += 1;
         let mut block = input.block.clone();
         let result = tree::read_block(input.depth, &input.tree, &input.marks, &mut block);

@@ -16,8 +16,7 @@ use reference::tree::{self, tree_symbols, ROOT, SYMBOL};
 const SEED: u64 = 3141;
 
 pub fn compare(library: &Library) -> Result<u64, Failure> {
-    let random = Random::new(SEED);
-    let mut comparisons = Comparisons { tree_write: library.tree_write, random, made: 0 };
+    let mut comparisons = Comparisons::of(library, Random::new(SEED));
     comparisons.depths()?;
     comparisons.lengths()?;
     comparisons.causes()?;
@@ -27,7 +26,7 @@ pub fn compare(library: &Library) -> Result<u64, Failure> {
     Ok(comparisons.made)
 }
 
-struct Comparisons {
+pub struct Comparisons {
     tree_write: TreeWrite,
     random: Random,
     made: u64,
@@ -35,18 +34,18 @@ struct Comparisons {
 
 /// What a call is lent.
 #[derive(Clone)]
-struct Input {
-    depth: u64,
-    table: Vec<u8>,
-    block: Vec<u8>,
-    tree: Vec<u8>,
-    marks: Vec<u8>,
-    root: Vec<u8>,
+pub struct Input {
+    pub depth: u64,
+    pub table: Vec<u8>,
+    pub block: Vec<u8>,
+    pub tree: Vec<u8>,
+    pub marks: Vec<u8>,
+    pub root: Vec<u8>,
 }
 
 impl Input {
     /// Buffers of the right lengths. Those to be written hold random bytes.
-    fn new(depth: usize, words: &[u32], content: Content, random: &mut Random) -> Input {
+    pub fn new(depth: usize, words: &[u32], content: Content, random: &mut Random) -> Input {
         Input {
             depth: depth as u64,
             table: to_bytes(words),
@@ -57,12 +56,16 @@ impl Input {
         }
     }
 
-    fn buffers(&mut self) -> [&mut Vec<u8>; 5] {
+    pub fn buffers(&mut self) -> [&mut Vec<u8>; 5] {
         [&mut self.table, &mut self.block, &mut self.tree, &mut self.marks, &mut self.root]
     }
 }
 
 impl Comparisons {
+    pub fn of(library: &Library, random: Random) -> Comparisons {
+        Comparisons { tree_write: library.tree_write, random, made: 0 }
+    }
+
     /// Each content, with the house table, with the smallest and the largest
     /// equations, and with random ones.
     fn blocks(&mut self) -> Result<(), Failure> {
@@ -159,7 +162,7 @@ impl Comparisons {
         Ok(())
     }
 
-    fn make(&mut self, what: &str, input: &Input) -> Result<(), Failure> {
+    pub fn make(&mut self, what: &str, input: &Input) -> Result<(), Failure> {
         self.made += 1;
         let mut after = input.clone();
         let [_, _, tree, marks, root] = after.buffers();

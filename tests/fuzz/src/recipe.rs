@@ -1,0 +1,93 @@
+//! Bytes read as a recipe: numbers, depths, tables and volumes. Where the bytes
+//! end, zeros follow.
+
+use differential::random::Random;
+use differential::tables::lists::{random_table, table_of};
+use differential::volumes::Volume;
+use reference::table::house;
+use reference::tree::{symbols, HASH};
+
+/// The depths that buffers are made for, the smaller ones more often.
+const DEPTHS: [usize; 8] = [1, 1, 1, 2, 2, 3, 4, 5];
+
+pub struct Recipe<'a> {
+    bytes: &'a [u8],
+}
+
+impl<'a> Recipe<'a> {
+    pub fn new(bytes: &'a [u8]) -> Recipe<'a> {
+        Recipe { bytes }
+    }
+
+    /// All that is left.
+    pub fn rest(&mut self) -> &'a [u8] {
+        std::mem::take(&mut self.bytes)
+    }
+
+    pub fn byte(&mut self) -> u8 {
+        match self.bytes.split_first() {
+            Some((&first, rest)) => {
+                self.bytes = rest;
+                first
+            }
+            None => 0,
+        }
+    }
+
+    /// The number of so many bytes.
+    pub fn number(&mut self, bytes: usize) -> u64 {
+        (0..bytes).fold(0, |number, _| number << 8 | u64::from(self.byte()))
+    }
+
+    /// A number below a limit.
+    pub fn below(&mut self, limit: usize) -> usize {
+        self.number(3) as usize % limit
+    }
+
+    pub fn random(&mut self) -> Random {
+        Random::new(u64::from(self.byte()))
+    }
+
+    /// The depth that buffers are made for.
+    pub fn made_for(&mut self) -> usize {
+        DEPTHS[usize::from(self.byte()) % DEPTHS.len()]
+    }
+
+    /// A number to ask for: mostly the one given, or a small one, or any.
+    pub fn asked(&mut self, given: usize) -> u64 {
+        match self.byte() {
+            0..=199 => given as u64,
+            small @ 200..=249 => u64::from(small) - 200,
+            _ => self.number(8),
+        }
+    }
+
+    /// The words of a well-formed table.
+    pub fn words(&mut self, depth: usize) -> Vec<u32> {
+        match self.byte() {
+            0..=127 => house(depth),
+            size @ 128..=191 => table_of(depth, 2 + usize::from(size) % 7),
+            _ => random_table(depth, &mut self.random()),
+        }
+    }
+
+    /// A tree with up to three symbols replaced before they were hashed, and
+    /// perhaps with one hash that does not fit.
+    pub fn volume(&mut self) -> Volume {
+        let depth = self.made_for();
+        let words = self.words(depth);
+        let faults: Vec<_> = (0..self.byte() % 4).map(|_| self.symbol(depth)).collect();
+        let mut volume = Volume::miscoded(depth, &words, &faults, &mut self.random());
+        if self.byte() >= 192 {
+            let (layer, symbol) = self.symbol(depth);
+            volume.break_hash(layer, symbol, self.below(HASH));
+        }
+        volume
+    }
+
+    /// A layer, and the number of a symbol of it.
+    fn symbol(&mut self, depth: usize) -> (usize, usize) {
+        let layer = usize::from(self.byte()) % depth;
+        (layer, self.below(symbols(layer)))
+    }
+}
