@@ -11,7 +11,7 @@ use Rattle.octets.specs.Choice.{pick}
 use Rattle.octets.proofs.Choice.{pick-no}
 use Rattle.parity_table.specs.Shape.{maxDepth, depthFits, kOf, nOf}
 use Rattle.parity_table.specs.Members.{lastOf}
-use Rattle.parity_table.specs.Table.{layerOf, equationOf, equationsWords, layersWords, tableWords}
+use Rattle.parity_table.specs.Table.{endWord, layerOf, equationOf, equationsWords, layersWords, tableWords}
 use Rattle.parity_table.specs.Bytes.{wordsOf}
 use Rattle.parity_table.specs.House.{houseEquation, houseEquations, houseLayers, houseTable, houseWords, houseAnswer}
 use Rattle.parity_table.specs.Right as reader
@@ -32,8 +32,8 @@ use Rattle.cedunmi.proofs.ProofLaws.{proof-depth}
 use Rattle.cedunmi.proofs.RepairLaws.{tested-depth}
 use Rattle.cedunmi.proofs.Sound.{passed}
 use Rattle.guarantees.specs.Terms.{equationsOf}
-use Rattle.guarantees.specs.Cases.{StopsWith1, Longest, Stands, CasesHold}
-use Rattle.guarantees.proofs.RepairCases.{coded-is, two-turns, two-absent, eight-absent, all-absent}
+use Rattle.guarantees.specs.Cases.{coded, StopsWith1, Longest, Stands, none, _also_, CasesHold}
+use Rattle.guarantees.proofs.RepairCases.{listed, coded-is, two-turns, two-absent, eight-absent, all-absent}
 
 -- ---- case 8
 
@@ -82,22 +82,17 @@ stands = record { bytes = refl; stands = λ tbl f deep c. c .stands 0 31 (omega 
 
 -- ---- all of them
 
-infixr 40 _also_
-_also_ : {A B : Type 0} → A → B → A × B
-a also b = (a, b)
+table-size : (length (houseWords 1) ≡ 61) × (lastOf (houseWords 1) 0 ≡ endWord 60)
+unfolding houseTable houseLayers houseEquations houseEquation houseWords tableWords layersWords equationsWords lastOf kOf
+table-size = (refl, refl)
+
+-- symbol i, as it is listed
+symbol : (i : ℕ) → symAt tree coded 0 i ≡ symAt tree listed 0 i
+symbol i = ap (λ (t : List ℕ). symAt tree t 0 i) coded-is
 
 pub cases-hold : CasesHold
-unfolding houseTable houseLayers houseEquations houseEquation houseWords tableWords layersWords equationsWords layerOf equationOf lastOf kOf nOf depthFits places place symAt symbolIn pick
+unfolding houseTable houseLayers houseEquations houseEquation layerOf equationOf kOf nOf depthFits places place symAt symbolIn
 cases-hold =
-    -- 1, 2
-    refl also refl also refl
-    also (refl, refl)
-    -- 3
-    also ap (λ (t : List ℕ). symAt tree t 0 5) coded-is
-    also ap (λ (t : List ℕ). symAt tree t 0 7) coded-is
-    also ap (λ (t : List ℕ). symAt tree t 0 9) coded-is
-    -- 4, 5, 6
+    refl also refl also refl also table-size also symbol 5 also symbol 7 also symbol 9
     also two-turns also two-absent also eight-absent also all-absent
-    -- 8, 9, 10
-    also stops 0 refl also stops (maxDepth + 1) refl also refl
-    also longest also stands also tt
+    also stops 0 refl also stops (maxDepth + 1) refl also refl also longest also stands also none

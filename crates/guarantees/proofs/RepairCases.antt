@@ -46,16 +46,16 @@ use Rattle.guarantees.proofs.Demand2.{demand-2}
 -- ---- the coded tree
 
 -- the first byte of each symbol, as the program `listing` prints them
-abbrev firstBytes : List ℕ
+abbrev pub firstBytes : List ℕ
 firstBytes =
     0x01 ∷ 0x02 ∷ 0x04 ∷ 0x08 ∷ 0x03 ∷ 0x05 ∷ 0x09 ∷ 0x00 ∷ 0x05 ∷ 0x0F ∷ 0x0A ∷ 0x00 ∷ 0x09 ∷ 0x0A ∷ 0x0C ∷ 0x00 ∷ []
 
 -- n symbols from number i on, each all of its first byte
-abbrev symbolsFrom : ℕ → ℕ → List ℕ
+abbrev pub symbolsFrom : ℕ → ℕ → List ℕ
 symbolsFrom i zero = []
 symbolsFrom i (suc n) = replicate 256 (getD firstBytes i 0) ++ symbolsFrom (suc i) n
 
-abbrev listed : List ℕ
+abbrev pub listed : List ℕ
 listed = symbolsFrom 0 16
 
 -- the table that its bytes say

@@ -177,10 +177,11 @@ cases =
     ∷ hashStands 2 31 3 224 255
     ∷ []
 
--- all of them hold
-abbrev pub Every : (Case → Type 0) → List Case → Type 0
-Every P [] = Unit {0}
-Every P (c ∷ cs) = P c × Every P cs
+-- every row holds
+infixr 40 _also_
+pub data Every (P : Case → Type 0) : List Case → Type 0 where
+  none : Every P []
+  _also_ : {c : Case} {cs : List Case} → P c → Every P cs → Every P (c ∷ cs)
 
 abbrev pub CasesHold : Type 0
 CasesHold = Every Holds cases
