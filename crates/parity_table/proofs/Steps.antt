@@ -1,6 +1,6 @@
 -- The reader's definition, a word at a time from a place of the list: what the proofs of its code cite.
 use mathlib.Core.Path.{_≡_, refl, sym, ap, _∙_}
-use mathlib.Core.Bool.{Bool, true, false, _&&_}
+use mathlib.Core.Bool.{Bool, true, false, _&&_, true≢false}
 use mathlib.Core.Logic.{⊎-elim}
 use mathlib.Core.List.{List}
 use Prim.Native.Nat.{ℕ, suc, _+_, _-_, _*_, _≤_, _<_}
@@ -12,10 +12,12 @@ use lib.Dec.{ltb, eqb}
 use borrow.Author.Tests.{ltb-true, ltb-false, eqb-true, eqb-false, lt-ltb, le-ltb, le-leb, lt-leb, eq-eqb, ne-eqb}
 use Rattle.octets.specs.Choice.{pick}
 use Rattle.parity_table.specs.declared.Answer.the-variants.{Wrong, Whole}
+use Rattle.parity_table.specs.declared.reader.Word.{Word}
+use Rattle.parity_table.specs.declared.reader.Word.the-variants.{Is, Past}
 use Rattle.parity_table.specs.Shape.{kOf}
 use Rattle.parity_table.specs.Table.{layerWord, equationWord, endWord}
 use Rattle.parity_table.specs.Reader.{Next, Layer, Equation, Member, End, Nothing, layered, opened, memberFits, fits, after, atEnd, run}
-use Rattle.parity_table.specs.Steps.{wordIs}
+use Rattle.parity_table.specs.Steps.{wordAt, wordIs}
 use Rattle.octets.proofs.Choice.{by-test, pick-yes, pick-no, and-yes}
 use Rattle.parity_table.proofs.Run.{member-fits, after-goes, after-ends}
 
@@ -41,6 +43,39 @@ pub past : (d i : ℕ) (s : Next) (ws : List ℕ) → length ws ≤ i → run d 
 unfolding run
 past d i s ws h = ap (run d i s) (drop-of-length-le ws {i = i} h)
 
+-- ---- what stands at a place
+
+pub word-stands : (ws : List ℕ) (i : ℕ) → i < length ws → wordAt ws i ≡ Is (getD ws i 0)
+unfolding wordAt
+word-stands ws i h = pick-yes (ltb i (length ws)) (Is (getD ws i 0)) Past (lt-ltb i (length ws) h)
+
+pub word-over : (ws : List ℕ) (i : ℕ) → length ws ≤ i → wordAt ws i ≡ Past
+unfolding wordAt
+word-over ws i h = pick-no (ltb i (length ws)) (Is (getD ws i 0)) Past (le-ltb i (length ws) h)
+
+-- the word of a place that has one
+abbrev valueOf : Word → ℕ
+valueOf (Is w) = w
+valueOf Past = 0
+
+abbrev isWord : Word → Bool
+isWord (Is w) = true
+isWord Past = false
+
+pub word-found : (ws : List ℕ) (i w : ℕ) → wordAt ws i ≡ Is w → (i < length ws) × (getD ws i 0 ≡ w)
+word-found ws i w q =
+    by-test (ltb i (length ws))
+    (λ t.
+    let h : i < length ws = ltb-true i (length ws) t in
+    (h, ap valueOf (sym (word-stands ws i h) ∙ q)))
+    (λ t. absurd (true≢false (ap isWord (sym q ∙ word-over ws i (ltb-false i (length ws) t)))))
+
+pub word-missing : (ws : List ℕ) (i : ℕ) → wordAt ws i ≡ Past → length ws ≤ i
+word-missing ws i q =
+    by-test (ltb i (length ws))
+    (λ t. absurd (true≢false (ap isWord (sym (word-stands ws i (ltb-true i (length ws) t)) ∙ q))))
+    (λ t. ltb-false i (length ws) t)
+
 -- ---- a word that has to be
 
 pub word-inside : (ws : List ℕ) (i w : ℕ) → wordIs ws i w ≡ true → i < length ws
@@ -54,6 +89,14 @@ word-here ws i w h = sym (ap (λ (b : Bool). b && eqb (getD ws i 0) w) (lt-ltb i
 pub word-past : (ws : List ℕ) (i w : ℕ) → length ws ≤ i → false ≡ wordIs ws i w
 unfolding wordIs
 word-past ws i w h = sym (ap (λ (b : Bool). b && eqb (getD ws i 0) w) (le-ltb i (length ws) h))
+
+pub word-same : (ws : List ℕ) (i w x : ℕ) → wordAt ws i ≡ Is w → eqb w x ≡ wordIs ws i x
+word-same ws i w x q =
+    let found = word-found ws i w q in
+    ap (λ (y : ℕ). eqb y x) (sym (found .1)) ∙ word-here ws i x (found .0)
+
+pub word-none : (ws : List ℕ) (i x : ℕ) → wordAt ws i ≡ Past → false ≡ wordIs ws i x
+word-none ws i x q = word-past ws i x (word-missing ws i q)
 
 -- where one word alone may stand, the reader goes on past it, or stops
 module _ (d i : ℕ) (s t : Next) (w : ℕ) (ws : List ℕ) (one : (x : ℕ) → fits i s x ≡ eqb x w) (next : after d s w ≡ t) (stop : atEnd i s ≡ Wrong i) where

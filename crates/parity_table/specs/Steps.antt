@@ -7,10 +7,17 @@ use lib.ListN.{length, getD, drop}
 use lib.Dec.{ltb, eqb}
 use Rattle.parity_table.specs.declared.Answer.{Answer}
 use Rattle.parity_table.specs.declared.Answer.the-variants.{Wrong}
+use Rattle.octets.specs.Choice.{pick}
+use Rattle.parity_table.specs.declared.reader.Word.{Word}
+use Rattle.parity_table.specs.declared.reader.Word.the-variants.{Is, Past}
 use Rattle.parity_table.specs.declared.reader.Step.{Step}
 use Rattle.parity_table.specs.declared.reader.Step.the-variants as step
 use Rattle.parity_table.specs.Shape.{kOf}
 use Rattle.parity_table.specs.Reader.{Next, Layer, Equation, Member, End, layered, opened, run}
+
+-- what stands at a place
+unfoldable pub wordAt : List ℕ → ℕ → Word
+wordAt ws at = pick (ltb at (length ws)) (Is (getD ws at 0)) Past
 
 -- word number at is w
 unfoldable pub wordIs : List ℕ → ℕ → ℕ → Bool

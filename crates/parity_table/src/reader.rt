@@ -10,7 +10,7 @@ ghost use Prim.Native.Nat.{_+_, _*_, _<_, _≤_, _^_};
 ghost use lib.Dec.{eqb};
 ghost use Rattle.parity_table.specs.Shape.{maxDepth};
 ghost use Rattle.parity_table.specs.Reader.{memberFits, readOf};
-ghost use Rattle.parity_table.specs.Steps.{wordIs, MembersRead, EquationRead, EquationsRead, LayerRead, LayersRead, EndRead};
+ghost use Rattle.parity_table.specs.Steps.{wordAt, wordIs, MembersRead, EquationRead, EquationsRead, LayerRead, LayersRead, EndRead};
 
 // A place in the list of words.
 pub struct Cursor {
@@ -23,6 +23,50 @@ pub enum Step {
     To(Cursor),
     // the first wrong word, or the number of words of a list that is short
     Wrong(usize),
+}
+
+// What stands at a place of a list.
+pub enum Word {
+    Is(u32),
+    // the list has ended
+    Past,
+}
+
+// A table's list of words together with the place of the next one.
+pub struct TableReader<'a> {
+    pub words: &'a [u32],
+    pub at: usize,
+}
+
+// The word at a place.
+fn word_at(ws: &[u32], at: usize) -> Word
+    ensures { λ r. ⌜ r ≡ wordAt (now (ws .entry)) at ⌝ }
+{
+    if at < ws.len() {
+        return Word::Is(ws[at]);
+    }
+    Word::Past
+}
+
+// A reader whose next word is number at.
+fn reader_at<'a>(words: &'a [u32], at: usize) -> TableReader<'a>
+    ensures { λ r. ⌜ (r .words ≡ words .entry) × (r .at ≡ at) ⌝ }
+{
+    TableReader { words, at }
+}
+
+// The reader's next word.
+fn next<'a>(r: TableReader<'a>) -> Word
+    ensures { λ w. ⌜ w ≡ wordAt (now (r .entry .words)) (r .entry .at) ⌝ }
+{
+    word_at(r.words, r.at)
+}
+
+// Word number at, by a reader.
+fn next_word(ws: &[u32], at: usize) -> Word
+    ensures { λ r. ⌜ r ≡ wordAt (now (ws .entry)) at ⌝ }
+{
+    next(reader_at(ws, at))
 }
 
 // w is the word of value v of the kind whose words start at base.
@@ -39,10 +83,10 @@ fn is_word(w: u32, base: u32, v: usize) -> bool
 fn word_is(ws: &[u32], at: usize, base: u32, v: usize) -> bool
     ensures { λ r. ⌜ r ≡ wordIs (now (ws .entry)) at (base + v) ⌝ }
 {
-    if at < ws.len() {
-        return is_word(ws[at], base, v);
+    match next_word(ws, at) {
+        Word::Is(w) => is_word(w, base, v),
+        Word::Past => false,
     }
-    false
 }
 
 // Number x may be a member after count members, at least low, in an equation whose last is last.
@@ -68,8 +112,11 @@ fn members(ws: &[u32], c: Cursor, last: usize) -> Step
     let mut at = c.at;
     let mut count: usize = 0;
     let mut low: usize = 0;
-    while at < ws.len() {
-        let x = ws[at] as usize;
+    loop {
+        let Word::Is(w) = next_word(ws, at) else {
+            return Step::Wrong(at);
+        };
+        let x = w as usize;
         if !member_fits(last, count, low, x) {
             return Step::Wrong(at);
         }
@@ -80,7 +127,6 @@ fn members(ws: &[u32], c: Cursor, last: usize) -> Step
         count += 1;
         low = x + 1;
     }
-    Step::Wrong(at)
 }
 
 // Equation e of a layer with k data symbols.
