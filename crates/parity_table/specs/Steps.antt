@@ -48,9 +48,13 @@ abbrev pub LayerRead : List ℕ → ℕ → ℕ → Step → Type 0
 LayerRead ws at j r = (d : ℕ) → run d at (Layer j) (drop at ws) ≡ goesOn d (layered d (suc j)) ws r
 
 -- all layers of depth d
-abbrev pub LayersRead : List ℕ → ℕ → Step → Type 0
-LayersRead ws d r = run d 0 (layered d 0) ws ≡ goesOn d End ws r
+abbrev pub LayersRead : List ℕ → ℕ → ℕ → Step → Type 0
+LayersRead ws at d r = run d at (layered d 0) (drop at ws) ≡ goesOn d End ws r
 
 -- the end word, and the end
 abbrev pub EndRead : List ℕ → ℕ → Answer → Type 0
 EndRead ws at r = (d : ℕ) → r ≡ run d at End (drop at ws)
+
+-- the end word, and the end, where a step leads
+abbrev pub FinishRead : List ℕ → Step → Answer → Type 0
+FinishRead ws s r = (d : ℕ) → r ≡ goesOn d End ws s

@@ -9,8 +9,8 @@ ghost use mathlib.Core.Path.{_≡_};
 ghost use Prim.Native.Nat.{_+_, _*_, _<_, _≤_, _^_};
 ghost use lib.Dec.{eqb};
 ghost use Rattle.parity_table.specs.Shape.{maxDepth};
-ghost use Rattle.parity_table.specs.Reader.{memberFits, readOf};
-ghost use Rattle.parity_table.specs.Steps.{wordAt, wordIs, MembersRead, EquationRead, EquationsRead, LayerRead, LayersRead, EndRead};
+ghost use Rattle.parity_table.specs.Reader.{memberFits, layered, run, readOf};
+ghost use Rattle.parity_table.specs.Steps.{wordAt, wordIs, MembersRead, EquationRead, EquationsRead, LayerRead, LayersRead, EndRead, FinishRead};
 
 // A place in the list of words.
 pub struct Cursor {
@@ -174,12 +174,12 @@ fn layer(ws: &[u32], c: Cursor, j: usize) -> Step
     equations(ws, Cursor { at: at + 1 }, data_count(j))
 }
 
-// All layers of a table of this depth.
-fn layers(ws: &[u32], depth: usize) -> Step
+// All layers of a table of this depth, from a place on.
+fn layers_from(ws: &[u32], at: usize, depth: usize) -> Step
     requires { ⌜ depth ≤ maxDepth ⌝ }
-    ensures { λ r. ⌜ LayersRead (now (ws .entry)) depth r ⌝ }
+    ensures { λ r. ⌜ LayersRead (now (ws .entry)) at depth r ⌝ }
 {
-    let mut next = Cursor { at: 0 };
+    let mut next = Cursor { at };
     let mut j: usize = 0;
     while j < depth {
         match layer(ws, next, j) {
@@ -195,11 +195,10 @@ fn layers(ws: &[u32], depth: usize) -> Step
     Step::To(next)
 }
 
-// The end word, and nothing after it.
-fn end(ws: &[u32], c: Cursor) -> Answer
-    ensures { λ r. ⌜ EndRead (now (ws .entry)) (c .at) r ⌝ }
+// The end word at a place, and nothing after it.
+fn end_at(ws: &[u32], at: usize) -> Answer
+    ensures { λ r. ⌜ EndRead (now (ws .entry)) at r ⌝ }
 {
-    let at = c.at;
     if !word_is(ws, at, END, at) {
         return Answer::Wrong(at);
     }
@@ -209,6 +208,47 @@ fn end(ws: &[u32], c: Cursor) -> Answer
     Answer::Whole
 }
 
+// The reader at another place of its list.
+fn moved<'a>(r: TableReader<'a>, at: usize) -> TableReader<'a>
+    ensures { λ q. ⌜ (q .words ≡ r .entry .words) × (q .at ≡ at) ⌝ }
+{
+    TableReader { words: r.words, at }
+}
+
+// All layers of a table of this depth, from the reader's next word on.
+fn layers<'a>(r: TableReader<'a>, depth: usize) -> Step
+    requires { ⌜ depth ≤ maxDepth ⌝ }
+    ensures { λ s. ⌜ LayersRead (now (r .entry .words)) (r .entry .at) depth s ⌝ }
+{
+    layers_from(r.words, r.at, depth)
+}
+
+// The end word next, and nothing after it.
+fn end<'a>(r: TableReader<'a>) -> Answer
+    ensures { λ s. ⌜ EndRead (now (r .entry .words)) (r .entry .at) s ⌝ }
+{
+    end_at(r.words, r.at)
+}
+
+// The end of a table where reading its layers has led.
+fn finish<'a>(r: TableReader<'a>, s: Step) -> Answer
+    ensures { λ a. ⌜ FinishRead (now (r .entry .words)) s a ⌝ }
+{
+    match s {
+        Step::To(c) => end(moved(r, c.at)),
+        Step::Wrong(i) => Answer::Wrong(i),
+    }
+}
+
+// Reads a table of a depth that fits: its layers from the first word on, then its end.
+fn whole(ws: &[u32], depth: usize) -> Answer
+    requires { ⌜ depth ≤ maxDepth ⌝ }
+    ensures { λ r. ⌜ r ≡ run depth 0 (layered depth 0) (now (ws .entry)) ⌝ }
+{
+    let r = reader_at(ws, 0);
+    finish(r, layers(r, depth))
+}
+
 // Reads a table of this depth.
 pub fn read(ws: &[u32], depth: usize) -> Answer
     ensures { λ r. ⌜ r ≡ readOf depth (now (ws .entry)) ⌝ }
@@ -216,8 +256,5 @@ pub fn read(ws: &[u32], depth: usize) -> Answer
     if !depth_fits(depth) {
         return Answer::Depth;
     }
-    match layers(ws, depth) {
-        Step::To(c) => end(ws, c),
-        Step::Wrong(i) => Answer::Wrong(i),
-    }
+    whole(ws, depth)
 }
