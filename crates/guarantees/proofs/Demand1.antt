@@ -19,8 +19,8 @@ use Rattle.parity_table.specs.Right as reader
 use Rattle.parity_table.specs.Table.{FirstWrong}
 use Rattle.parity_table.specs.Bytes.{wordsOf, lengthFits, readBytesOf}
 use Rattle.parity_table.specs.House.{houseWords, houseAnswer}
-use Rattle.parity_table.proofs.Accepts.{refused-wrong, accepted-formed}
-use Rattle.parity_table.proofs.ByteForm.{bytes-accepted}
+use Rattle.parity_table.proofs.Accepts.{refused-wrong, accepted-formed, formed-accepted}
+use Rattle.parity_table.proofs.ByteForm.{bytes-accepted, bytes-words}
 use Rattle.model.specs.Shape.{tree, places}
 use Rattle.model.specs.Symbols.{symAt}
 use Rattle.model.specs.Climb.{Climb, leads, breaks}
@@ -129,6 +129,7 @@ table-check depth b =
       names = read-named (readBytesOf depth b);
       first-wrong = words-wrong depth b;
       well-formed = λ e. accepted-formed depth (wordsOf b) (bytes-accepted depth b e) .1;
+      accepts = λ f l w. sym (bytes-words depth b f l) ∙ formed-accepted depth (wordsOf b) f w;
     }
 
 house-writer : (depth : ℕ) (lent : List ℕ) → HouseWriter depth lent (houseAnswer depth (length lent) (length (houseWords depth) * 4))

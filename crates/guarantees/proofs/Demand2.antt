@@ -1,13 +1,11 @@
 -- Demand 2: what is written, read back, sampled and accepted.
 use mathlib.Core.Path.{_≡_, refl, sym, ap, _∙_, subst}
 use mathlib.Core.Logic.{_⊎_, inl, inr, ⊎-elim}
-use mathlib.Core.Bool.{true, not, _&&_, true≢false}
+use mathlib.Core.Bool.{true, _&&_}
 use mathlib.Core.List.{List}
 use Prim.Native.Nat.{ℕ, _+_, _-_, _*_, _≤_, _<_}
 use native.Mathlib.Omega.{arith}
-use native.Mathlib.Decide.{decLt}
-use lib.ListN.{length, getD, take, drop, length-take, length-drop}
-use lib.Seq.{drop-drop}
+use lib.ListN.{length, drop, length-take, length-drop}
 use lib.Dec.{ltb, eqb}
 use borrow.Author.Tests.{eqb-true, eq-eqb, ltb-true, ltb-false}
 use Rattle.octets.proofs.Choice.{pick-ind, and-yes, yes-and}
@@ -19,7 +17,7 @@ use Rattle.parity_table.proofs.Accepts.{depth-is, accepted-table}
 use Rattle.parity_table.proofs.ByteForm.{bytes-accepted}
 use Rattle.symbol_hash.specs.SymbolHash.{symbolHash}
 use Rattle.symbol_hash.proofs.Laws.{length-symbolHash}
-use Rattle.model.specs.Shape.{Shape, tree, place, places}
+use Rattle.model.specs.Shape.{tree, place, places}
 use Rattle.model.specs.Symbols.{symbolIn, symAt, committed}
 use Rattle.model.specs.Climb.{Climb, leads, breaks}
 use Rattle.model.specs.Coded.{InTree, Same, rootOf, Coded, Agrees}
@@ -27,35 +25,25 @@ use Rattle.model.specs.Writer.{blockOf, BaseOf, writeTree, writtenMarks, writte
 use Rattle.model.specs.Repair.{absentAt}
 use Rattle.model.specs.Sampling.{sampleSize, sampleBytes}
 use Rattle.model.specs.SampleCheck.{sampleCheck, SampleTrue, SampleCollision}
-use Rattle.model.proofs.Shapes.{tree-ok, tree-root, place-lt}
+use Rattle.model.proofs.Shapes.{tree-ok, tree-root}
 use Rattle.model.proofs.Tables.{TableFits, table-fits}
-use Rattle.model.proofs.Flat.{take-drop-take}
 use Rattle.model.proofs.Counts.{lowest-is}
-use Rattle.model.proofs.Writer.{marks-one, marks-length, written, written-same}
+use Rattle.model.proofs.Writer.{block-symbol, marks-one, marks-length, written, written-same}
 use Rattle.model.proofs.Binding.{root-length, root-is, hashes, original-block}
 use Rattle.model.proofs.Samples.{accepted-leads, leads-accepted, taken-length, taken-accepted, accepted-true}
 use Rattle.cedunmi.specs.declared.Answer.{Answer}
 use Rattle.cedunmi.specs.declared.Answer.the-variants.{Done}
 use Rattle.cedunmi.specs.Stops.{numberOf}
-use Rattle.cedunmi.specs.Marks.{isBad, lowestBad}
+use Rattle.cedunmi.specs.Marks.{lowestBad}
 use Rattle.cedunmi.specs.Volume.{treeWritten, treeLeft, rootLeft, blockLengths, lowestAbsent, blockRead}
-use Rattle.cedunmi.specs.Sample.{led, sampleTaken, sampleChecked}
+use Rattle.cedunmi.specs.Sample.{led, needed, sampleTaken, sampleChecked}
 use Rattle.cedunmi.proofs.LoadLaws.{table-done}
-use Rattle.cedunmi.proofs.MarkLaws.{bad-no}
-use Rattle.cedunmi.proofs.SampleLaws.{at-end}
+use Rattle.cedunmi.proofs.SampleLaws.{at-end, sample-end}
+use Rattle.cedunmi.proofs.WriteLaws.{write-read}
 use Rattle.cedunmi.proofs.VolumeLaws.{tree-lengths, read-done, base-room}
 use Rattle.guarantees.specs.Terms.{equationsOf}
-use Rattle.guarantees.specs.Demand2.{treeAfter, marksAfter, rootAfter, Exactly, ReadsBase, ReadsWritten, ReadsOriginal, SampleRight, AcceptsTaken, AcceptedIsTrue, Demand2}
-use Rattle.guarantees.proofs.Demand3.{held-marked}
-
--- the block that is read back has the base's data symbols
-block-symbol : (S : Shape) (d : ℕ) (t : List ℕ) (i : ℕ) → i < S .k (d - 1) → symbolIn (blockOf S d t) i ≡ symAt S t (d - 1) i
-unfolding symAt symbolIn place blockOf
-block-symbol S d t i h =
-    let o : ℕ = 256 * (places S (d - 1) + 0) in
-    let at : o + 256 * i ≡ 256 * (places S (d - 1) + i) = omega arith in
-    let inside : 256 * i + 256 ≤ 256 * S .k (d - 1) = omega arith in
-    take-drop-take 256 (256 * i) (256 * S .k (d - 1)) (drop o t) inside ∙ ap (take 256) (drop-drop (256 * i) o t ∙ ap (λ (n : ℕ). drop n t) at)
+use Rattle.guarantees.specs.Demand2.{treeAfter, marksAfter, rootAfter, Exactly, WriterInput, CompleteTree, ReadsBase, ReadsWritten, ReadsOriginal, SampleRight, AcceptsTaken, AcceptedIsTrue, Demand2}
+use Rattle.guarantees.proofs.Marks.{held-marked, none-bad, none-absent, none-needed}
 
 -- ---- a table that was read whole
 
@@ -66,18 +54,10 @@ module _ (depth : ℕ) (table : List ℕ) (w : readBytesOf depth table ≡ Whole
 -- ---- writing
 
 -- the tests that a tree that was written has passed
-record Coding (d : ℕ) (table block t m root : List ℕ) : Type 0 where
-  fit-depth : depthFits d ≡ true
-  whole-table : readBytesOf d table ≡ Whole
-  block-full : length block ≡ 256 * kOf (d - 1)
-  tree-full : length t ≡ 256 * places tree d
-  marks-full : length m ≡ places tree d
-  root-full : length root ≡ 512
-
-coding : (d : ℕ) (table block t m root : List ℕ) → treeWritten d table block t m root ≡ Done → Coding d table block t m root
+coding : (d : ℕ) (table block t m root : List ℕ) → treeWritten d table block t m root ≡ Done → WriterInput d table block t m root
 unfolding treeWritten
 coding d table block t m root =
-    let P : Answer → Type 0 = λ a. a ≡ Done → Coding d table block t m root in
+    let P : Answer → Type 0 = λ a. a ≡ Done → WriterInput d table block t m root in
     pick-ind P (depthFits d)
     (λ f.
     pick-ind P
@@ -97,6 +77,12 @@ coding d table block t m root =
     (λ l e. absurd (omega (arith, ap numberOf e))))
     (λ f e. absurd (omega (arith, ap numberOf e)))
 
+written-when : (d : ℕ) (table block t m root : List ℕ) → WriterInput d table block t m root → treeWritten d table block t m root ≡ Done
+written-when d table block t m root k =
+    sym (write-read d table block t m root (k .fit-depth) (eq-eqb (length block) (256 * kOf (d - 1)) (k .block-full))
+    (yes-and (eq-eqb (length t) (256 * places tree d) (k .tree-full)) (eq-eqb (length m) (places tree d) (k .marks-full))) (k .root-full) Whole
+    (sym (k .whole-table)))
+
 module _ (depth : ℕ) (table block : List ℕ) where
   abbrev tbl : List (List (List ℕ))
   tbl = equationsOf table
@@ -105,7 +91,7 @@ module _ (depth : ℕ) (table block : List ℕ) where
     abbrev new : List ℕ
     new = writeTree tree symbolHash tbl block t
 
-    c : Coding depth table block t m root
+    c : WriterInput depth table block t m root
     c = coding depth table block t m root e
 
     deep : length tbl ≡ depth
@@ -216,45 +202,36 @@ reads-base depth t m b e =
       λ i h. (rw e (block-symbol tree depth t i h), held-marked m (depth - 1) i (low .before i (omega arith) (omega (arith, r .base-held)))),
     )
 
--- no mark of a written tree is bad, and none of its data symbols absent
-module _ (depth : ℕ) (h : 1 ≤ depth) where
-  abbrev ones : List ℕ
-  ones = writtenMarks tree depth
+module _ (depth : ℕ) (t m : List ℕ) (k : CompleteTree depth t m) where
+  sizes : (eqb (length t) (256 * places tree depth) && eqb (length m) (places tree depth)) ≡ true
+  sizes = yes-and (eq-eqb (length t) (256 * places tree depth) (k .tree-full)) (eq-eqb (length m) (places tree depth) (k .marks-full))
 
-  none-bad : length ones ≤ lowestBad ones
-  none-bad =
-      let low = lowest-is (isBad ones) 0 (length ones) in
-      elim (decLt (lowestBad ones) (length ones)) [
-        | yes q ↦
-            absurd (true≢false
-            (sym (low .found (omega arith))
-            ∙ bad-no ones (lowestBad ones) (omega (arith, marks-one tree depth (lowestBad ones) (omega (arith, marks-length tree depth))))))
-        | no q ↦ omega arith
-      ]
+  no-bad : length m ≤ lowestBad m
+  no-bad = none-bad m (λ p h. omega (arith, k .all-held p (omega (arith, k .marks-full))))
 
-  none-absent : kOf (depth - 1) ≤ lowestAbsent depth ones
-  unfolding absentAt
-  none-absent =
-      let low = lowest-is (absentAt tree ones (depth - 1)) 0 (kOf (depth - 1)) in
-      let p : ℕ = lowestAbsent depth ones in
-      elim (decLt p (kOf (depth - 1))) [
-        | yes q ↦
-            absurd (true≢false
-            (sym (low .found (omega arith))
-            ∙ ap not
-            (eq-eqb (getD ones (place tree (depth - 1) p) 0) 1
-            (marks-one tree depth (place tree (depth - 1) p)
-            (place-lt tree depth (depth - 1) p (omega arith) (omega (arith, tree-ok .shape .within (depth - 1))))))))
-        | no q ↦ omega arith
-      ]
+  some-layer : 1 ≤ depth
+  some-layer = depth-is depth (k .fit-depth) .0
+
+  complete-read : (b : List ℕ) → length b ≡ 256 * kOf (depth - 1) → blockRead depth t m b ≡ Done
+  complete-read b l =
+      sym (read-done depth t m b (k .fit-depth) sizes (eq-eqb (length b) (256 * kOf (depth - 1)) l) no-bad (none-absent depth some-layer m (k .all-held)))
+
+  complete-sampled : (i : ℕ) (s : List ℕ) → i < nOf (depth - 1) → length s ≡ 256 * sampleSize depth → sampleTaken depth i t m s ≡ Done
+  complete-sampled i s h l =
+      sym (sample-end depth i t m s (k .fit-depth) sizes l no-bad h)
+      ∙ ap needed (none-needed depth some-layer m (k .all-held) i (some-layer, depth-is depth (k .fit-depth) .1, h))
 
 reads-written : ReadsWritten
 reads-written depth table block t m root b e l =
-    let k = c depth table block t m root e in
     let done : blockRead depth (new depth table block t m root e) (writtenMarks tree depth) b ≡ Done =
-    sym (read-done depth (new depth table block t m root e) (writtenMarks tree depth) b (k .fit-depth)
-    (yes-and (eq-eqb _ _ (new-length depth table block t m root e)) (eq-eqb _ _ (marks-length tree depth))) (eq-eqb (length b) (256 * kOf (depth - 1)) l)
-    (none-bad depth (depth-is depth (k .fit-depth) .0)) (none-absent depth (depth-is depth (k .fit-depth) .0))) in
+    complete-read depth (new depth table block t m root e) (writtenMarks tree depth)
+    (record {
+      fit-depth = c depth table block t m root e .fit-depth;
+      tree-full = new-length depth table block t m root e;
+      marks-full = marks-length tree depth;
+      all-held = marks-one tree depth;
+    })
+    b l in
     (rw e done, rw (e, done) (back depth table block t m root e))
 
 reads-original : ReadsOriginal
@@ -359,11 +336,14 @@ pub demand-2 : Demand2
 demand-2 =
     record {
       writes-exactly = λ depth table block t m root e. exactly depth table block t m root e;
+      writes-just-when = λ depth table block t m root. (coding depth table block t m root, written-when depth table block t m root);
       writes-the-same = λ depth table block t m root t′ m′ root′ e e′. same-again depth table block t m root t′ m′ root′ e e′;
+      reads-complete = λ depth t m b k. complete-read depth t m k b;
       reads-base = reads-base;
       reads-written = reads-written;
       reads-original = reads-original;
       accepts-just-when = λ depth i root s. (sample-right depth i root s, right-sample depth i root s);
+      takes-complete = λ depth i t m s k. complete-sampled depth t m k i s;
       accepts-taken = accepts-taken;
       accepted-is-true = accepted-is-true;
     }

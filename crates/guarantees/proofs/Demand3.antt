@@ -1,33 +1,75 @@
 -- Demand 3: the checker is sound, and every repair of well-formed input ends in one of four ways.
 use mathlib.Core.Path.{_≡_, refl, sym, ap, _∙_}
 use mathlib.Core.Logic.{_⊎_, inl, inr}
-use mathlib.Core.Bool.{false}
 use mathlib.Core.List.{List}
-use Prim.Native.Nat.{ℕ}
+use Prim.Native.Nat.{ℕ, _*_, _≤_}
 use native.Mathlib.Omega.{arith}
-use lib.ListN.{getD}
-use lib.Dec.{eqb}
-use borrow.Author.Tests.{eqb-true}
-use Rattle.octets.proofs.Choice.{not-no}
+use lib.ListN.{length}
+use lib.Dec.{ltb}
+use borrow.Author.Tests.{eq-eqb, ltb-false}
+use Rattle.octets.specs.Choice.{pick}
+use Rattle.octets.proofs.Choice.{pick-ind, yes-and}
+use Rattle.parity_table.specs.Shape.{depthFits}
+use Rattle.parity_table.specs.Bytes.{readBytesOf}
+use Rattle.parity_table.specs.declared.Answer.the-variants.{Whole}
 use Rattle.symbol_hash.specs.SymbolHash.{symbolHash}
-use Rattle.model.specs.Shape.{tree, place}
-use Rattle.model.specs.Repair.{End, working, whole, fault, unavailable, twins, St, absentAt}
+use Rattle.model.specs.Shape.{tree, places}
+use Rattle.model.specs.Repair.{End, working, whole, fault, unavailable, twins, St}
 use Rattle.model.specs.Ends.{Stopping, EndOk, Ended}
 use Rattle.cedunmi.specs.declared.Answer.{Answer}
-use Rattle.cedunmi.specs.declared.Answer.the-variants.{Done}
-use Rattle.cedunmi.specs.Repairs.{repairTested, repairOf, repaired, resultBy, leftBy}
+use Rattle.cedunmi.specs.declared.Answer.the-variants.{Done, Stopped}
+use Rattle.cedunmi.specs.Repairs.{repairLengths, repairTested, repairOf, repaired, resultBy, leftBy}
+use Rattle.cedunmi.specs.declared.Stop.the-variants.{Mark}
+use Rattle.cedunmi.specs.Stops.{numberOf}
+use Rattle.cedunmi.specs.Marks.{lowestBad}
+use Rattle.cedunmi.proofs.LoadLaws.{table-done}
+use Rattle.cedunmi.proofs.RepairLaws.{tested-done}
 use Rattle.cedunmi.proofs.Sound.{checker-sound}
 use Rattle.cedunmi.proofs.Ends.{formed, deep, four-ways, fault-accepted}
 use Rattle.guarantees.specs.Terms.{equationsOf}
-use Rattle.guarantees.specs.Demand3.{Checker, AsTheSteps, EndsWhole, EndsFault, EndsUnavailable, EndsTwins, Repair, Demand3}
+use Rattle.guarantees.specs.Demand3.{Checker, RepairInput, AsTheSteps, EndsWhole, EndsFault, EndsUnavailable, EndsTwins, Repair, Demand3}
+use Rattle.guarantees.proofs.Marks.{held-marked, none-bad, all-right}
 
 checker : Checker
 checker depth root table f agr b e = checker-sound depth root table b e f agr
 
--- a symbol that isn't absent has the mark 1
-pub held-marked : (m : List ℕ) (j i : ℕ) → absentAt tree m j i ≡ false → getD m (place tree j i) 0 ≡ 1
-unfolding absentAt
-held-marked m j i e = eqb-true (getD m (place tree j i) 0) 1 (not-no (eqb (getD m (place tree j i) 0) 1) e)
+-- ---- well-formed input
+
+-- the marks of input that passed its tests
+marks-tested : (d : ℕ) (root table t m o : List ℕ) → repairTested d root table t m o ≡ Done → length m ≤ lowestBad m
+unfolding repairTested
+marks-tested d root table t m o =
+    let P : Answer → Type 0 = λ a. a ≡ Done → length m ≤ lowestBad m in
+    pick-ind P (depthFits d)
+    (λ f.
+    pick-ind P (repairLengths d root t m o)
+    (λ l e.
+    pick-ind P (ltb (lowestBad m) (length m)) (λ w q. absurd (omega (arith, ap numberOf q))) (λ w q. ltb-false (lowestBad m) (length m) w)
+    (table-done (readBytesOf d table) (pick (ltb (lowestBad m) (length m)) (Stopped (Mark (lowestBad m))) Done) e .1))
+    (λ l e. absurd (omega (arith, ap numberOf e))))
+    (λ f e. absurd (omega (arith, ap numberOf e)))
+
+module _ (d : ℕ) (root table t m o : List ℕ) where
+  input-of : repairTested d root table t m o ≡ Done → RepairInput d root table t m o
+  input-of e =
+      let k = formed d root table t m o e in
+      record {
+        fit-depth = k .fit-depth;
+        whole-table = k .whole-table;
+        root-full = k .root-full;
+        tree-full = k .tree-full;
+        marks-full = k .marks-full;
+        out-full = k .out-full;
+        marks-right = λ p h. all-right m (marks-tested d root table t m o e) p (omega (arith, k .marks-full));
+      }
+
+  of-input : RepairInput d root table t m o → repairTested d root table t m o ≡ Done
+  of-input k =
+      sym (tested-done d root table t m o (k .fit-depth) (k .root-full)
+      (yes-and (eq-eqb (length t) (256 * places tree d) (k .tree-full)) (eq-eqb (length m) (places tree d) (k .marks-full))) (k .out-full) Whole
+      (sym (k .whole-table)) refl (none-bad m (λ p h. k .marks-right p (omega (arith, k .marks-full)))))
+
+-- ---- the four ways
 
 module _ (depth : ℕ) (root table t m o : List ℕ) (e : repairTested depth root table t m o ≡ Done) where
   abbrev st : St
@@ -98,4 +140,9 @@ module _ (depth : ℕ) (root table t m o : List ℕ) (e : repairTested depth roo
   repair-so = record { as-the-steps = as-steps; one-of-four = four (st .end) refl (so .ends); always = so .always }
 
 pub demand-3 : Demand3
-demand-3 = record { checker = checker; repairs = repair-so }
+demand-3 =
+    record {
+      checker = checker;
+      well-formed-just-when = λ depth root table t m o. (input-of depth root table t m o, of-input depth root table t m o);
+      repairs = repair-so;
+    }

@@ -1,5 +1,6 @@
+pub mod Marks
 pub mod Demand1
-pub mod Demand3
 pub mod Demand2
+pub mod Demand3
 pub mod RepairCases
 pub mod Cases

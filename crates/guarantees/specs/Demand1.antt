@@ -7,6 +7,7 @@
 -- names is only read. That every call ends, and reads and writes only inside what it was lent, is the language's own theorem of every function.
 use mathlib.Core.Path.{_≡_}
 use mathlib.Core.Logic.{_≢_}
+use mathlib.Core.Bool.{true}
 use mathlib.Core.List.{List, [], _∷_}
 use Prim.Native.Nat.{ℕ, _*_}
 use lib.ListN.{length}
@@ -14,11 +15,12 @@ use Rattle.octets.specs.BigEndian.{bytesOf}
 use Rattle.sha256.specs.Hash.{sha256}
 use Rattle.sha256.specs.Call.{answer, after, number}
 use Rattle.sha256.specs.declared.Answer.the-variants as hashed
+use Rattle.parity_table.specs.Shape.{depthFits}
 use Rattle.parity_table.specs.declared.Answer.{Answer as Read}
 use Rattle.parity_table.specs.declared.Answer.the-variants.{Wrong, Whole}
 use Rattle.parity_table.specs.Right as reader
 use Rattle.parity_table.specs.Table.{WellFormed, FirstWrong}
-use Rattle.parity_table.specs.Bytes.{wordsOf, readBytesOf}
+use Rattle.parity_table.specs.Bytes.{wordsOf, lengthFits, readBytesOf}
 use Rattle.parity_table.specs.House.{houseWords, houseAnswer, houseOut}
 use Rattle.model.specs.Shape.{tree}
 use Rattle.model.specs.Symbols.{symAt}
@@ -57,6 +59,7 @@ pub record TableCheck (depth : ℕ) (b : List ℕ) : Type 0 where
   pub names : readBytesOf depth b ≢ Whole → Among (reader.numberOf (readBytesOf depth b)) (1 ∷ 2 ∷ 3 ∷ [])
   pub first-wrong : (i : ℕ) → readBytesOf depth b ≡ Wrong i → FirstWrong depth (wordsOf b) i
   pub well-formed : readBytesOf depth b ≡ Whole → WellFormed depth (wordsOf b)
+  pub accepts : depthFits depth ≡ true → lengthFits (length b) ≡ true → WellFormed depth (wordsOf b) → readBytesOf depth b ≡ Whole
 
 -- the house table, as bytes, into the buffer `lent`
 pub record HouseWriter (depth : ℕ) (lent : List ℕ) (a : Read) : Type 0 where

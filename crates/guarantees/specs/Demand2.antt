@@ -59,6 +59,19 @@ module _ (depth : ℕ) (table block t m root : List ℕ) where
 abbrev pub WritesExactly : Type 0
 WritesExactly = (depth : ℕ) (table block t m root : List ℕ) → treeWritten depth table block t m root ≡ Done → Exactly depth table block t m root
 
+-- a call is done just when depth, lengths and table are right
+pub record WriterInput (depth : ℕ) (table block t m root : List ℕ) : Type 0 where
+  pub fit-depth : depthFits depth ≡ true
+  pub whole-table : readBytesOf depth table ≡ Whole
+  pub block-full : length block ≡ 256 * kOf (depth - 1)
+  pub tree-full : length t ≡ 256 * places tree depth
+  pub marks-full : length m ≡ places tree depth
+  pub root-full : length root ≡ 512
+
+abbrev pub WritesJustWhen : Type 0
+WritesJustWhen =
+    (depth : ℕ) (table block t m root : List ℕ) → (treeWritten depth table block t m root ≡ Done) ↔ WriterInput depth table block t m root
+
 -- whatever the lent buffers held
 abbrev pub WritesTheSame : Type 0
 WritesTheSame =
@@ -68,6 +81,17 @@ WritesTheSame =
     × (rootAfter depth table block t m root ≡ rootAfter depth table block t′ m′ root′)
 
 -- ---- "A complete tree gives back exactly that block"
+
+-- every mark is 1
+pub record CompleteTree (depth : ℕ) (t m : List ℕ) : Type 0 where
+  pub fit-depth : depthFits depth ≡ true
+  pub tree-full : length t ≡ 256 * places tree depth
+  pub marks-full : length m ≡ places tree depth
+  pub all-held : (p : ℕ) → p < places tree depth → getD m p 0 ≡ 1
+
+-- of a complete tree a block is read
+abbrev pub ReadsComplete : Type 0
+ReadsComplete = (depth : ℕ) (t m b : List ℕ) → CompleteTree depth t m → length b ≡ 256 * kOf (depth - 1) → blockRead depth t m b ≡ Done
 
 -- reading back copies the base's data symbols in order, each of which is marked held
 abbrev pub ReadsBase : Type 0
@@ -106,6 +130,11 @@ pub record SampleRight (depth i : ℕ) (root s : List ℕ) : Type 0 where
 abbrev pub AcceptsJustWhen : Type 0
 AcceptsJustWhen = (depth i : ℕ) (root s : List ℕ) → (sampleChecked depth i root s ≡ Done) ↔ SampleRight depth i root s
 
+-- of a complete tree every sample is taken
+abbrev pub TakesComplete : Type 0
+TakesComplete =
+    (depth i : ℕ) (t m s : List ℕ) → CompleteTree depth t m → i < nOf (depth - 1) → length s ≡ 256 * sampleSize depth → sampleTaken depth i t m s ≡ Done
+
 -- a sample that was taken of a tree that agrees is accepted
 abbrev pub AcceptsTaken : Type 0
 AcceptsTaken =
@@ -122,10 +151,13 @@ AcceptedIsTrue =
 
 pub record Demand2 : Type 0 where
   pub writes-exactly : WritesExactly
+  pub writes-just-when : WritesJustWhen
   pub writes-the-same : WritesTheSame
+  pub reads-complete : ReadsComplete
   pub reads-base : ReadsBase
   pub reads-written : ReadsWritten
   pub reads-original : ReadsOriginal
   pub accepts-just-when : AcceptsJustWhen
+  pub takes-complete : TakesComplete
   pub accepts-taken : AcceptsTaken
   pub accepted-is-true : AcceptedIsTrue

@@ -1,16 +1,18 @@
 -- Demand 3. Statements only. The definitions are those of crate `model` over `symbolHash`, which is SHA-256 of a symbol; the table is what the
 -- reader says of its bytes.
 use mathlib.Core.Path.{_≡_}
-use mathlib.Core.Logic.{_⊎_, _≢_}
+use mathlib.Core.Logic.{_⊎_, _↔_, _≢_}
 use mathlib.Core.Bool.{Bool, true}
 use mathlib.Core.List.{List}
-use Prim.Native.Nat.{ℕ, _<_}
+use Prim.Native.Nat.{ℕ, _+_, _-_, _*_, _≤_, _<_}
 use lib.ListN.{length, getD, take, drop}
 use Rattle.sha256.specs.Hash.{sha256}
-use Rattle.parity_table.specs.Shape.{nOf}
+use Rattle.parity_table.specs.Shape.{depthFits, nOf}
+use Rattle.parity_table.specs.Bytes.{readBytesOf}
+use Rattle.parity_table.specs.declared.Answer.the-variants.{Whole}
 use Rattle.parity_table.specs.Table.{layerOf, equationOf}
 use Rattle.symbol_hash.specs.SymbolHash.{symbolHash}
-use Rattle.model.specs.Shape.{tree, place}
+use Rattle.model.specs.Shape.{tree, place, places}
 use Rattle.model.specs.Symbols.{count, symbolIn, symAt, committed}
 use Rattle.model.specs.Coded.{Agrees}
 use Rattle.model.specs.Repair.{whole, fault, unavailable, twins, St, absentAt}
@@ -106,6 +108,20 @@ module _ (depth : ℕ) (root table t m o : List ℕ) where
     -- touched", "each symbol then marked held in an entered layer has the committed hash", "every layer above the last one entered is complete"
     pub always : Always tree symbolHash root (equationsOf table) t m (steps .tree) (steps .marks) (steps .stored) (steps .entered)
 
+-- "Input to a repair is well-formed when no numbered test turns it away": depth, lengths and table are right, and every mark is 0 or 1
+pub record RepairInput (depth : ℕ) (root table t m o : List ℕ) : Type 0 where
+  pub fit-depth : depthFits depth ≡ true
+  pub whole-table : readBytesOf depth table ≡ Whole
+  pub root-full : length root ≡ 512
+  pub tree-full : length t ≡ 256 * places tree depth
+  pub marks-full : length m ≡ places tree depth
+  pub out-full : length o ≡ 12 + 256 * (8 * depth - 1)
+  pub marks-right : (p : ℕ) → p < places tree depth → getD m p 0 ≤ 1
+
+abbrev pub WellFormedJustWhen : Type 0
+WellFormedJustWhen =
+    (depth : ℕ) (root table t m o : List ℕ) → (repairTested depth root table t m o ≡ Done) ↔ RepairInput depth root table t m o
+
 abbrev pub Repairs : Type 0
 Repairs = (depth : ℕ) (root table t m o : List ℕ) → repairTested depth root table t m o ≡ Done → Repair depth root table t m o
 
@@ -113,4 +129,5 @@ Repairs = (depth : ℕ) (root table t m o : List ℕ) → repairTested depth roo
 
 pub record Demand3 : Type 0 where
   pub checker : Checker
+  pub well-formed-just-when : WellFormedJustWhen
   pub repairs : Repairs

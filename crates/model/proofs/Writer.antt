@@ -30,7 +30,7 @@ marks-length S d = length-replicate (places S d) 1
 -- ---- the tree
 
 -- the block that is read back has the base's data symbols
-block-symbol : (S : Shape) (d : ℕ) (t : List ℕ) (i : ℕ) → i < S .k (d - 1) → symbolIn (blockOf S d t) i ≡ symAt S t (d - 1) i
+pub block-symbol : (S : Shape) (d : ℕ) (t : List ℕ) (i : ℕ) → i < S .k (d - 1) → symbolIn (blockOf S d t) i ≡ symAt S t (d - 1) i
 unfolding symAt symbolIn place blockOf
 block-symbol S d t i h =
     let o : ℕ = 256 * (places S (d - 1) + 0) in
