@@ -108,8 +108,7 @@ pub record StopsWith1 (depth : ℕ) : Type 0 where
   pub proof-checker : (root table b : List ℕ) → numberOf (proofChecked depth root table b) ≡ 1
   pub repairer : (root table t m o : List ℕ) → numberOf (repairTested depth root table t m o) ≡ 1
 
--- a proof of a layer and of an equation with at most 8 members has at most this many bytes, some equation's has so many, and so has every proof
--- that is accepted
+-- the longest proof: of an equation of the base with 8 members; none of any layer and of at most 8 members is longer, and no longer one is accepted
 pub record Longest (depth bytes : ℕ) : Type 0 where
   pub reached : proofLength (depth - 1) 8 ≡ bytes
   pub none-longer : (j d : ℕ) → j < depth → d ≤ 8 → proofLength j d ≤ bytes
