@@ -25,7 +25,7 @@ def blocks(page):
             words, lines = line[3:].split(), []
         else:
             yield words, lines
-            words = None
+            words, lines = None, []
 
 
 def script(lines):
