@@ -19,17 +19,23 @@ static const char usage[] =
     "DEPTH and NUMBER are decimal numbers, the others are files. Exit status: 0 accepted; 1 to 8 not,\n"
     "and why not; 64 bad usage; 66 a file cannot be read.\n";
 
+/* What the numbers of the two checkers mean. */
 static const char *const meanings[] = {
-    "accepted: ",
-    "the depth is not 1 to 5",
-    "a file's length is wrong",
-    "the table breaks a rule",
-    "a mark is neither 0 nor 1",
-    "the base symbol number is not below n",
-    "the proof's head has a wrong kind, layer or equation, or the equation has no such member",
-    "a hash doesn't lead to the root",
-    "the withheld hash fits, no fault shown",
+    [CMT_DONE] = "accepted: ",
+    [CMT_WRONG_DEPTH] = "the depth is not 1 to 5",
+    [CMT_WRONG_LENGTH] = "a file's length is wrong",
+    [CMT_WRONG_TABLE] = "the table breaks a rule",
+    [CMT_WRONG_NUMBER] = "the base symbol number is not below n",
+    [CMT_WRONG_HEAD] = "the proof's head has a wrong kind, layer or equation, or the equation has no such member",
+    [CMT_WRONG_HASH] = "a hash doesn't lead to the root",
+    [CMT_NO_FAULT] = "the withheld hash fits, no fault shown",
 };
+
+static const char *meaning(uint64_t status)
+{
+    int known = status < sizeof meanings / sizeof *meanings && meanings[status] != NULL;
+    return known ? meanings[status] : "a number that no checker gives";
+}
 
 struct file {
     uint8_t *bytes;
@@ -117,7 +123,7 @@ static uint64_t check_proof(char **words)
 static int explain(uint64_t result, const char *accepted)
 {
     uint64_t status = cmt_number(result);
-    fprintf(stderr, "bench: %s", meanings[status]);
+    fprintf(stderr, "bench: %s", meaning(status));
     if (status == CMT_DONE) {
         fputs(accepted, stderr);
     } else if (status == CMT_WRONG_TABLE) {
