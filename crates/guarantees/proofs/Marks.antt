@@ -61,7 +61,7 @@ module _ (depth : ℕ) (some : 1 ≤ depth) (m : List ℕ) (held : (p : ℕ) →
       ]
 
   pub none-needed : (i : ℕ) → BaseSymbol depth i → firstAbsent depth i m ≡ Nothing
-  unfolding firstAbsent foundBelow absent
+  unfolding firstAbsent foundBelow absent absentAt
   none-needed i base =
       let low = lowest-is (absent depth i m) 0 (sampleSize depth) in
       let x : ℕ = lowest (absent depth i m) 0 (sampleSize depth) in
