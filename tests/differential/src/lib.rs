@@ -4,17 +4,17 @@
 
 pub mod difference;
 pub mod inputs;
-pub mod lent;
+mod lent;
 pub mod messages;
-pub mod met;
+mod met;
 pub mod proofs;
 pub mod random;
 pub mod repairs;
-pub mod results;
+mod results;
 pub mod right;
 pub mod samples;
 pub mod sha256;
-pub mod system;
+mod system;
 pub mod tables;
 pub mod trees;
 pub mod volumes;

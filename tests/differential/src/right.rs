@@ -1,5 +1,7 @@
 //! The library as it must be, made from the reference: what the tests of the
-//! comparisons put a wrong function into.
+//! comparisons put a wrong function into. What each function asks of its caller
+//! is said once, in `include/cedunmi.h`.
+#![allow(clippy::missing_safety_doc, clippy::len_without_is_empty)]
 
 use crate::results::number;
 use cedunmi_sys::Library;

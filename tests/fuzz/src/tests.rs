@@ -11,7 +11,7 @@ use std::cell::Cell;
 /// Recipes to try, at the most.
 const TRIED: usize = 20_000;
 
-thread_local!(static WRONG: Cell<u64> = Cell::new(0));
+thread_local!(static WRONG: Cell<u64> = const { Cell::new(0) });
 
 /// A result without its value; that of a repair that ended keeps its end.
 fn outcome(result: u64) -> u64 {
