@@ -3,7 +3,7 @@
 
     session.py PAGE
 
-A fenced block of the kind `hex NAME` is saved under that name. Blocks of the
+A fenced block of the kind `hex NAME` or `c NAME` is saved under that name. Blocks of the
 kind `console` are one session of sh: a line after `$ ` is a command, lines after
 `> ` carry it on, and the others are what it prints. A page without a command
 fails.
@@ -43,7 +43,7 @@ def script(lines):
 def main(page):
     session = []
     for words, lines in blocks(page):
-        if words[:1] == ["hex"]:
+        if words[:1] in (["hex"], ["c"]):
             Path(words[1]).write_text("\n".join(lines) + "\n")
         elif words == ["console"]:
             session += lines
