@@ -1,6 +1,7 @@
 /*
  * The service bench program: checks a sample or a fault proof that came as
- * files. The exit status is 01's number, and standard error says what it means.
+ * files. The exit status is the call's number (include/cedunmi.h), and standard error
+ * says what it means.
  */
 #include "cedunmi.h"
 
@@ -9,15 +10,16 @@
 #include <stdlib.h>
 #include <string.h>
 
-/* Exit statuses that are none of 01's numbers. */
+/* Exit statuses that are no call's numbers. */
 enum { WRONG_USE = 64, UNREADABLE = 66 };
 
 static const char usage[] =
     "bench sample DEPTH NUMBER ROOT SAMPLE    check a sample of a base symbol\n"
     "bench proof DEPTH ROOT TABLE PROOF       check a fault proof\n"
     "\n"
-    "DEPTH and NUMBER are decimal numbers, the others are files. Exit status: 0 accepted; 1 to 8 not,\n"
-    "and why not; 64 bad usage; 66 a file cannot be read.\n";
+    "DEPTH and NUMBER are decimal numbers, the others are files. DEPTH, ROOT and TABLE must come from where\n"
+    "they can be trusted. Exit status: 0 accepted; 1 to 8 not, and why not; 64 bad usage; 66 a file cannot\n"
+    "be read.\n";
 
 /* What the numbers of the two checkers mean. */
 static const char *const meanings[] = {
@@ -25,7 +27,7 @@ static const char *const meanings[] = {
     [CMT_WRONG_DEPTH] = "the depth is not 1 to 5",
     [CMT_WRONG_LENGTH] = "a file's length is wrong",
     [CMT_WRONG_TABLE] = "the table breaks a rule",
-    [CMT_WRONG_NUMBER] = "the base symbol number is not below n",
+    [CMT_WRONG_NUMBER] = "the base has no symbol of this number",
     [CMT_WRONG_HEAD] = "the proof's head has a wrong kind, layer or equation, or the equation has no such member",
     [CMT_WRONG_HASH] = "a hash doesn't lead to the root",
     [CMT_NO_FAULT] = "the withheld hash fits, no fault shown",
@@ -139,7 +141,7 @@ int main(int count, char **words)
         return explain(check_sample(words + 2), "every hash in the sample leads to the root");
     }
     if (count == 6 && strcmp(words[1], "proof") == 0) {
-        return explain(check_proof(words + 2), "the proof shows a fault, the volume was coded wrongly");
+        return explain(check_proof(words + 2), "the proof shows that the volume was not coded as this table says");
     }
     fputs(usage, stderr);
     return WRONG_USE;

@@ -15,11 +15,15 @@ fn is(text: &[u8], word: &[u8]) -> bool {
     octets::equal_at(text, word, 0)
 }
 
-// The number that argument i writes in decimal digits; a number that no call takes where it is missing, longer than nine digits, or none.
+// The number that argument i writes in decimal digits; a number that no call takes where it is missing, empty, longer than
+// nine digits, or none.
 fn number(i: usize) -> usize {
     let mut text = [0u8; 9];
     let n = os::arg(i, &mut text);
     if os::errno() != 0 {
+        return 1000000000;
+    }
+    if n == 0 {
         return 1000000000;
     }
     digits(&text[..n])

@@ -1,4 +1,4 @@
-//! What losses the house table survives, and how many samples show that something is withheld.
+//! What losses the house table survives, how many samples show that something is withheld, and how long samples and proofs are.
 //!
 //!     resilience tables    the tables of docs/BENCHMARKS.md
 //!     resilience curve     lines of DEPTH, PERCENT and the chance that a repair is whole after such a loss
@@ -7,10 +7,12 @@ mod layer;
 mod losses;
 mod samples;
 mod set;
+mod sizes;
 mod stopping;
 
 use layer::Layer;
 use losses::{average, chance, nearly_always, survived};
+use reference::proof::proof_len;
 use reference::sample::sample_len;
 use reference::tree::{block_len, symbols};
 use samples::{needed, needed_different, showing};
@@ -22,7 +24,7 @@ fn main() -> ExitCode {
     let words: Vec<String> = std::env::args().skip(1).collect();
     match words.iter().map(String::as_str).collect::<Vec<_>>()[..] {
         ["tables"] => {
-            println!("{}\n\n{}\n\n{}", layers(), trees(), withheld());
+            println!("{}\n\n{}\n\n{}\n\n{}", lengths(), layers(), trees(), withheld());
             ExitCode::SUCCESS
         }
         ["curve"] => {
@@ -54,6 +56,19 @@ fn grouped(number: usize) -> String {
         return number.to_string();
     }
     format!("{},{:03}", grouped(number / 1000), number % 1000)
+}
+
+/// Samples and proofs of a fault in the base, beside 003's formulas: the longest proof has 8 members, one by the house table 4.
+fn lengths() -> String {
+    let head = "Bytes at depth | a sample | by (2) of 003 | the longest proof | by (4) of 003 | a proof by the house table | by (4) of 003";
+    let rows = DEPTHS.map(|depth| {
+        let proof = |d| {
+            format!("{} | {}", grouped(proof_len(depth - 1, d)), grouped(sizes::proof(depth, d)))
+        };
+        let sample = format!("{} | {}", grouped(sample_len(depth)), grouped(sizes::sample(depth)));
+        format!("{depth} | {sample} | {} | {}", proof(8), proof(4))
+    });
+    markdown(head, rows)
 }
 
 /// Each layer by itself.
