@@ -1,5 +1,10 @@
-# The proofs and everything that is tested beside them; README.md says what each needs.
-.PHONY: test bench fuzz
+# The proofs and everything that is tested beside them: README.md and tests/README.md say what they need; benchmarks/run says what it lacks.
+.PHONY: help test benchmarks fuzz
+
+help:
+	@echo 'make test         every proof from nothing, every edit that must be refused, every test; it empties target/ first'
+	@echo 'make benchmarks   measures, and renews docs/BENCHMARKS.md and its picture'
+	@echo 'make fuzz         fuzzes each of the nine calls for SECONDS (600)'
 
 # How long `make fuzz` fuzzes each of the nine calls.
 SECONDS = 600
@@ -7,9 +12,9 @@ SECONDS = 600
 test:
 	@tests/gate
 
-bench:
+benchmarks:
 	@rt staticlib cedunmi_c >/dev/null
-	@benchmarks/run
+	@benchmarks/run --write
 
 fuzz:
 	@rt staticlib cedunmi_c >/dev/null

@@ -6,6 +6,8 @@
 import ctypes
 import sys
 
+if len(sys.argv) != 2:
+    sys.exit(__doc__)
 library = ctypes.CDLL(sys.argv[1])
 
 

@@ -2,7 +2,9 @@
  * Cedunmi: coded Merkle trees, proved.
  *
  * Link with libcedunmi_c.a. The library needs no start-up call, keeps nothing
- * between calls and allocates no memory.
+ * between calls and allocates no memory. docs/FORMAT.md has every byte of the
+ * buffers, and says what a symbol, a mark, a layer, the base, a place and a
+ * withheld member are.
  *
  * Results. Every call returns one uint64_t. Its low eight bits are a number:
  *
@@ -20,18 +22,31 @@
  *   9  stopped: a needed symbol is absent; the value is the index in the sample
  *      of the first, or, reading a block, its base number
  *
- * A call that stops changes no byte of any buffer. The bits above the low
- * eight are the value that goes with the number, zero where there is none.
- * Read them with cmt_number() and cmt_value(); of a repair that ended, with
- * cmt_repair_end() and the functions after it.
+ * A call makes its tests in the order in which its numbers are listed below,
+ * and stops at the first that fails. A call that stops changes no byte of any
+ * buffer. The bits above the low eight are the value that goes with the number,
+ * zero where there is none. Read them with cmt_number() and cmt_value(); of a
+ * repair that ended, with cmt_repair_end() and the functions after it.
  *
- * Buffers. Every pointer is followed by its length in bytes. A pointer is not
- * NULL, even where its length is 0, and it points to at least that many bytes.
- * The buffers of one call do not overlap. A call reads and writes only inside
- * them.
+ * Buffers. Every pointer is followed by its length in bytes. What the caller
+ * must see to, since no call can test it, and without which nothing is promised:
+ * a pointer is not NULL, even where its length is 0, and points to at least that
+ * many bytes; the buffers of one call do not overlap; nobody else changes them
+ * during the call. Any alignment will do. What a buffer that is only written
+ * held before does not matter. A call reads and writes only inside its buffers.
+ *
+ * Lengths are exact: a root has CMT_ROOT_BYTES, and the block, tree, marks,
+ * sample and output of a depth have CMT_BLOCK_BYTES(depth), CMT_TREE_BYTES(depth),
+ * CMT_MARKS_BYTES(depth), CMT_SAMPLE_BYTES(depth) and CMT_OUTPUT_BYTES(depth);
+ * another length is CMT_WRONG_LENGTH. Only the message, the table and the proof
+ * have lengths of their own.
  *
  * Tables. A parity table is a list of 32-bit words, as big-endian bytes, four
  * to a word. A depth of 2^32+1 is not taken for 1: depths are 64-bit numbers.
+ *
+ * Trust. A check is against the root, and against the table and the depth where
+ * it takes them: all three must come from where they can be trusted, since the
+ * root says nothing of the other two.
  *
  * Stack. A call uses at most CMT_STACK_BYTES bytes of the caller's stack. This
  * figure is measured, not proved.
@@ -106,13 +121,16 @@ static inline uint64_t cmt_number(uint64_t result)
     return result % 256;
 }
 
-/* The value that goes with the number, 0 where there is none. */
+/* The value that goes with the number, 0 where there is none; not of a repair that ended. */
 static inline uint64_t cmt_value(uint64_t result)
 {
     return result / 256;
 }
 
-/* How a repair ended, where its number is CMT_DONE. */
+/*
+ * How a repair ended. Test cmt_number() first: of a repair that stopped this is
+ * no end, though it may look like one (where it stopped with 1 or 2, like CMT_WHOLE).
+ */
 static inline uint64_t cmt_repair_end(uint64_t result)
 {
     return result / 256 % 16777216;
@@ -187,10 +205,15 @@ uint64_t cmt_tree_write(uint64_t depth, const uint8_t *table, size_t table_len,
 
 /*
  * Reads the block back: copies the base's data symbols, each of which must be
- * marked held.
+ * marked held. It looks at marks and never at hashes.
  *
- * Stops with 1, 2, 4 (the lowest place with a mark that is neither 0 nor 1) or
- * 9 (the number of the base's first absent data symbol).
+ * CMT_DONE          the block is the base's data symbols, in their order.
+ * CMT_WRONG_DEPTH   the depth is not 1 to CMT_DEPTH_MAX.
+ * CMT_WRONG_LENGTH  a buffer has another length than this depth asks.
+ * CMT_WRONG_MARK    cmt_value() is the lowest place with a mark that is neither
+ *                   0 nor 1, anywhere in the tree.
+ * CMT_ABSENT        cmt_value() is the number of the base's first absent data
+ *                   symbol.
  */
 uint64_t cmt_block_read(uint64_t depth, const uint8_t *tree, size_t tree_len,
                         const uint8_t *marks, size_t marks_len,
@@ -199,8 +222,14 @@ uint64_t cmt_block_read(uint64_t depth, const uint8_t *tree, size_t tree_len,
 /*
  * Takes a sample of a base symbol. It looks at marks and never at hashes.
  *
- * Stops with 1, 2, 4, 5 (the base has no symbol of this number) or 9 (the index
- * in the sample of the first symbol that is absent).
+ * CMT_DONE          the sample is the base symbol, and from each layer above, going
+ *                   up, a data symbol and a parity symbol.
+ * CMT_WRONG_DEPTH   the depth is not 1 to CMT_DEPTH_MAX.
+ * CMT_WRONG_LENGTH  a buffer has another length than this depth asks.
+ * CMT_WRONG_MARK    as for cmt_block_read().
+ * CMT_WRONG_NUMBER  the base has no symbol of this number.
+ * CMT_ABSENT        cmt_value() is the index in the sample of the first symbol that
+ *                   is absent, 0 for the base symbol.
  */
 uint64_t cmt_sample_take(uint64_t depth, uint64_t number,
                          const uint8_t *tree, size_t tree_len,
@@ -210,7 +239,11 @@ uint64_t cmt_sample_take(uint64_t depth, uint64_t number,
 /*
  * Checks a sample of a base symbol against the root.
  *
- * CMT_DONE: every hash in it leads to the root. Stops with 1, 2, 5 or 7.
+ * CMT_DONE          every hash in it leads to the root.
+ * CMT_WRONG_DEPTH   the depth is not 1 to CMT_DEPTH_MAX.
+ * CMT_WRONG_LENGTH  a buffer has another length than this depth asks.
+ * CMT_WRONG_NUMBER  the base has no symbol of this number.
+ * CMT_WRONG_HASH    a hash doesn't lead to the root.
  */
 uint64_t cmt_sample_check(uint64_t depth, uint64_t number,
                           const uint8_t *root, size_t root_len,
@@ -221,7 +254,8 @@ uint64_t cmt_sample_check(uint64_t depth, uint64_t number,
  *
  * CMT_DONE          every hash leads to the root, and the hash of the
  *                   exclusive-or of the given members is not the one committed
- *                   for the withheld one: the volume is not correctly coded.
+ *                   for the withheld one: the volume with this root was not coded
+ *                   as this table says.
  * CMT_WRONG_DEPTH   the depth is not 1 to CMT_DEPTH_MAX.
  * CMT_WRONG_LENGTH  root_len is not CMT_ROOT_BYTES, the table's is over
  *                   CMT_TABLE_BYTES_MAX or no multiple of 4, proof_len is under
@@ -241,15 +275,16 @@ uint64_t cmt_proof_check(uint64_t depth, const uint8_t *root, size_t root_len,
 /*
  * Repairs a tree, layer by layer from the top: makes a held symbol whose hash
  * is not the committed one absent, zeroes the absent places, and forms what the
- * equations give. Stops with 1, 2, 3 or 4. Otherwise the number is CMT_DONE, and
- * cmt_repair_end() is one of:
+ * equations give. Tree and marks are read and written. Stops with 1, 2, 3 or 4,
+ * as cmt_tree_write() and cmt_block_read() do. Otherwise the number is CMT_DONE,
+ * and cmt_repair_end() is one of:
  *
  * CMT_WHOLE         every symbol is marked held, and the tree is correctly
  *                   coded and agrees with the root and the table.
  * CMT_FAULT         the output begins with a fault proof that
  *                   cmt_proof_check() accepts, of cmt_repair_proof_bytes().
- * CMT_UNAVAILABLE   the places of cmt_repair_layer() that are now marked 0
- *                   can't be formed from the rest.
+ * CMT_UNAVAILABLE   no equation has just one of the places of cmt_repair_layer()
+ *                   that are now marked 0, so none gives any of them.
  * CMT_TWINS         the output begins with two different symbols of equal
  *                   SHA-256, CMT_TWINS_BYTES in all.
  *
