@@ -6,7 +6,7 @@
 //!     benchmarks table TRIALS           prints NAME, WORDS and the fewest nanoseconds to read a table
 //!     benchmarks tree TRIALS            prints NAME, DEPTH, BYTES and the fewest nanoseconds to write a tree
 //!     benchmarks repair TRIALS          prints NAME, CASE, DEPTH, SYMBOLS and the fewest nanoseconds to repair a tree
-//!     benchmarks checks TRIALS          prints NAME, proof or sample, BYTES and the fewest nanoseconds to check it
+//!     benchmarks checks TRIALS          prints NAME, proof or sample, DEPTH, BYTES and the fewest nanoseconds to check it
 
 mod checks;
 mod clock;

@@ -53,7 +53,7 @@ pub fn long_table(depth: usize) -> Vec<u32> {
     let mut layers: Layers = reference::table::equations(depth as u64, &to_bytes(&house(depth)))
         .expect("the house table");
     let k = data_symbols(depth - 1);
-    *layers[depth - 1].last_mut().expect("an equation") = vec![0, 1, 2, 3, 4, 5, 6, 4 * k - 1];
+    *layers[depth - 1].last_mut().expect("an equation") = vec![0, 1, 2, 3, 4, 5, 7, 4 * k - 1];
     write(&layers)
 }
 

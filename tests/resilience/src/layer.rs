@@ -43,3 +43,29 @@ impl Layer {
         left
     }
 }
+
+#[cfg(test)]
+mod tests {
+    use super::*;
+
+    /// Each symbol as the set of data symbols whose exclusive-or it is, a bit for each.
+    fn sums(layer: usize) -> Vec<u64> {
+        let k = data_symbols(layer);
+        let mut sums: Vec<u64> = (0..k).map(|data| 1 << data).collect();
+        for members in Layer::house(layer).equations {
+            let others = members.iter().filter(|&&member| member < sums.len());
+            sums.push(others.fold(0, |sum, &member| sum ^ sums[member]));
+        }
+        sums
+    }
+
+    #[test]
+    fn three_parity_symbols_are_always_zero() {
+        for layer in 0..5 {
+            let k = data_symbols(layer);
+            let sums = sums(layer);
+            let zero: Vec<usize> = (0..4 * k).filter(|&symbol| sums[symbol] == 0).collect();
+            assert_eq!(zero, [2 * k - 1, 3 * k - 1, 4 * k - 1]);
+        }
+    }
+}
