@@ -25,7 +25,7 @@ class Shape:
 
     def __init__(self, depth):
         self.depth, self.data = depth, 2 ** (depth + 1)
-        self.all, self.symbols = 4 * self.data, 16 * (2 ** depth - 1)
+        self.all, self.symbols = 4 * self.data, program.symbols(depth)
         self.volume = bytes((i * 2654435761 % 2 ** 32 >> 13) % 256
                             for i in range(self.piece * self.data))
 

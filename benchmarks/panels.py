@@ -5,6 +5,7 @@ import math
 import plot
 from page import rows_of
 from plot import BLUE, COLOURS, DASHED, GREY, ORANGE, RED, Line, Panel
+from program import symbols
 
 DESCRIPTION = ("Times grow with the symbols; samples and proofs grow with the depth as 003's do; "
                "repairs are whole up to losses of some forty percent")
@@ -19,12 +20,12 @@ def ticks_over(highest):
 def growth(tree, repair):
     """Microseconds against symbols."""
     def written(name):
-        return [(16 * (2 ** int(depth) - 1), time / 1000)
+        return [(symbols(depth), time / 1000)
                 for (other, depth, _), time in tree.items() if other == name]
 
     def repaired(name):
-        return [(int(symbols), time / 1000)
-                for (other, case, _, symbols), time in repair.items() if (other, case) == (name, "25")]
+        return [(symbols(depth), time / 1000)
+                for (other, case, depth, _), time in repair.items() if (other, case) == (name, "25")]
 
     lines = [Line("repair, plain Rust", repaired("reference"), RED, DASHED),
              Line("repair, 25 % lost", repaired("cedunmi"), RED),

@@ -16,6 +16,11 @@ PROCESSES = 30
 TRIALS = 8
 
 
+def symbols(depth):
+    """The symbols of a tree."""
+    return 16 * (2 ** int(depth) - 1)
+
+
 def fail(message):
     sys.exit(f"benchmarks/run: {message}")
 

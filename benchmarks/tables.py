@@ -100,7 +100,7 @@ def writing(best, hash_best):
              "/hashing alone", "/compressing alone"]]
     for (name, depth, size), ours in best.items():
         if name == "cedunmi":
-            symbols = 16 * (2 ** int(depth) - 1)
+            symbols = program.symbols(depth)
             compressing = symbols * COMPRESSED * hash_best[0, LONG] / LONG
             rows.append([f"depth {depth}", f"{ours / 1000:.0f}", f"{ours / 1000 / symbols:.2f}",
                          f"{int(size) / ours * 1000:.1f}", *ratios(best, depth, size),
@@ -108,24 +108,22 @@ def writing(best, hash_best):
     return rows
 
 
-def repairing(best):
-    rows = [["Repairing a tree", "depth 5, microseconds", "per symbol, depth 1", "2", "3", "4", "5",
-             "/plain Rust", "/hashing alone"]]
-    for case, title in REPAIRS:
+def by_depth(head, cases, best, figure, cell):
+    """A table with a row for each case: a figure of depth 5, a cell for each depth, and the
+    ratios of depth 5."""
+    rows = [[*head, "2", "3", "4", "5", "/plain Rust", "/hashing alone"]]
+    for case, title in cases:
         keys = [key for key in best if key[:2] == ("cedunmi", case)]
-        deepest = keys[-1]
-        rows.append([title, f"{best[deepest] / 1000:.0f}",
-                     *(f"{best[key] / 1000 / int(key[3]):.2f}" for key in keys),
-                     *ratios(best, *deepest[1:])])
+        rows.append([title, figure(keys[-1]), *map(cell, keys), *ratios(best, *keys[-1][1:])])
     return rows
+
+
+def repairing(best):
+    return by_depth(["Repairing a tree", "depth 5, microseconds", "per symbol, depth 1"], REPAIRS,
+                    best, lambda key: f"{best[key] / 1000:.0f}",
+                    lambda key: f"{best[key] / 1000 / int(key[3]):.2f}")
 
 
 def checking(best):
-    rows = [["Checking", "bytes at depth 5", "microseconds, depth 1", "2", "3", "4", "5",
-             "/plain Rust", "/hashing alone"]]
-    for what, title in CHECKS:
-        keys = [key for key in best if key[:2] == ("cedunmi", what)]
-        deepest = keys[-1]
-        rows.append([title, f"{int(deepest[3]):,}", *(f"{best[key] / 1000:.1f}" for key in keys),
-                     *ratios(best, *deepest[1:])])
-    return rows
+    return by_depth(["Checking", "bytes at depth 5", "microseconds, depth 1"], CHECKS, best,
+                    lambda key: f"{int(key[3]):,}", lambda key: f"{best[key] / 1000:.1f}")
