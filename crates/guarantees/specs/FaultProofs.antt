@@ -1,0 +1,186 @@
+-- Fault proofs by their bytes: 01, "Sample and fault proof". Statements only.
+use mathlib.Core.Path.{_≡_}
+use mathlib.Core.Logic.{_⊎_, _↔_, _≢_}
+use mathlib.Core.List.{List, _∷_, _++_}
+use Prim.Native.Nat.{ℕ, suc, _+_, _-_, _*_, _%_, _≤_, _<_}
+use lib.ListN.{length, getD}
+use Rattle.sha256.specs.Hash.{sha256}
+use Rattle.parity_table.specs.Table.{equationOf, TableOk, WellFormed, FirstWrong}
+use Rattle.parity_table.specs.Bytes.{wordsOf}
+use Rattle.model.specs.Shape.{tree}
+use Rattle.model.specs.Fault.{proofBytes, ProofHolds}
+use Rattle.cedunmi.specs.declared.Answer.the-variants.{Done}
+use Rattle.cedunmi.specs.Stops.{numberOf, valueOf}
+use Rattle.cedunmi.specs.Proof.{proofChecked}
+use Rattle.guarantees.specs.Layouts.{bytesFrom, dataSymbols, allSymbols, hashFor, XorOf, upFrom, wordNo, kindValue}
+use Rattle.guarantees.specs.Answers.{Answered, done, test, unless, JustWhen}
+use Rattle.guarantees.specs.Terms.{equationsOf}
+
+-- ---- the bytes of a proof
+
+-- "Then each other member, ascending, with its path": of given member number p of a proof of layer j, the symbol u layers up; u = 0 is the member
+-- itself. "A path is the whole data symbol of each layer from j−1 to 0 on the way up."
+unfoldable pub givenSymbol : List ℕ → ℕ → ℕ → ℕ → List ℕ
+givenSymbol b j p u = bytesFrom b (12 + 256 * (p * (j + 1) + u)) 256
+
+-- "then the withheld member's path": the symbol u layers up from it, u being 1 or more, where g members are given
+unfoldable pub withheldSymbol : List ℕ → ℕ → ℕ → ℕ → List ℕ
+withheldSymbol b j g u = bytesFrom b (12 + 256 * (g * (j + 1) + (u - 1))) 256
+
+-- "three big-endian words: kind 01 with the layer j, 10 with the equation, 11 with the withheld member's number"
+pub record Head (b : List ℕ) (j e x : ℕ) : Type 0 where
+  pub layer-word : wordNo b 0 ≡ kindValue 1 j
+  pub equation-word : wordNo b 1 ≡ kindValue 2 e
+  pub withheld-word : wordNo b 2 ≡ kindValue 3 x
+
+-- ---- what a head names in a table of this depth
+
+-- The equation's members are those before the withheld one, that one, and those after it: the given ones are `front ++ back`.
+pub record Named (depth : ℕ) (tbl : List (List (List ℕ))) (b : List ℕ) : Type 0 where
+  pub layer : ℕ
+  pub equation : ℕ
+  pub withheld : ℕ
+  pub front : List ℕ
+  pub back : List ℕ
+  pub head : Head b layer equation withheld
+  pub has-layer : layer < depth
+  pub has-equation : equation < 3 * dataSymbols layer
+  pub has-member : equationOf tbl layer equation ≡ front ++ (withheld ∷ back)
+
+module _ {depth : ℕ} {tbl : List (List (List ℕ))} {b : List ℕ} (h : Named depth tbl b) where
+  abbrev pub given : List ℕ
+  given = h .front ++ h .back
+
+  -- "For d members the length is 12+256·((d−1)(j+1)+j)."
+  abbrev pub Exact : Type 0
+  Exact = length b ≡ 12 + 256 * ((length (equationOf tbl (h .layer) (h .equation)) - 1) * (h .layer + 1) + h .layer)
+
+module _ {depth : ℕ} {tbl : List (List (List ℕ))} {b : List ℕ} (root : List ℕ) (h : Named depth tbl b) where
+  -- "every hash leads to the root": each symbol has the hash that the next symbol up, or the root, has for it; on the way up from given member
+  -- number p, and above the withheld one
+  abbrev pub GivenLeads : ℕ → Type 0
+  GivenLeads p =
+      (u : ℕ) → u ≤ h .layer
+      → sha256 (givenSymbol b (h .layer) p u)
+      ≡ hashFor root (λ l m. givenSymbol b (h .layer) p (h .layer - l)) (h .layer - u) (upFrom (h .layer) (getD (given h) p 0) u)
+
+  -- the withheld member's path, by layers
+  abbrev pub path : ℕ → ℕ → List ℕ
+  path l m = withheldSymbol b (h .layer) (length (given h)) (h .layer - l)
+
+  abbrev pub WithheldLeads : Type 0
+  WithheldLeads =
+      (u : ℕ) → 1 ≤ u → u ≤ h .layer
+      → sha256 (withheldSymbol b (h .layer) (length (given h)) u) ≡ hashFor root path (h .layer - u) (upFrom (h .layer) (h .withheld) u)
+
+  pub record AllLead : Type 0 where
+    pub given-lead : (p : ℕ) → p < length (given h) → GivenLeads p
+    pub withheld-leads : WithheldLeads
+
+  -- "the hash of the exclusive-or of the given members" is "the hash committed for the withheld one"
+  abbrev pub Fits : Type 0
+  Fits =
+      (s : List ℕ) → XorOf (λ p. givenSymbol b (h .layer) p 0) (length (given h)) s → sha256 s ≡ hashFor root path (h .layer) (h .withheld)
+
+-- ---- the checker
+
+-- what the first tests ask: "depth not 1 to 5", "a buffer's length wrong [..] proof under 12 bytes", "table breaks a rule"
+pub record ProofLengths (root table b : List ℕ) : Type 0 where
+  pub root-full : length root ≡ 512
+  pub table-short : length table ≤ 16384
+  pub table-whole : length table % 4 ≡ 0
+  pub head-there : 12 ≤ length b
+
+-- "It is accepted when every hash leads to the root and the hash of the exclusive-or of the given members differs from the hash committed for
+-- the withheld one."
+pub record ProofRight (depth : ℕ) (root table b : List ℕ) : Type 0 where
+  pub depth-right : (1 ≤ depth) × (depth ≤ 5)
+  pub lengths-right : ProofLengths root table b
+  pub table-right : WellFormed depth (wordsOf table)
+  pub named : Named depth (equationsOf table) b
+  pub exact : Exact named
+  pub all-lead : AllLead root named
+  pub differs : Fits root named → ⊥
+
+abbrev pub AcceptsProofJustWhen : Type 0
+AcceptsProofJustWhen = (depth : ℕ) (root table b : List ℕ) → (proofChecked depth root table b ≡ Done) ↔ ProofRight depth root table b
+
+-- "A proof is tested 1, 2, 3, 6, then 2 again for the length its head demands, 7, 8."
+abbrev pub proofTests : ℕ → List ℕ → List ℕ → List ℕ → Answered
+proofTests depth root table b =
+    test 1 (unless ((1 ≤ depth) × (depth ≤ 5)))
+    (test 2 (unless (ProofLengths root table b))
+    (test 3 (FirstWrong depth (wordsOf table))
+    (test 6 (unless (Named depth (equationsOf table) b))
+    (test 2 (unless ((h : Named depth (equationsOf table) b) × Exact h))
+    (test 7 (unless ((h : Named depth (equationsOf table) b) × AllLead root h))
+    (test 8 (unless ((h : Named depth (equationsOf table) b) × (Fits root h → ⊥))) done))))))
+
+abbrev pub ProofCheckerAnswers : Type 0
+ProofCheckerAnswers =
+    (depth : ℕ) (root table b : List ℕ)
+    → JustWhen (numberOf (proofChecked depth root table b)) (valueOf (proofChecked depth root table b)) (proofTests depth root table b)
+
+-- ---- "A proof holds each given member at layer j under its own number, and each path symbol at its layer under the number the path reaches
+-- there: from symbol i to data symbol (i mod s) of the layer above."
+
+-- m is the number, at layer l, that is u layers up from symbol i of layer j
+abbrev pub Up : ℕ → ℕ → ℕ → ℕ → ℕ → Type 0
+Up j i u l m = (u ≤ j) × (l ≡ j - u) × (m ≡ upFrom j i u)
+
+module _ {depth : ℕ} {tbl : List (List (List ℕ))} {b : List ℕ} (h : Named depth tbl b) where
+  -- a given member or a symbol of a path has number m at layer l
+  abbrev pub OnPath : ℕ → ℕ → Type 0
+  OnPath l m =
+      ((p : ℕ) × (u : ℕ) × (p < length (given h)) × Up (h .layer) (getD (given h) p 0) u l m)
+      ⊎ ((u : ℕ) × (1 ≤ u) × Up (h .layer) (h .withheld) u l m)
+
+  -- .. and it is s
+  abbrev pub Holds : ℕ → ℕ → List ℕ → Type 0
+  Holds l m s =
+      ((p : ℕ) × (u : ℕ) × (p < length (given h)) × Up (h .layer) (getD (given h) p 0) u l m × (s ≡ givenSymbol b (h .layer) p u))
+      ⊎ ((u : ℕ) × (1 ≤ u) × Up (h .layer) (h .withheld) u l m × (s ≡ withheldSymbol b (h .layer) (length (given h)) u))
+
+  -- the proof has the symbols f in their places
+  pub record Layout (f : ℕ → ℕ → List ℕ) : Type 0 where
+    pub exact : Exact h
+    pub given-symbols : (p u : ℕ) → p < length (given h) → u ≤ h .layer
+        → givenSymbol b (h .layer) p u ≡ f (h .layer - u) (upFrom (h .layer) (getD (given h) p 0) u)
+    pub path-symbols : (u : ℕ) → 1 ≤ u → u ≤ h .layer
+        → withheldSymbol b (h .layer) (length (given h)) u ≡ f (h .layer - u) (upFrom (h .layer) (h .withheld) u)
+
+-- what demand 3 says that a proof holds is this, of every proof whose head names an equation and a member of the table
+abbrev pub HoldsExactly : Type 0
+HoldsExactly =
+    (depth : ℕ) (tbl : List (List (List ℕ))) (b : List ℕ) → TableOk depth tbl → (h : Named depth tbl b)
+    → (l m : ℕ) (s : List ℕ) → ProofHolds tree tbl b l m s ↔ Holds h l m s
+
+-- so a proof that has the symbols f holds just these, and only where a given member or a path is
+abbrev pub HoldsItsSymbols : Type 0
+HoldsItsSymbols =
+    (depth : ℕ) (tbl : List (List (List ℕ))) (b : List ℕ) → TableOk depth tbl → (h : Named depth tbl b)
+    → (f : ℕ → ℕ → List ℕ) → Layout h f → (l m : ℕ) (s : List ℕ) → ProofHolds tree tbl b l m s ↔ (OnPath h l m × (s ≡ f l m))
+
+-- a proof that is written for the symbols f has them in their places, under a head that names its equation and its withheld member
+pub record Written (depth : ℕ) (tbl : List (List (List ℕ))) (f : ℕ → ℕ → List ℕ) (j e x : ℕ) (b : List ℕ) : Type 0 where
+  pub named : Named depth tbl b
+  pub layer-is : named .layer ≡ j
+  pub equation-is : named .equation ≡ e
+  pub withheld-is : named .withheld ≡ x
+  pub layout : Layout named f
+
+abbrev pub WritesLayout : Type 0
+WritesLayout =
+    (depth : ℕ) (tbl : List (List (List ℕ))) → depth ≤ 5 → TableOk depth tbl
+    → (f : ℕ → ℕ → List ℕ) → ((l m : ℕ) → l < depth → m < allSymbols l → length (f l m) ≡ 256)
+    → (j e x : ℕ) (front back : List ℕ) → j < depth → e < 3 * dataSymbols j → equationOf tbl j e ≡ front ++ (x ∷ back)
+    → Written depth tbl f j e x (proofBytes tree f j e x (equationOf tbl j e))
+
+-- ---- all of it
+
+pub record FaultProofs : Type 0 where
+  pub accepts-just-when : AcceptsProofJustWhen
+  pub checker-answers : ProofCheckerAnswers
+  pub holds-exactly : HoldsExactly
+  pub holds-its-symbols : HoldsItsSymbols
+  pub writes-layout : WritesLayout

@@ -1,0 +1,75 @@
+-- 01's layouts in its own numbers, by bytes and places alone: what the statements of this crate are said in. No definition of another crate but
+-- SHA-256 stands behind them, so a wrong number in one of those can't also be wrong here. Definitions only.
+use mathlib.Core.Path.{_≡_}
+use mathlib.Core.List.{List}
+use Prim.Native.Nat.{ℕ, zero, suc, _+_, _-_, _*_, _/_, _%_, _^_, _<_}
+use lib.ListN.{length, getD, take, drop}
+use lib.Bits.{bitXor}
+
+-- n bytes, the first being number a
+unfoldable pub bytesFrom : List ℕ → ℕ → ℕ → List ℕ
+bytesFrom s a n = take n (drop a s)
+
+-- "A symbol is 256 bytes": symbol x of symbols that stand one after the other
+abbrev pub symbolNo : List ℕ → ℕ → List ℕ
+symbolNo s x = bytesFrom s (256 * x) 256
+
+-- ---- "Layers"
+
+-- "Layer j (0 is the top, D−1 the base) has k = 4·2^j data symbols, numbered first, and 3k parity symbols; n = 4k."
+abbrev pub dataSymbols : ℕ → ℕ
+dataSymbols j = 4 * 2 ^ j
+
+abbrev pub allSymbols : ℕ → ℕ
+allSymbols j = 4 * dataSymbols j
+
+-- "all layers, top first, 16·(2^D−1) symbols": those of depth d, and the place of symbol i of layer j
+abbrev pub treeSymbols : ℕ → ℕ
+treeSymbols d = 16 * (2 ^ d - 1)
+
+abbrev pub placeOf : ℕ → ℕ → ℕ
+placeOf j i = treeSymbols j + i
+
+-- symbol i of layer j in the tree buffer, and its mark
+abbrev pub symbolAt : List ℕ → ℕ → ℕ → List ℕ
+symbolAt t j i = symbolNo t (placeOf j i)
+
+abbrev pub markAt : List ℕ → ℕ → ℕ → ℕ
+markAt m j i = getD m (placeOf j i) 0
+
+-- "For j > 0 let s = n/8": the s of layer j
+abbrev pub spread : ℕ → ℕ
+spread j = allSymbols j / 8
+
+-- "The hash of symbol i stands in data symbol (i mod s) of the layer above, at bytes 32·⌊i/s⌋ to 32·⌊i/s⌋+31. The root is 512 bytes: the hashes
+-- of layer 0's sixteen symbols in order." Symbol m of layer l is f l m.
+unfoldable pub hashFor : List ℕ → (ℕ → ℕ → List ℕ) → ℕ → ℕ → List ℕ
+hashFor root f zero i = bytesFrom root (32 * i) 32
+hashFor root f (suc j) i = bytesFrom (f j (i % spread (suc j))) (32 * (i / spread (suc j))) 32
+
+-- ---- "Parity table"
+
+-- the exclusive-or of the m numbers g x, g (x+1), ..
+unfoldable pub xorRun : (ℕ → ℕ) → ℕ → ℕ → ℕ
+xorRun g x zero = 0
+xorRun g x (suc m) = bitXor (g x) (xorRun g (suc x) m)
+
+-- s is the exclusive-or of the n symbols g 0, g 1, ..: "256 bytes"
+pub record XorOf (g : ℕ → List ℕ) (n : ℕ) (s : List ℕ) : Type 0 where
+  pub sized : length s ≡ 256
+  pub bytes : (p : ℕ) → p < 256 → getD s p 0 ≡ xorRun (λ q. getD (g q) p 0) 0 n
+
+-- ---- "Sample and fault proof"
+
+-- "from symbol i to data symbol (i mod s) of the layer above": x layers up from symbol i of layer j
+unfoldable pub upFrom : ℕ → ℕ → ℕ → ℕ
+upFrom j i zero = i
+upFrom j i (suc x) = upFrom j i x % spread (j - x)
+
+-- the 32-bit number in four bytes, the highest first: word w of a list of bytes
+unfoldable pub wordNo : List ℕ → ℕ → ℕ
+wordNo b w = 2 ^ 24 * getD b (4 * w) 0 + 2 ^ 16 * getD b (4 * w + 1) 0 + 2 ^ 8 * getD b (4 * w + 2) 0 + getD b (4 * w + 3) 0
+
+-- "the top two bits are the kind, the low 30 a value"
+abbrev pub kindValue : ℕ → ℕ → ℕ
+kindValue kind value = kind * 2 ^ 30 + value
