@@ -1,4 +1,8 @@
+pub mod Answers
+pub mod Layouts
+pub mod Tables
 pub mod Marks
+pub mod Refusals
 pub mod Demand1
 pub mod Demand2
 pub mod Demand3

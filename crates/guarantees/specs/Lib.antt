@@ -1,6 +1,8 @@
 pub mod Layouts
 pub mod Terms
+pub mod Tables
 pub mod Answers
+pub mod Refusals
 pub mod FaultProofs
 pub mod Demand1
 pub mod Demand2

@@ -1,0 +1,168 @@
+-- "What stops a call", of every call but the check of a fault proof (FaultProofs.antt): which number and value, and just when. Each test stands in 01's
+-- words, and a call makes its tests in this order. Statements only.
+use mathlib.Core.Path.{_≡_}
+use mathlib.Core.Logic.{_≢_}
+use mathlib.Core.Bool.{Bool}
+use mathlib.Core.List.{List}
+use Prim.Native.Nat.{ℕ, zero, suc, _+_, _-_, _*_, _/_, _%_, _^_, _≤_, _<_}
+use lib.ListN.{length, getD}
+use lib.Dec.{eqb}
+use Rattle.octets.specs.Choice.{pick}
+use Rattle.sha256.specs.Hash.{sha256}
+use Rattle.sha256.specs.Call.{answer, number}
+use Rattle.parity_table.specs.Right as reader
+use Rattle.parity_table.specs.Reader.{readOf}
+use Rattle.parity_table.specs.Bytes.{wordsOf, readBytesOf}
+use Rattle.parity_table.specs.House.{houseWords, houseAnswer}
+use Rattle.cedunmi.specs.Stops.{numberOf, valueOf}
+use Rattle.cedunmi.specs.Volume.{treeWritten, blockRead}
+use Rattle.cedunmi.specs.Sample.{sampleTaken, sampleChecked}
+use Rattle.cedunmi.specs.Repairs.{repairTested}
+use Rattle.guarantees.specs.Layouts.{symbolNo, dataSymbols, allSymbols, treeSymbols, placeOf, markAt, hashFor}
+use Rattle.guarantees.specs.Tables.{FirstWrongWord}
+use Rattle.guarantees.specs.Answers.{Answered, done, test, unless, JustWhen}
+
+-- v is the lowest of the numbers below n of which P holds
+pub record LowestOf (P : ℕ → Type 0) (n v : ℕ) : Type 0 where
+  pub below : v < n
+  pub holds : P v
+  pub none-lower : (q : ℕ) → q < v → P q → ⊥
+
+-- ---- what the tests ask
+
+-- 1: "depth not 1 to 5"
+abbrev pub DepthRight : ℕ → Type 0
+DepthRight d = (1 ≤ d) × (d ≤ 5)
+
+-- 2, of a table: "a length over 16,384 or not a multiple of 4 stops with 2"
+pub record TableLength (table : List ℕ) : Type 0 where
+  pub not-over : length table ≤ 16384
+  pub in-words : length table % 4 ≡ 0
+
+-- 2, of a tree: "The tree buffer holds all layers"; "marks are one byte for each symbol"
+pub record TreeLengths (d : ℕ) (t m : List ℕ) : Type 0 where
+  pub tree-bytes : length t ≡ 256 * treeSymbols d
+  pub mark-bytes : length m ≡ treeSymbols d
+
+-- 2, of a block: "exactly 256·k bytes of the base"; of a root: "512 bytes"; of a sample: "256·(2D−1)"; of repair's output: "12+256·(8D−1) bytes"
+abbrev pub BlockLength : ℕ → List ℕ → Type 0
+BlockLength d b = length b ≡ 256 * dataSymbols (d - 1)
+
+abbrev pub RootLength : List ℕ → Type 0
+RootLength root = length root ≡ 512
+
+abbrev pub SampleLength : ℕ → List ℕ → Type 0
+SampleLength d s = length s ≡ 256 * (2 * d - 1)
+
+abbrev pub OutputLength : ℕ → List ℕ → Type 0
+OutputLength d o = length o ≡ 12 + 256 * (8 * d - 1)
+
+-- 4: "a mark neither 0 nor 1", with the "lowest place"
+abbrev pub BadMark : ℕ → List ℕ → ℕ → Type 0
+BadMark d m = LowestOf (λ p. (getD m p 0 ≢ 0) × (getD m p 0 ≢ 1)) (treeSymbols d)
+
+-- 5: "base symbol number not below n"
+abbrev pub InBase : ℕ → ℕ → Type 0
+InBase d i = i < allSymbols (d - 1)
+
+-- 9, reading the block: "a needed symbol absent", with "its base number"
+abbrev pub AbsentData : ℕ → List ℕ → ℕ → Type 0
+AbsentData d m = LowestOf (λ i. markAt m (d - 1) i ≡ 0) (dataSymbols (d - 1))
+
+-- The place of symbol x of a sample of base symbol i: "that symbol, then for each layer upward from D−2 to 0 its data symbol (i mod k) and its parity
+-- symbol k + (i mod 3k), with that layer's k". Symbols 2u+1 and 2u+2 are of layer D−2−u.
+unfoldable pub samplePlace : ℕ → ℕ → ℕ → ℕ
+samplePlace d i zero = placeOf (d - 1) i
+samplePlace d i (suc y) =
+    placeOf (d - 2 - y / 2) (pick (eqb (y % 2) 0) (i % dataSymbols (d - 2 - y / 2)) (dataSymbols (d - 2 - y / 2) + i % (3 * dataSymbols (d - 2 - y / 2))))
+
+-- 9, sampling: "index in the sample of the first"
+abbrev pub AbsentSampled : ℕ → ℕ → List ℕ → ℕ → Type 0
+AbsentSampled d i m = LowestOf (λ x. getD m (samplePlace d i x) 0 ≡ 0) (2 * d - 1)
+
+-- 7, of a sample: "Every hash in it is checked: both symbols of a layer against the next data symbol up, the top ones against the root." Layer j's data
+-- symbol is number 2(D−1−j)−1 of the sample, its parity symbol the one after it.
+module _ (d i : ℕ) (root s : List ℕ) where
+  abbrev pub dataOfSample : ℕ → ℕ → List ℕ
+  dataOfSample j m = symbolNo s (2 * (d - 1 - j) - 1)
+
+  pub record AllHashesLead : Type 0 where
+    pub base : sha256 (symbolNo s 0) ≡ hashFor root dataOfSample (d - 1) i
+    pub data-symbol : (j : ℕ) → suc j < d → sha256 (symbolNo s (2 * (d - 1 - j) - 1)) ≡ hashFor root dataOfSample j (i % dataSymbols j)
+    pub parity-symbol : (j : ℕ) → suc j < d
+        → sha256 (symbolNo s (2 * (d - 1 - j))) ≡ hashFor root dataOfSample j (dataSymbols j + i % (3 * dataSymbols j))
+
+-- ---- the calls
+
+-- "message over the limit": "SHA-256 of a message of 0 to 1,048,576 bytes"; a digest has 32
+abbrev pub hashTests : List ℕ → List ℕ → Answered
+hashTests m digest = test 2 (unless ((length m ≤ 1048576) × (length digest ≡ 32))) done
+
+-- a table as words, and as bytes from C
+abbrev pub wordsTests : ℕ → List ℕ → Answered
+wordsTests d ws = test 1 (unless (DepthRight d)) (test 3 (FirstWrongWord d ws) done)
+
+abbrev pub tableTests : ℕ → List ℕ → Answered
+tableTests d table = test 1 (unless (DepthRight d)) (test 2 (unless (TableLength table)) (test 3 (FirstWrongWord d (wordsOf table)) done))
+
+-- the house table into a buffer of n entries, w to a word: "It has 5·12·(2^D−1)+1 words."
+abbrev pub houseTests : ℕ → ℕ → ℕ → Answered
+houseTests d w n = test 1 (unless (DepthRight d)) (test 2 (unless (n ≡ w * (5 * 12 * (2 ^ d - 1) + 1))) done)
+
+module _ (d : ℕ) (table b t m root : List ℕ) where
+  pub record WriterLengths : Type 0 where
+    pub table-length : TableLength table
+    pub block-length : BlockLength d b
+    pub tree-lengths : TreeLengths d t m
+    pub root-length : RootLength root
+
+  abbrev pub writerTests : Answered
+  writerTests = test 1 (unless (DepthRight d)) (test 2 (unless WriterLengths) (test 3 (FirstWrongWord d (wordsOf table)) done))
+
+abbrev pub blockTests : ℕ → List ℕ → List ℕ → List ℕ → Answered
+blockTests d t m b =
+    test 1 (unless (DepthRight d)) (test 2 (unless (TreeLengths d t m × BlockLength d b)) (test 4 (BadMark d m) (test 9 (AbsentData d m) done)))
+
+abbrev pub samplerTests : ℕ → ℕ → List ℕ → List ℕ → List ℕ → Answered
+samplerTests d i t m s =
+    test 1 (unless (DepthRight d))
+    (test 2 (unless (TreeLengths d t m × SampleLength d s))
+    (test 4 (BadMark d m) (test 5 (unless (InBase d i)) (test 9 (AbsentSampled d i m) done))))
+
+abbrev pub sampleTests : ℕ → ℕ → List ℕ → List ℕ → Answered
+sampleTests d i root s =
+    test 1 (unless (DepthRight d))
+    (test 2 (unless (RootLength root × SampleLength d s)) (test 5 (unless (InBase d i)) (test 7 (unless (AllHashesLead d i root s)) done)))
+
+module _ (d : ℕ) (root table t m o : List ℕ) where
+  pub record RepairLengths : Type 0 where
+    pub root-length : RootLength root
+    pub table-length : TableLength table
+    pub tree-lengths : TreeLengths d t m
+    pub output-length : OutputLength d o
+
+  abbrev pub repairTests : Answered
+  repairTests =
+      test 1 (unless (DepthRight d))
+      (test 2 (unless RepairLengths) (test 3 (FirstWrongWord d (wordsOf table)) (test 4 (BadMark d m) done)))
+
+-- ---- each call answers as its tests say, and not otherwise
+
+pub record Refusals : Type 0 where
+  pub hasher : (m d : List ℕ) → JustWhen (number (answer m d)) 0 (hashTests m d)
+  pub table-words : (d : ℕ) (ws : List ℕ) → JustWhen (reader.numberOf (readOf d ws)) (reader.valueOf (readOf d ws)) (wordsTests d ws)
+  pub table-bytes : (d : ℕ) (b : List ℕ) → JustWhen (reader.numberOf (readBytesOf d b)) (reader.valueOf (readBytesOf d b)) (tableTests d b)
+  pub house-words : (d n : ℕ)
+      → JustWhen (reader.numberOf (houseAnswer d n (length (houseWords d)))) (reader.valueOf (houseAnswer d n (length (houseWords d)))) (houseTests d 1 n)
+  pub house-bytes : (d n : ℕ)
+      → JustWhen (reader.numberOf (houseAnswer d n (length (houseWords d) * 4))) (reader.valueOf (houseAnswer d n (length (houseWords d) * 4)))
+      (houseTests d 4 n)
+  pub tree-writer : (d : ℕ) (table b t m root : List ℕ)
+      → JustWhen (numberOf (treeWritten d table b t m root)) (valueOf (treeWritten d table b t m root)) (writerTests d table b t m root)
+  pub block-reader : (d : ℕ) (t m b : List ℕ) → JustWhen (numberOf (blockRead d t m b)) (valueOf (blockRead d t m b)) (blockTests d t m b)
+  pub sampler : (d i : ℕ) (t m s : List ℕ)
+      → JustWhen (numberOf (sampleTaken d i t m s)) (valueOf (sampleTaken d i t m s)) (samplerTests d i t m s)
+  pub sample-checker : (d i : ℕ) (root s : List ℕ)
+      → JustWhen (numberOf (sampleChecked d i root s)) (valueOf (sampleChecked d i root s)) (sampleTests d i root s)
+  pub repairer : (d : ℕ) (root table t m o : List ℕ)
+      → JustWhen (numberOf (repairTested d root table t m o)) (valueOf (repairTested d root table t m o)) (repairTests d root table t m o)
