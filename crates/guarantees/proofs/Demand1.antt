@@ -78,7 +78,7 @@ isDone : Answer → ℕ
 isDone Done = 1
 isDone (Stopped s) = 0
 
-stopped-not : (s : Stop) → Stopped s ≡ Done → ⊥
+pub stopped-not : (s : Stop) → Stopped s ≡ Done → ⊥
 unfolding isDone
 stopped-not s e = omega (arith, ap isDone e)
 

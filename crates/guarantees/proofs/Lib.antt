@@ -4,6 +4,7 @@ pub mod Tables
 pub mod Marks
 pub mod Refusals
 pub mod Demand1
+pub mod Results
 pub mod Demand2
 pub mod Demand3
 pub mod RepairCases

@@ -4,6 +4,7 @@ pub mod Tables
 pub mod Answers
 pub mod Refusals
 pub mod FaultProofs
+pub mod Results
 pub mod Demand1
 pub mod Demand2
 pub mod Demand3

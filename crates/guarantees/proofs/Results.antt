@@ -1,0 +1,161 @@
+-- What a C program reads from the number that a call returns is what the call answered.
+use mathlib.Core.Path.{_≡_, refl, sym, ap, _∙_, subst}
+use mathlib.Core.Logic.{_≢_}
+use mathlib.Core.List.{List}
+use Prim.Native.Nat.{ℕ, _+_, _*_, _/_, _%_, _^_, _<_}
+use native.Mathlib.Omega.{arith}
+use lib.Dec.{eqb}
+use borrow.Author.Tests.{eq-eqb, ne-eqb}
+use Rattle.octets.specs.Choice.{pick}
+use Rattle.octets.proofs.Choice.{pick-yes, pick-no}
+use Rattle.sha256.specs.Call.{answer, number}
+use Rattle.sha256.specs.declared.Answer.{Answer as Hashed}
+use Rattle.sha256.specs.declared.Answer.the-variants as hashed
+use Rattle.parity_table.specs.declared.Answer.{Answer as Read}
+use Rattle.parity_table.specs.declared.Answer.the-variants as read
+use Rattle.parity_table.specs.Right as reader
+use Rattle.model.specs.Repair.{End, working, whole, fault, unavailable, twins, St}
+use Rattle.model.specs.Shape.{tree}
+use Rattle.model.specs.Ends.{EndOk}
+use Rattle.symbol_hash.specs.SymbolHash.{symbolHash}
+use Rattle.cedunmi.specs.declared.Stop.the-variants.{Depth, Length, Table, Mark, Number, Head, Hash, NoFault, Absent}
+use Rattle.cedunmi.specs.declared.Answer.{Answer}
+use Rattle.cedunmi.specs.declared.Answer.the-variants.{Done, Stopped}
+use Rattle.cedunmi.specs.Stops.{numberOf, valueOf}
+use Rattle.cedunmi.specs.Repairs.{repairTested, repairOf, repaired, ended, resultBy, endValue, Fits}
+use Rattle.cedunmi.proofs.Ends.{repair-fits, four-ways}
+use Rattle.cedunmi_c.specs.Result.{packed, tableResult, callResult, repairResult}
+use Rattle.guarantees.specs.Terms.{equationsOf}
+use Rattle.guarantees.specs.Results.{cmtNumber, cmtRepairEnd, cmtRepairStored, Says, SaysEnd, EndSaid, Results}
+use Rattle.guarantees.proofs.Demand1.{stopped-not}
+
+-- a number below 256, with a value above it
+says : (n v : ℕ) → n < 256 → Says (packed n v) n v
+says n v h = record { number-is = omega arith; value-is = omega arith }
+
+number-low : (a : Answer) → numberOf a < 256
+number-low Done = omega arith
+number-low (Stopped Depth) = omega arith
+number-low (Stopped Length) = omega arith
+number-low (Stopped (Table i)) = omega arith
+number-low (Stopped (Mark p)) = omega arith
+number-low (Stopped Number) = omega arith
+number-low (Stopped Head) = omega arith
+number-low (Stopped Hash) = omega arith
+number-low (Stopped NoFault) = omega arith
+number-low (Stopped (Absent x)) = omega arith
+
+of-table : (a : Read) → Says (tableResult a) (reader.numberOf a) (reader.valueOf a)
+of-table read.Depth = says 1 0 (omega arith)
+of-table read.Length = says 2 0 (omega arith)
+of-table (read.Wrong i) = says 3 i (omega arith)
+of-table read.Whole = says 0 0 (omega arith)
+
+of-hash : (a : Hashed) → Says (number a) (number a) 0
+of-hash hashed.Done = says 0 0 (omega arith)
+of-hash hashed.Length = says 2 0 (omega arith)
+
+of-call : (a : Answer) → Says (callResult a) (numberOf a) (valueOf a)
+of-call a = says (numberOf a) (valueOf a) (number-low a)
+
+-- ---- repair
+
+-- a call that stopped
+of-refusal : (a : Answer) (st : St) → a ≢ Done → Says (repairResult (resultBy a st)) (numberOf a) (valueOf a)
+of-refusal Done st n = absurd (n refl)
+of-refusal (Stopped w) st n = of-call (Stopped w)
+
+-- an end's number, the symbols stored and the end's value, each in its bits
+module _ (e s v : ℕ) (he : e < 4) (hs : s < 2 ^ 16) (hv : v < 2 ^ 16) where
+  abbrev r : ℕ
+  r = packed 0 e + (s + v * 2 ^ 16) * 2 ^ 32
+
+  no-number : cmtNumber r ≡ 0
+  no-number = omega arith
+
+  end-is : cmtRepairEnd r ≡ e
+  end-is = omega arith
+
+  stored-is : cmtRepairStored r ≡ s
+  stored-is = omega arith
+
+  value-is : r / 281474976710656 ≡ v
+  value-is = omega arith
+
+  -- the value where the end is this one, else 0
+  shown : (k : ℕ) → e ≡ k → pick (eqb (cmtRepairEnd r) k) (r / 281474976710656) 0 ≡ v
+  shown k h = pick-yes (eqb (cmtRepairEnd r) k) (r / 281474976710656) 0 (eq-eqb (cmtRepairEnd r) k (end-is ∙ h)) ∙ value-is
+
+  hidden : (k : ℕ) → (e ≡ k → ⊥) → pick (eqb (cmtRepairEnd r) k) (r / 281474976710656) 0 ≡ 0
+  hidden k h = pick-no (eqb (cmtRepairEnd r) k) (r / 281474976710656) 0 (ne-eqb (cmtRepairEnd r) k (λ q. h (sym end-is ∙ q)))
+
+end-said : (s : ℕ) (z : End) → s < 2 ^ 16 → endValue z < 2 ^ 16 → (z ≡ working → ⊥)
+    → (cmtNumber (repairResult (ended s z)) ≡ 0) × (cmtRepairStored (repairResult (ended s z)) ≡ s) × EndSaid (repairResult (ended s z)) z
+end-said s working hs hv w = absurd (w refl)
+end-said s whole hs hv w = (
+  no-number 0 s 0 (omega arith) hs hv,
+  stored-is 0 s 0 (omega arith) hs hv,
+  record {
+    end-is = end-is 0 s 0 (omega arith) hs hv;
+    bytes-are = hidden 0 s 0 (omega arith) hs hv 1 (λ q. omega arith);
+    layer-is = hidden 0 s 0 (omega arith) hs hv 2 (λ q. omega arith);
+  },
+)
+end-said s (fault j e x n) hs hv w = (
+  no-number 1 s n (omega arith) hs hv,
+  stored-is 1 s n (omega arith) hs hv,
+  record {
+    end-is = end-is 1 s n (omega arith) hs hv;
+    bytes-are = shown 1 s n (omega arith) hs hv 1 refl;
+    layer-is = hidden 1 s n (omega arith) hs hv 2 (λ q. omega arith);
+  },
+)
+end-said s (unavailable j) hs hv w = (
+  no-number 2 s j (omega arith) hs hv,
+  stored-is 2 s j (omega arith) hs hv,
+  record {
+    end-is = end-is 2 s j (omega arith) hs hv;
+    bytes-are = hidden 2 s j (omega arith) hs hv 1 (λ q. omega arith);
+    layer-is = shown 2 s j (omega arith) hs hv 2 refl;
+  },
+)
+end-said s (twins j x) hs hv w = (
+  no-number 3 s 0 (omega arith) hs hv,
+  stored-is 3 s 0 (omega arith) hs hv,
+  record {
+    end-is = end-is 3 s 0 (omega arith) hs hv;
+    bytes-are = hidden 3 s 0 (omega arith) hs hv 1 (λ q. omega arith);
+    layer-is = hidden 3 s 0 (omega arith) hs hv 2 (λ q. omega arith);
+  },
+)
+
+-- a repair that has come to an end is not working
+ended-not : (root : List ℕ) (tbl : List (List (List ℕ))) (t m o : List ℕ) (st : St) (z : End) → EndOk tree symbolHash root tbl t m o st z → z ≡ working → ⊥
+ended-not root tbl t m o st working x e = x
+ended-not root tbl t m o st whole x e = let q : _≡_ {A = ℕ} 0 1 = cc in omega arith
+ended-not root tbl t m o st (fault j y w n) x e = let q : _≡_ {A = ℕ} 0 1 = cc in omega arith
+ended-not root tbl t m o st (unavailable j) x e = let q : _≡_ {A = ℕ} 0 1 = cc in omega arith
+ended-not root tbl t m o st (twins j y) x e = let q : _≡_ {A = ℕ} 0 1 = cc in omega arith
+
+module _ (depth : ℕ) (root table t m o : List ℕ) where
+  repair-said : (a : Answer) → repairTested depth root table t m o ≡ a → a ≡ Done → Fits (resultBy a (repairOf root table t m o))
+      → (cmtNumber (repairResult (resultBy a (repairOf root table t m o))) ≡ 0)
+      × (cmtRepairStored (repairResult (resultBy a (repairOf root table t m o))) ≡ repairOf root table t m o .stored)
+      × EndSaid (repairResult (resultBy a (repairOf root table t m o))) (repairOf root table t m o .end)
+  repair-said Done e d f =
+      let st : St = repairOf root table t m o in
+      end-said (st .stored) (st .end) (f .0) (f .1)
+      (ended-not root (equationsOf table) t m o st (st .end) (four-ways depth root table t m o e .ends))
+  repair-said (Stopped w) e d f = absurd (stopped-not w d)
+
+pub results : Results
+unfolding repaired
+results =
+    record {
+      of-hash = λ m d. of-hash (answer m d);
+      of-table = of-table;
+      of-call = of-call;
+      of-refusal = λ depth root table t m o. of-refusal (repairTested depth root table t m o) (repairOf root table t m o);
+      of-repair = λ depth root table t m o e.
+          repair-said depth root table t m o (repairTested depth root table t m o) refl e (repair-fits depth root table t m o);
+    }

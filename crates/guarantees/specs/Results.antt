@@ -1,0 +1,68 @@
+-- What a C program reads from the one number that a call returns. The functions are those of include/cedunmi.h, by their arithmetic. Statements only.
+use mathlib.Core.Path.{_≡_}
+use mathlib.Core.Logic.{_≢_}
+use mathlib.Core.List.{List}
+use Prim.Native.Nat.{ℕ, _/_, _%_}
+use lib.Dec.{eqb}
+use Rattle.octets.specs.Choice.{pick}
+use Rattle.sha256.specs.Call.{answer, number}
+use Rattle.parity_table.specs.declared.Answer.{Answer as Read}
+use Rattle.parity_table.specs.Right as reader
+use Rattle.model.specs.Repair.{End, working, whole, fault, unavailable, twins}
+use Rattle.cedunmi.specs.declared.Answer.{Answer}
+use Rattle.cedunmi.specs.declared.Answer.the-variants.{Done}
+use Rattle.cedunmi.specs.Stops.{numberOf, valueOf}
+use Rattle.cedunmi.specs.Repairs.{repairTested, repairOf, repaired}
+use Rattle.cedunmi_c.specs.Result.{tableResult, callResult, repairResult}
+
+-- cmt_number, cmt_value
+abbrev pub cmtNumber : ℕ → ℕ
+cmtNumber r = r % 256
+
+abbrev pub cmtValue : ℕ → ℕ
+cmtValue r = r / 256
+
+-- cmt_repair_end, cmt_repair_stored, cmt_repair_proof_bytes, cmt_repair_layer
+abbrev pub cmtRepairEnd : ℕ → ℕ
+cmtRepairEnd r = r / 256 % 16777216
+
+abbrev pub cmtRepairStored : ℕ → ℕ
+cmtRepairStored r = r / 4294967296 % 65536
+
+abbrev pub cmtRepairProofBytes : ℕ → ℕ
+cmtRepairProofBytes r = pick (eqb (cmtRepairEnd r) 1) (r / 281474976710656) 0
+
+abbrev pub cmtRepairLayer : ℕ → ℕ
+cmtRepairLayer r = pick (eqb (cmtRepairEnd r) 2) (r / 281474976710656) 0
+
+-- the number r says this number with this value
+pub record Says (r number value : ℕ) : Type 0 where
+  pub number-is : cmtNumber r ≡ number
+  pub value-is : cmtValue r ≡ value
+
+-- the number r says this end of a repair: its number, the bytes of its proof, its layer
+pub record SaysEnd (r end bytes layer : ℕ) : Type 0 where
+  pub end-is : cmtRepairEnd r ≡ end
+  pub bytes-are : cmtRepairProofBytes r ≡ bytes
+  pub layer-is : cmtRepairLayer r ≡ layer
+
+-- "The ends are: whole, fault, unavailable, twins"; "a fault [..] reports the proof's length"; "unavailable" is "with this layer"
+abbrev pub EndSaid : ℕ → End → Type 0
+EndSaid r whole = SaysEnd r 0 0 0
+EndSaid r (fault j e x n) = SaysEnd r 1 n 0
+EndSaid r (unavailable j) = SaysEnd r 2 0 j
+EndSaid r (twins j x) = SaysEnd r 3 0 0
+EndSaid r working = ⊥
+
+-- of every answer to every call; the contract of each says that it returns this number
+pub record Results : Type 0 where
+  pub of-hash : (m d : List ℕ) → Says (number (answer m d)) (number (answer m d)) 0
+  pub of-table : (a : Read) → Says (tableResult a) (reader.numberOf a) (reader.valueOf a)
+  pub of-call : (a : Answer) → Says (callResult a) (numberOf a) (valueOf a)
+  -- a repair that is refused, and one that came to its end
+  pub of-refusal : (depth : ℕ) (root table t m o : List ℕ) → repairTested depth root table t m o ≢ Done
+      → Says (repairResult (repaired depth root table t m o)) (numberOf (repairTested depth root table t m o)) (valueOf (repairTested depth root table t m o))
+  pub of-repair : (depth : ℕ) (root table t m o : List ℕ) → repairTested depth root table t m o ≡ Done
+      → (cmtNumber (repairResult (repaired depth root table t m o)) ≡ 0)
+      × (cmtRepairStored (repairResult (repaired depth root table t m o)) ≡ repairOf root table t m o .stored)
+      × EndSaid (repairResult (repaired depth root table t m o)) (repairOf root table t m o .end)
