@@ -118,7 +118,7 @@ module _ (S : Shape) (H : ℕ → ℕ → List ℕ → List ℕ) (root : List �
   unfolding useEq storeSym writeFault writeTwins takeable
   inv-step g st i =
       step-ind S H root tbl (InvSt g) j st (λ t. i)
-      (λ e h tk gg.
+      (λ e h tk lo gg.
       let a : ℕ → Bool = absentAt S (st .marks) j in
       let ms : List ℕ = equationOf tbl j e in
       let (tu, tc) = and-yes (eqb (getD (st .used) e 0) 0) (leb (count a ms) 1) tk in
@@ -169,7 +169,7 @@ module _ (S : Shape) (H : ℕ → ℕ → List ℕ → List ℕ) (root : List �
       (λ t i′ ge′.
       let same-st : peel S H root tbl j f st ≡ st = idle S H root tbl j f st t in
       subst NoTake (sym same-st) (no-take st t (sym (ap (λ (r : St). going (r .end)) same-st) ∙ ge′)))
-      (λ e h tk gg i′ ge′.
+      (λ e h tk lo gg i′ ge′.
       let r : St = act S H root j e (equationOf tbl j e) st in
       ⊎-elim
       (λ stop. both ge′ (ap (λ (z : St). going (z .end)) (idle S H root tbl j f r (ap (λ (b : Bool). b && ltb (lowestEq S tbl j r) (length (layerOf tbl j))) stop)) ∙ stop))

@@ -1,6 +1,6 @@
 -- The peeling of a layer keeps what is promised of each end.
 use mathlib.Core.Path.{_≡_, refl, sym, ap, ap₂, _∙_, subst}
-use mathlib.Core.Logic.{_⊎_, inl, inr, _≢_}
+use mathlib.Core.Logic.{_⊎_, inl, inr, ⊎-elim, _≢_}
 use mathlib.Core.Bool.{Bool, true, false, not, _&&_, false≢true}
 use mathlib.Core.List.{List, _++_, append-assoc}
 use Prim.Native.Nat.{ℕ, zero, suc, _+_, _-_, _*_, _≤_, _<_}
@@ -8,7 +8,7 @@ use native.Mathlib.Omega.{arith}
 use lib.ListN.{length, getD, take, drop, set, length-set, length-append}
 use lib.Seq.{getD-set-other, take-append-seam, drop-append-seam, take-at, drop-at}
 use lib.Dec.{leb, ltb, eqb}
-use borrow.Author.Tests.{ltb-true, leb-true, eqb-true, eqb-false}
+use borrow.Author.Tests.{ltb-true, leb-true, leb-false, eqb-true, eqb-false}
 use Rattle.parity_table.specs.Members.{every, lastOf}
 use Rattle.parity_table.specs.Table.{layerOf, equationOf}
 use Rattle.parity_table.specs.Parse.{over}
@@ -18,10 +18,10 @@ use Rattle.octets.specs.ByteLists.{xors}
 use Rattle.model.specs.Symbols.{symbolIn, xorOf, zeros, others, count, firstOf, committed, symAt, putAt}
 use Rattle.model.specs.Fault.{proofBytes, verdict, proofLayer, proofEquation, proofWithheld}
 use Rattle.model.specs.Repair.{End, working, whole, fault, unavailable, twins, going, St, useEq, writeFault, writeTwins, absentAt, storeSym, fitsAt, takeable, restOf, step, peel}
-use Rattle.model.specs.Ends.{gapAt, filledIn, filled, Always, EndOk}
+use Rattle.model.specs.Ends.{gapAt, filledIn, filled, Always, Passed, Taken, EndOk}
 use Rattle.model.proofs.Bytes.{same-yes, same-no, sym-self}
 use Rattle.model.proofs.Members.{length-xorOf, xorOf-cong}
-use Rattle.model.proofs.Counts.{isIt, firstOf-passes, every-at, every-others, every-member, ascending-once, xorOf-others, others-differ, none-absent, others-held, every-both, last-member, first-member}
+use Rattle.model.proofs.Counts.{and-no, isIt, firstOf-passes, every-at, every-others, every-member, ascending-once, xorOf-others, others-differ, none-absent, others-held, every-both, last-member, first-member}
 use Rattle.model.proofs.Tables.{TableLaws}
 use Rattle.model.proofs.Flat.{put-length, put-there, symAt-length}
 use Rattle.model.proofs.FaultWriter.{GoodProof, proof-good}
@@ -238,12 +238,21 @@ module _ (S : Shape) (sh : ShapeOk S) (H : ℕ → ℕ → List ℕ → List ℕ
   full-at st i l y h hy =
       symAt-length S (st .tree) l y (room S (length tbl) (st .tree) (st .marks) (i .always .sized .tree-length) (i .always .sized .marks-length) l y (omega arith) hy)
 
-  stop-fault : (st : St) → Mid st → (e x : ℕ) → e < length (layerOf tbl j) → 1 ≤ count (isIt x) (equationOf tbl j e)
+  -- no equation below the one that is taken could be taken
+  passed-lower : (st : St) → Mid st → (q : ℕ) → q < length (layerOf tbl j) → takeable S tbl j st q ≡ false → Passed S H root tbl (st .tree) (st .marks) j q
+  unfolding takeable
+  passed-lower st i q h t =
+      let a : ℕ → Bool = absentAt S (st .marks) j in
+      ⊎-elim (λ u. inl (i .inv .done q h u, i .used-holds q h u)) (λ u. inr (omega (arith, leb-false (count a (equationOf tbl j q)) 1 u)))
+      (and-no (eqb (getD (st .used) q 0) 0) (leb (count a (equationOf tbl j q)) 1) t)
+
+  stop-fault : (st : St) → Mid st → (e x : ℕ) → Taken S H root tbl (st .tree) (st .marks) j e x → 1 ≤ count (isIt x) (equationOf tbl j e)
       → every (λ y. not (absentAt S (st .marks) j y)) (others x (equationOf tbl j e)) ≡ true
       → H j x (xorOf (symAt S (st .tree) j) (others x (equationOf tbl j e))) ≢ committed S root (symAt S (st .tree)) j x
       → StageSt (writeFault j e x (proofBytes S (symAt S (st .tree)) j e x (equationOf tbl j e)) st)
   unfolding writeFault
-  stop-fault st i e x he mem good unfit =
+  stop-fault st i e x took mem good unfit =
+      let he : e < length (layerOf tbl j) = took .in-table in
       let ms : List ℕ = equationOf tbl j e in
       let a : ℕ → Bool = absentAt S (st .marks) j in
       let p : List ℕ = proofBytes S (symAt S (st .tree)) j e x ms in
@@ -259,6 +268,8 @@ module _ (S : Shape) (sh : ShapeOk S) (H : ℕ → ℕ → List ℕ → List ℕ
         always = always-at st i;
         ends = record {
           last = i .last;
+          taken = took;
+          proof = front;
           room = omega (arith, g .fits);
           sized = ap length front;
           accepts = ap (verdict S H root tbl) front ∙ g .accepts;
@@ -267,13 +278,14 @@ module _ (S : Shape) (sh : ShapeOk S) (H : ℕ → ℕ → List ℕ → List ℕ
         };
       }
 
-  stop-twins : (st : St) → Mid st → (e x : ℕ) → e < length (layerOf tbl j) → 1 ≤ count (isIt x) (equationOf tbl j e)
+  stop-twins : (st : St) → Mid st → (e x : ℕ) → Taken S H root tbl (st .tree) (st .marks) j e x → 1 ≤ count (isIt x) (equationOf tbl j e)
       → count (absentAt S (st .marks) j) (equationOf tbl j e) ≡ 0
       → xorOf (symAt S (st .tree) j) (equationOf tbl j e) ≢ zeros
       → H j x (xorOf (symAt S (st .tree) j) (others x (equationOf tbl j e))) ≡ committed S root (symAt S (st .tree)) j x
       → StageSt (writeTwins j x (symAt S (st .tree) j x) (xorOf (symAt S (st .tree) j) (others x (equationOf tbl j e))) st)
   unfolding writeTwins symbolIn
-  stop-twins st i e x he mem c bad fit =
+  stop-twins st i e x took mem c bad fit =
+      let he : e < length (layerOf tbl j) = took .in-table in
       let ms : List ℕ = equationOf tbl j e in
       let a : ℕ → Bool = absentAt S (st .marks) j in
       let s : List ℕ = symAt S (st .tree) j x in
@@ -293,11 +305,15 @@ module _ (S : Shape) (sh : ShapeOk S) (H : ℕ → ℕ → List ℕ → List ℕ
         always = always-at st i;
         ends = record {
           last = i .last;
+          equation = e;
+          taken = took;
+          complete = c;
           in-layer = below;
           marked = is-held;
           room = omega (arith, ok .deep);
           sized = (ap length first ∙ ls, ap length second ∙ lv);
           first-is = first;
+          second-is = second;
           differ = λ q. bad (xorOf-others (symAt S (st .tree) j) x ms once ∙ ap (xors s) (sym (sym first ∙ q ∙ second)) ∙ sym-self s ls);
           hash-first = ap (H j x) first ∙ i .always .held j x (omega arith) below is-held;
           hash-second = ap (H j x) second ∙ fit;
@@ -311,8 +327,9 @@ module _ (S : Shape) (sh : ShapeOk S) (H : ℕ → ℕ → List ℕ → List ℕ
   unfolding takeable fitsAt restOf useEq storeSym
   stage-step st s =
       step-ind S H root tbl StageSt j st (λ t. s)
-      (λ e he tk g.
+      (λ e he tk lo g.
       let i : Mid st = mid-of st (st .end) g s in
+      let low : (q : ℕ) → q < e → Passed S H root tbl (st .tree) (st .marks) j q = λ q l. passed-lower st i q (omega arith) (lo q l) in
       let a : ℕ → Bool = absentAt S (st .marks) j in
       let ms : List ℕ = equationOf tbl j e in
       let few : count a ms ≤ 1 = leb-true (count a ms) 1 (and-yes (eqb (getD (st .used) e 0) 0) (leb (count a ms) 1) tk .1) in
@@ -321,15 +338,17 @@ module _ (S : Shape) (sh : ShapeOk S) (H : ℕ → ℕ → List ℕ → List ℕ
       (λ c bad.
       let x : ℕ = lastOf ms 0 in
       let mem : 1 ≤ count (isIt x) ms = last-member ms 0 (ok .some-member j e hj he) in
+      let took : Taken S H root tbl (st .tree) (st .marks) j e x = record { in-table = he; lower = low; withheld = inr (c, refl, bad) } in
       refute-ind S H root tbl StageSt j e ms x (restOf S j ms x st) st
-      (λ t. stop-twins st i e x he mem c bad (same-yes _ _ t))
-      (λ t. stop-fault st i e x he mem (every-others (λ y. not (a y)) x ms (none-absent a ms c)) (same-no t)))
+      (λ t. stop-twins st i e x took mem c bad (same-yes _ _ t))
+      (λ t. stop-fault st i e x took mem (every-others (λ y. not (a y)) x ms (none-absent a ms c)) (same-no t)))
       (λ pos.
       let x : ℕ = firstOf a ms in
       let one : count a ms ≡ 1 = omega arith in
       form-ind S H root tbl StageSt j e ms x (restOf S j ms x st) st
       (λ t. mid-store st i e he one (same-yes _ _ t))
-      (λ t. stop-fault st i e x he (first-member a ms pos) (others-held a x ms one refl) (same-no t))))
+      (λ t.
+      stop-fault st i e x (record { in-table = he; lower = low; withheld = inl (one, refl) }) (first-member a ms pos) (others-held a x ms one refl) (same-no t))))
 
   pub stage-peel : (f : ℕ) (st : St) → StageSt st → StageSt (peel S H root tbl j f st)
   unfolding peel

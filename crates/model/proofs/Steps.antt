@@ -60,7 +60,8 @@ module _ (S : Shape) (H : ℕ → ℕ → List ℕ → List ℕ) (root : List �
   -- a turn does nothing, or takes an equation
   pub step-ind : (P : St → Type 0) (j : ℕ) (st : St)
       → (takes j st ≡ false → P st)
-      → ((e : ℕ) → e < length (layerOf tbl j) → takeable S tbl j st e ≡ true → going (st .end) ≡ true → P (act S H root j e (equationOf tbl j e) st))
+      → ((e : ℕ) → e < length (layerOf tbl j) → takeable S tbl j st e ≡ true → ((q : ℕ) → q < e → takeable S tbl j st q ≡ false) → going (st .end) ≡ true
+      → P (act S H root j e (equationOf tbl j e) st))
       → P (step S H root tbl j st)
   unfolding step
   step-ind P j st n y =
@@ -68,7 +69,7 @@ module _ (S : Shape) (H : ℕ → ℕ → List ℕ → List ℕ) (root : List �
       (λ t.
       let (g, l) = and-yes (going (st .end)) (ltb (lowestEq S tbl j st) (length (layerOf tbl j))) t in
       let h : lowestEq S tbl j st < length (layerOf tbl j) = ltb-true _ _ l in
-      y (lowestEq S tbl j st) h (lowestEq-is j st .found (omega arith)) g)
+      y (lowestEq S tbl j st) h (lowestEq-is j st .found (omega arith)) (λ q l. lowestEq-is j st .before q (omega arith) l) g)
       n
 
   pub idle : (j f : ℕ) (st : St) → takes j st ≡ false → peel S H root tbl j f st ≡ st

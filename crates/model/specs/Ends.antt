@@ -1,16 +1,17 @@
 -- What holds at each end of a repair: 01, "Repair", and demand 3. Statements only.
 use mathlib.Core.Path.{_≡_}
-use mathlib.Core.Logic.{_≢_}
+use mathlib.Core.Logic.{_⊎_, _≢_}
 use mathlib.Core.Bool.{Bool, true, false, not, _&&_, _||_}
 use mathlib.Core.List.{List}
 use Prim.Native.Nat.{ℕ, zero, suc, _+_, _-_, _*_, _≤_, _<_}
 use lib.ListN.{length, getD, take, drop}
+use Rattle.parity_table.specs.Members.{lastOf}
 use Rattle.parity_table.specs.Table.{layerOf, equationOf}
 use Rattle.model.specs.Shape.{Shape, place, places}
 use Rattle.octets.specs.ByteLists.{same}
-use Rattle.model.specs.Symbols.{bit, count, xorOf, zeros, symbolIn, committed, symAt}
+use Rattle.model.specs.Symbols.{bit, count, firstOf, others, xorOf, zeros, symbolIn, committed, symAt}
 use Rattle.model.specs.Coded.{Agrees}
-use Rattle.model.specs.Fault.{accepted, verdict, proofLayer, proofEquation, proofWithheld}
+use Rattle.model.specs.Fault.{proofBytes, accepted, verdict, proofLayer, proofEquation, proofWithheld}
 use Rattle.model.specs.Repair.{End, working, whole, fault, unavailable, twins, St, absentAt, repair}
 
 -- ---- sets of symbols of a layer with n symbols, as tests of the numbers below n
@@ -90,9 +91,25 @@ module _ (S : Shape) (H : ℕ → ℕ → List ℕ → List ℕ) (root : List �
     pub drained : (l : ℕ) → l < length tbl → Drained t₀ m₀ (st .tree) l
     pub out-kept : st .out ≡ o₀
 
+  -- an equation that is used, or can't be taken: it is complete and holds, or has more than one absent member
+  abbrev pub Passed : List ℕ → List ℕ → ℕ → ℕ → Type 0
+  Passed t m j e =
+      ((count (absentAt S m j) (equationOf tbl j e) ≡ 0) × (xorOf (symAt S t j) (equationOf tbl j e) ≡ zeros))
+      ⊎ (2 ≤ count (absentAt S m j) (equationOf tbl j e))
+
+  -- "the lowest unused equation with at most one absent member", and the member that is withheld: "One absent: form it from the others"; "None absent
+  -- and the equation fails: withhold the last member"
+  pub record Taken (t m : List ℕ) (j e x : ℕ) : Type 0 where
+    pub in-table : e < length (layerOf tbl j)
+    pub lower : (q : ℕ) → q < e → Passed t m j q
+    pub withheld : ((count (absentAt S m j) (equationOf tbl j e) ≡ 1) × (x ≡ firstOf (absentAt S m j) (equationOf tbl j e)))
+        ⊎ ((count (absentAt S m j) (equationOf tbl j e) ≡ 0) × (x ≡ lastOf (equationOf tbl j e) 0) × (xorOf (symAt S t j) (equationOf tbl j e) ≢ zeros))
+
   -- "a fault proof that the checker accepts": n bytes from the start of the output buffer, of layer j, equation e, withholding x
   pub record FaultEnd (o₀ : List ℕ) (j e x n : ℕ) (st : St) : Type 0 where
     pub last : st .entered ≡ suc j
+    pub taken : Taken (st .tree) (st .marks) j e x
+    pub proof : take n (st .out) ≡ proofBytes S (symAt S (st .tree)) j e x (equationOf tbl j e)
     pub room : n ≤ length o₀
     pub sized : length (take n (st .out)) ≡ n
     pub accepts : verdict S H root tbl (take n (st .out)) ≡ accepted
@@ -109,11 +126,15 @@ module _ (S : Shape) (H : ℕ → ℕ → List ℕ → List ℕ) (root : List �
   -- "The two symbols of twins differ, and both have the committed hash": of symbol x of layer j, in the first 512 bytes of the output buffer
   pub record TwinsEnd (o₀ : List ℕ) (j x : ℕ) (st : St) : Type 0 where
     pub last : st .entered ≡ suc j
+    pub equation : ℕ
+    pub taken : Taken (st .tree) (st .marks) j equation x
+    pub complete : count (absentAt S (st .marks) j) (equationOf tbl j equation) ≡ 0
     pub in-layer : x < S .n j
     pub marked : absentAt S (st .marks) j x ≡ false
     pub room : 512 ≤ length o₀
     pub sized : (length (symbolIn (st .out) 0) ≡ 256) × (length (symbolIn (st .out) 1) ≡ 256)
     pub first-is : symbolIn (st .out) 0 ≡ symAt S (st .tree) j x
+    pub second-is : symbolIn (st .out) 1 ≡ xorOf (symAt S (st .tree) j) (others x (equationOf tbl j equation))
     pub differ : symbolIn (st .out) 0 ≢ symbolIn (st .out) 1
     pub hash-first : H j x (symbolIn (st .out) 0) ≡ committed S root (symAt S (st .tree)) j x
     pub hash-second : H j x (symbolIn (st .out) 1) ≡ committed S root (symAt S (st .tree)) j x
