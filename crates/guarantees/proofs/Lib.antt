@@ -1,6 +1,7 @@
 pub mod Answers
 pub mod Layouts
 pub mod Tables
+pub mod Trees
 pub mod Marks
 pub mod Refusals
 pub mod Demand1

@@ -1,5 +1,5 @@
 -- Every call answers as its tests say: with which number and value, and just when.
-use mathlib.Core.Path.{_≡_, refl, sym, ap, _∙_, subst}
+use mathlib.Core.Path.{_≡_, refl, sym, ap, ap₂, _∙_, subst}
 use mathlib.Core.Logic.{_≢_}
 use mathlib.Core.Bool.{Bool, true, false, not, _&&_, true≢false}
 use mathlib.Core.List.{List}
@@ -48,10 +48,10 @@ use Rattle.cedunmi.specs.Tables.{byTable}
 use Rattle.cedunmi.specs.Volume.{treeWritten, blockLengths, lowestAbsent, blockRead}
 use Rattle.cedunmi.specs.Sample.{led, needed, sampleTaken, sampleChecked}
 use Rattle.cedunmi.specs.Repairs.{repairLengths, repairTested}
-use Rattle.guarantees.specs.Layouts.{bytesFrom, dataSymbols, treeSymbols, markAt}
+use Rattle.guarantees.specs.Layouts.{bytesFrom, dataSymbols, treeSymbols, markAt, sampledLayer, sampledNumber}
 use Rattle.guarantees.specs.Tables.{TableRight, FirstWrongWord}
 use Rattle.guarantees.specs.Answers.{done, test, unless, JustWhen}
-use Rattle.guarantees.specs.Refusals.{LowestOf, DepthRight, TableLength, TreeLengths, BlockLength, RootLength, SampleLength, BadMark, InBase, samplePlace, dataOfSample, AllHashesLead, hashTests, wordsTests, tableTests, houseTests, WriterLengths, writerTests, blockTests, samplerTests, sampleTests, RepairLengths, repairTests, Refusals}
+use Rattle.guarantees.specs.Refusals.{LowestOf, DepthRight, TableLength, TreeLengths, BlockLength, RootLength, SampleLength, BadMark, InBase, dataOfSample, AllHashesLead, hashTests, wordsTests, tableTests, houseTests, WriterLengths, writerTests, blockTests, samplerTests, sampleTests, RepairLengths, repairTests, Refusals}
 use Rattle.guarantees.proofs.Answers.{all-done, stops-here, passes-here, stops-unless, passes-unless}
 use Rattle.guarantees.proofs.Layouts.{tree-symbols, place-of, mark-at, hash-for}
 use Rattle.guarantees.proofs.Marks.{all-right}
@@ -313,13 +313,20 @@ module _ (d : ℕ) (t m b : List ℕ) where
 
 -- ---- samples
 
-sample-place : (d i x : ℕ) → samplePlace d i x ≡ place tree (sampleLayer d x) (sampleNumber tree d i x)
-unfolding samplePlace sampleLayer sampleNumber dataNo parityNo kOf
-sample-place d i zero = let e : d - 1 ≡ d - 1 - (0 + 1) / 2 = omega arith in place-of (d - 1) i ∙ ap (λ (l : ℕ). place tree l i) e
-sample-place d i (suc y) =
-    let e : d - 2 - y / 2 ≡ d - 1 - (suc y + 1) / 2 = omega arith in
-    place-of (d - 2 - y / 2) _
-    ∙ ap (λ (l : ℕ). place tree l (pick (eqb (y % 2) 0) (i % dataSymbols l) (dataSymbols l + i % (3 * dataSymbols l)))) e
+pub sampled-layer : (d x : ℕ) → sampledLayer d x ≡ sampleLayer d x
+unfolding sampledLayer sampleLayer
+sampled-layer d zero = omega arith
+sampled-layer d (suc y) = omega arith
+
+pub sampled-number : (d i x : ℕ) → sampledNumber d i x ≡ sampleNumber tree d i x
+unfolding sampledNumber sampleNumber dataNo parityNo kOf
+sampled-number d i zero = refl
+sampled-number d i (suc y) =
+    ap (λ (l : ℕ). pick (eqb (y % 2) 0) (i % dataSymbols l) (dataSymbols l + i % (3 * dataSymbols l))) (sampled-layer d (suc y))
+
+-- the mark of symbol x of a sample
+sampled-mark : (d i x : ℕ) (m : List ℕ) → markAt m (sampledLayer d x) (sampledNumber d i x) ≡ getD m (place tree (sampleLayer d x) (sampleNumber tree d i x)) 0
+sampled-mark d i x m = ap₂ (λ (l n : ℕ). markAt m l n) (sampled-layer d x) (sampled-number d i x) ∙ mark-at m (sampleLayer d x) (sampleNumber tree d i x)
 
 needed-pick : (b : Bool) (x : ℕ) → needed (pick b (At x) Nothing) ≡ pick b (Stopped (Absent x)) Done
 unfolding pick
@@ -332,15 +339,14 @@ module _ (d i : ℕ) (t m s : List ℕ) where
     low-sampled : getD m (place tree (sampleLayer d x) (sampleNumber tree d i x)) 0 ≤ 1
     low-sampled = low (place tree (sampleLayer d x) (sampleNumber tree d i x)) (omega (arith, sample-place-lt d i x base h, tree-symbols d))
 
-    sampled-said : absent d i m x ≡ true → getD m (samplePlace d i x) 0 ≡ 0
+    sampled-said : absent d i m x ≡ true → markAt m (sampledLayer d x) (sampledNumber d i x) ≡ 0
     unfolding absent
-    sampled-said a =
-        ap (λ (p : ℕ). getD m p 0) (sample-place d i x) ∙ absent-said m (sampleLayer d x) (sampleNumber tree d i x) low-sampled a
+    sampled-said a = sampled-mark d i x m ∙ absent-said m (sampleLayer d x) (sampleNumber tree d i x) low-sampled a
 
-    sampled-seen : getD m (samplePlace d i x) 0 ≡ 0 → absent d i m x ≡ true
+    sampled-seen : markAt m (sampledLayer d x) (sampledNumber d i x) ≡ 0 → absent d i m x ≡ true
     unfolding absent
     sampled-seen e =
-        absent-seen m (sampleLayer d x) (sampleNumber tree d i x) low-sampled (ap (λ (p : ℕ). getD m p 0) (sym (sample-place d i x)) ∙ e)
+        absent-seen m (sampleLayer d x) (sampleNumber tree d i x) low-sampled (sym (sampled-mark d i x m) ∙ e)
 
   sampler : JustWhen (numberOf (sampleTaken d i t m s)) (valueOf (sampleTaken d i t m s)) (samplerTests d i t m s)
   unfolding sampleTaken firstAbsent foundBelow kOf nOf
@@ -357,7 +363,7 @@ module _ (d i : ℕ) (t m s : List ℕ) where
       (λ h.
       let base : BaseSymbol d i = (depth-right d f .0, depth-right d f .1, h) in
       rw (needed-pick (ltb (lowest (absent d i m) 0 (sampleSize d)) (sampleSize d)) (lowest (absent d i m) 0 (sampleSize d)))
-      (by-search (absent d i m) (λ x. getD m (samplePlace d i x) 0 ≡ 0) (sampleSize d) (sampled-said low base) (sampled-seen low base) 9
+      (by-search (absent d i m) (λ x. markAt m (sampledLayer d x) (sampledNumber d i x) ≡ 0) (sampleSize d) (sampled-said low base) (sampled-seen low base) 9
       (λ v. Stopped (Absent v)) Done (λ v. refl) (λ v. refl) (λ q. all-done))))))
 
 module _ (d i : ℕ) (root s : List ℕ) where

@@ -5,6 +5,8 @@ use mathlib.Core.List.{List}
 use Prim.Native.Nat.{ℕ, zero, suc, _+_, _-_, _*_, _/_, _%_, _^_, _<_}
 use lib.ListN.{length, getD, take, drop}
 use lib.Bits.{bitXor}
+use lib.Dec.{eqb}
+use Rattle.octets.specs.Choice.{pick}
 
 -- n bytes, the first being number a
 unfoldable pub bytesFrom : List ℕ → ℕ → ℕ → List ℕ
@@ -60,6 +62,17 @@ pub record XorOf (g : ℕ → List ℕ) (n : ℕ) (s : List ℕ) : Type 0 where
   pub bytes : (p : ℕ) → p < 256 → getD s p 0 ≡ xorRun (λ q. getD (g q) p 0) 0 n
 
 -- ---- "Sample and fault proof"
+
+-- "A sample of base symbol i is that symbol, then for each layer upward from D−2 to 0 its data symbol (i mod k) and its parity symbol k + (i mod 3k),
+-- with that layer's k": the layer and the number of symbol x of a sample. Symbols 2u+1 and 2u+2 are of layer D−2−u.
+unfoldable pub sampledLayer : ℕ → ℕ → ℕ
+sampledLayer d zero = d - 1
+sampledLayer d (suc y) = d - 2 - y / 2
+
+unfoldable pub sampledNumber : ℕ → ℕ → ℕ → ℕ
+sampledNumber d i zero = i
+sampledNumber d i (suc y) =
+    pick (eqb (y % 2) 0) (i % dataSymbols (sampledLayer d (suc y))) (dataSymbols (sampledLayer d (suc y)) + i % (3 * dataSymbols (sampledLayer d (suc y))))
 
 -- "from symbol i to data symbol (i mod s) of the layer above": x layers up from symbol i of layer j
 unfoldable pub upFrom : ℕ → ℕ → ℕ → ℕ

@@ -1,6 +1,7 @@
 pub mod Layouts
 pub mod Terms
 pub mod Tables
+pub mod Trees
 pub mod Answers
 pub mod Refusals
 pub mod FaultProofs

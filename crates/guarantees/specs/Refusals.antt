@@ -2,12 +2,9 @@
 -- words, and a call makes its tests in this order. Statements only.
 use mathlib.Core.Path.{_≡_}
 use mathlib.Core.Logic.{_≢_}
-use mathlib.Core.Bool.{Bool}
 use mathlib.Core.List.{List}
-use Prim.Native.Nat.{ℕ, zero, suc, _+_, _-_, _*_, _/_, _%_, _^_, _≤_, _<_}
+use Prim.Native.Nat.{ℕ, suc, _+_, _-_, _*_, _%_, _^_, _≤_, _<_}
 use lib.ListN.{length, getD}
-use lib.Dec.{eqb}
-use Rattle.octets.specs.Choice.{pick}
 use Rattle.sha256.specs.Hash.{sha256}
 use Rattle.sha256.specs.Call.{answer, number}
 use Rattle.parity_table.specs.Right as reader
@@ -18,7 +15,7 @@ use Rattle.cedunmi.specs.Stops.{numberOf, valueOf}
 use Rattle.cedunmi.specs.Volume.{treeWritten, blockRead}
 use Rattle.cedunmi.specs.Sample.{sampleTaken, sampleChecked}
 use Rattle.cedunmi.specs.Repairs.{repairTested}
-use Rattle.guarantees.specs.Layouts.{symbolNo, dataSymbols, allSymbols, treeSymbols, placeOf, markAt, hashFor}
+use Rattle.guarantees.specs.Layouts.{symbolNo, dataSymbols, allSymbols, treeSymbols, markAt, hashFor, sampledLayer, sampledNumber}
 use Rattle.guarantees.specs.Tables.{FirstWrongWord}
 use Rattle.guarantees.specs.Answers.{Answered, done, test, unless, JustWhen}
 
@@ -69,16 +66,9 @@ InBase d i = i < allSymbols (d - 1)
 abbrev pub AbsentData : ℕ → List ℕ → ℕ → Type 0
 AbsentData d m = LowestOf (λ i. markAt m (d - 1) i ≡ 0) (dataSymbols (d - 1))
 
--- The place of symbol x of a sample of base symbol i: "that symbol, then for each layer upward from D−2 to 0 its data symbol (i mod k) and its parity
--- symbol k + (i mod 3k), with that layer's k". Symbols 2u+1 and 2u+2 are of layer D−2−u.
-unfoldable pub samplePlace : ℕ → ℕ → ℕ → ℕ
-samplePlace d i zero = placeOf (d - 1) i
-samplePlace d i (suc y) =
-    placeOf (d - 2 - y / 2) (pick (eqb (y % 2) 0) (i % dataSymbols (d - 2 - y / 2)) (dataSymbols (d - 2 - y / 2) + i % (3 * dataSymbols (d - 2 - y / 2))))
-
 -- 9, sampling: "index in the sample of the first"
 abbrev pub AbsentSampled : ℕ → ℕ → List ℕ → ℕ → Type 0
-AbsentSampled d i m = LowestOf (λ x. getD m (samplePlace d i x) 0 ≡ 0) (2 * d - 1)
+AbsentSampled d i m = LowestOf (λ x. markAt m (sampledLayer d x) (sampledNumber d i x) ≡ 0) (2 * d - 1)
 
 -- 7, of a sample: "Every hash in it is checked: both symbols of a layer against the next data symbol up, the top ones against the root." Layer j's data
 -- symbol is number 2(D−1−j)−1 of the sample, its parity symbol the one after it.
