@@ -1,48 +1,52 @@
 -- The list of first equations, filled from the last equation to the first.
-use mathlib.Core.Bool.{Bool, true}
+use mathlib.Core.Bool.{true}
 use mathlib.Core.List.{List, [], _∷_}
-use mathlib.Core.Path.{_∙_, _≡_, ap, refl, subst, sym}
-use Prim.Native.Nat.{_+_, _<_, _≤_, suc, zero, ℕ}
+use mathlib.Core.Path.{_∙_, _≡_, ap, ap₂, refl, subst, sym}
+use Prim.Native.Nat.{_+_, _-_, _<_, _≤_, suc, zero, ℕ}
+use native.Mathlib.Decide.{decLt}
 use native.Mathlib.Omega.{arith}
-use lib.Dec.{eqb, leb, ltb}
-use lib.ListN.{drop, drop-of-length-le, getD, length, length-set, set}
-use lib.Seq.{getD-set-same}
-use borrow.Author.Tests.{eqb-false, eqb-true, le-leb, leb-true, lt-ltb, ltb-true}
+use lib.Dec.{eqb, ltb}
+use lib.ListN.{List·getD-eq-default, drop, drop-of-length-le, getD, length, length-set, set}
+use lib.Seq.{getD-set-other, getD-set-same}
+use borrow.Author.Tests.{eqb-false, eqb-true, lt-ltb, ltb-true}
+use Rattle.model.proofs.Counts.{isIt}
 use Rattle.model.proofs.Members.{from-here}
+use Rattle.model.specs.Symbols.{bit, count}
 use Rattle.octets.proofs.Choice.{and-yes, by-test, yes-and}
 use Rattle.parity_table.specs.Members.{every}
 use Rattle.parity_table.specs.Table.{equationOf, layerOf}
-use Rattle.peeling.specs.Firsts.{NoneBefore, setAll}
+use Rattle.peeling.specs.Firsts.{FirstAt, Has, NoneBefore, firsts, firstsFrom, setAll}
 
 -- ---- one value at several places
 
-pub length-setAll : (ms : List ℕ) (v : ℕ) (l : List ℕ) → length (setAll ms v l) ≡ length l
+length-setAll : (ms : List ℕ) (v : ℕ) (l : List ℕ) → length (setAll ms v l) ≡ length l
 unfolding setAll
 length-setAll [] v l = refl
 length-setAll (y ∷ ys) v l = length-setAll ys v (set l y v) ∙ length-set l y v
 
--- a bound of the value and of an entry bounds the entry afterwards
-setAll-le : (ms : List ℕ) (v : ℕ) (l : List ℕ) (y q : ℕ) → v ≤ q → getD l y 0 ≤ q → getD (setAll ms v l) y 0 ≤ q
-unfolding setAll
-setAll-le [] v l y q hv hl = hl
-setAll-le (x ∷ xs) v l y q hv hl = setAll-le xs v (set l x v) y q hv (set-le l x v y q hv hl)
-  where
-    set-le : (l : List ℕ) (x v y q : ℕ) → v ≤ q → getD l y 0 ≤ q → getD (set l x v) y 0 ≤ q
-    set-le [] x v y q hv hl = hl
-    set-le (a ∷ l) zero v zero q hv hl = hv
-    set-le (a ∷ l) zero v (suc y) q hv hl = hl
-    set-le (a ∷ l) (suc x) v zero q hv hl = hl
-    set-le (a ∷ l) (suc x) v (suc y) q hv hl = set-le l x v y q hv hl
+-- the entry of a place that is not one of those stays
+setAll-out : (ms : List ℕ) (v : ℕ) (l : List ℕ) (x : ℕ) → count (isIt x) ms ≡ 0 → getD (setAll ms v l) x 0 ≡ getD l x 0
+unfolding setAll count
+setAll-out [] v l x c = refl
+setAll-out (y ∷ ys) v l x c =
+    by-test (eqb y x) (λ t. absurd (omega (arith, ap bit t)))
+    (λ t.
+    setAll-out ys v (set l y v) x (omega (arith, ap bit t)) ∙ getD-set-other l y x v 0 (λ z. eqb-false y x t (sym z)))
 
--- the entries at those places are at most the value
-setAll-at : (ms : List ℕ) (v : ℕ) (l : List ℕ) → every (λ y. ltb y (length l)) ms ≡ true → every (λ y. leb (getD (setAll ms v l) y 0) v) ms ≡ true
-unfolding setAll every
-setAll-at [] v l a = refl
-setAll-at (y ∷ ys) v l a =
-    let (b, c) = and-yes (ltb y (length l)) (every (λ z. ltb z (length l)) ys) a in
-    yes-and
-    (le-leb (getD (setAll ys v (set l y v)) y 0) v (setAll-le ys v (set l y v) y v (omega arith) (omega (arith, getD-set-same l y v 0 (ltb-true y (length l) b)))))
-    (setAll-at ys v (set l y v) (subst (λ (n : ℕ). every (λ z. ltb z n) ys ≡ true) (sym (length-set l y v)) c))
+-- that of one of them is the value
+setAll-in : (ms : List ℕ) (v : ℕ) (l : List ℕ) (x : ℕ) → x < length l → 1 ≤ count (isIt x) ms → getD (setAll ms v l) x 0 ≡ v
+unfolding setAll count
+setAll-in [] v l x h c = absurd (omega arith)
+setAll-in (y ∷ ys) v l x h c =
+    elim (decLt 0 (count (isIt x) ys)) [
+      | yes a ↦ setAll-in ys v (set l y v) x (omega (arith, length-set l y v)) a
+      | no a ↦
+          by-test (eqb y x)
+          (λ t.
+          let z : y ≡ x = eqb-true y x t in
+          setAll-out ys v (set l y v) x (omega arith) ∙ ap (λ (q : ℕ). getD (set l q v) x 0) z ∙ getD-set-same l x v 0 h)
+          (λ t. absurd (omega (arith, ap bit t)))
+    ]
 
 -- ---- one turn of the loop over members
 
@@ -55,31 +59,98 @@ module _ (ms : List ℕ) (v i : ℕ) (l : List ℕ) where
   unfolding setAll
   set-done h = ap (λ (q : List ℕ). setAll q v l) (drop-of-length-le ms h)
 
--- ---- one turn of the loop over equations
-
-every-mono : (p q : ℕ → Bool) → ((x : ℕ) → p x ≡ true → q x ≡ true) → (xs : List ℕ) → every p xs ≡ true → every q xs ≡ true
-unfolding every
-every-mono p q h [] a = refl
-every-mono p q h (x ∷ xs) a = let (b, c) = and-yes (p x) (every p xs) a in yes-and (h x b) (every-mono p q h xs c)
-
 -- members below n are below what is no less
 pub within-longer : (n l : ℕ) (xs : List ℕ) → n ≤ l → every (λ y. ltb y n) xs ≡ true → every (λ y. ltb y l) xs ≡ true
-within-longer n l xs h = every-mono (λ y. ltb y n) (λ y. ltb y l) (λ y t. lt-ltb y l (omega (arith, ltb-true y n t))) xs
+unfolding every
+within-longer n l [] h a = refl
+within-longer n l (x ∷ xs) h a =
+    let (b, c) = and-yes (ltb x n) (every (λ y. ltb y n) xs) a in
+    yes-and (lt-ltb x l (omega (arith, ltb-true x n b))) (within-longer n l xs h c)
 
-module _ (tbl : List (List (List ℕ))) (j : ℕ) (first : List ℕ) where
-  pub none-start : (e : ℕ) → length (layerOf tbl j) ≤ e → NoneBefore tbl j first e
-  none-start e h = λ q a b. absurd (omega arith)
+-- ---- the equations
 
-  pub none-turn : (e : ℕ) (ms first′ : List ℕ) → ms ≡ equationOf tbl j e → every (λ y. ltb y (length first)) ms ≡ true → first′ ≡ setAll ms e first
-      → NoneBefore tbl j first (suc e) → NoneBefore tbl j first′ e
-  none-turn e ms first′ em a ef nb q h k =
-      subst (λ (l : List ℕ). every (λ y. leb (getD l y 0) q) (equationOf tbl j q) ≡ true) (sym ef)
-      (by-test (eqb q e)
-      (λ t.
-      let z : q ≡ e = eqb-true q e t in
-      subst (λ (n : ℕ). every (λ y. leb (getD (setAll ms e first) y 0) n) (equationOf tbl j n) ≡ true) (sym z)
-      (subst (λ (l : List ℕ). every (λ y. leb (getD (setAll ms e first) y 0) e) l ≡ true) em (setAll-at ms e first a)))
-      (λ t.
-      every-mono (λ y. leb (getD first y 0) q) (λ y. leb (getD (setAll ms e first) y 0) q)
-      (λ y b. le-leb (getD (setAll ms e first) y 0) q (setAll-le ms e first y q h (leb-true (getD first y 0) q b))) (equationOf tbl j q)
-      (nb q (omega (arith, eqb-false q e t)) k)))
+module _ (tbl : List (List (List ℕ))) (j : ℕ) (lent : List ℕ) where
+  length-firstsFrom : (e n : ℕ) → length (firstsFrom tbl j e n lent) ≡ length lent
+  unfolding firstsFrom
+  length-firstsFrom e zero = refl
+  length-firstsFrom e (suc n) = length-setAll (equationOf tbl j e) e (firstsFrom tbl j (suc e) n lent) ∙ length-firstsFrom (suc e) n
+
+  pub length-firsts : length (firsts tbl j lent) ≡ length lent
+  length-firsts = length-firstsFrom 0 (length (layerOf tbl j))
+
+  -- the loop over the n equations, from the last to the first: those from number e on have come
+  module _ (n e : ℕ) where
+    pub firsts-start : n ≤ e → lent ≡ firstsFrom tbl j e (n - e) lent
+    unfolding firstsFrom
+    firsts-start h = let k : n - e ≡ 0 = omega arith in sym (ap (λ (m : ℕ). firstsFrom tbl j e m lent) k)
+
+    module _ (first : List ℕ) (f : first ≡ firstsFrom tbl j e (n - e) lent) where
+      pub firsts-turn : (ms first′ : List ℕ) → 0 < e → e ≤ n → ms ≡ equationOf tbl j (e - 1) → first′ ≡ setAll ms (e - 1) first
+          → first′ ≡ firstsFrom tbl j (e - 1) (n - (e - 1)) lent
+      unfolding firstsFrom
+      firsts-turn ms first′ h l em ef =
+          let k : e ≡ suc (e - 1) = omega arith in
+          let m : n - (e - 1) ≡ suc (n - e) = omega arith in
+          ef ∙ ap₂ (λ (a b : List ℕ). setAll a (e - 1) b) em (f ∙ ap (λ (q : ℕ). firstsFrom tbl j q (n - e) lent) k)
+          ∙ sym (ap (λ (q : ℕ). firstsFrom tbl j (e - 1) q lent) m)
+
+      pub firsts-end : e ≤ 0 → n ≡ length (layerOf tbl j) → first ≡ firsts tbl j lent
+      firsts-end h l =
+          let z : e ≡ 0 = omega arith in
+          let k : n - e ≡ length (layerOf tbl j) = omega arith in
+          f ∙ ap₂ (λ (a b : ℕ). firstsFrom tbl j a b lent) z k
+
+  -- entry x
+
+  module _ (x : ℕ) where
+    abbrev entry : ℕ → ℕ → ℕ
+    entry e n = getD (firstsFrom tbl j e n lent) x 0
+
+    passes : (e n : ℕ) → count (isIt x) (equationOf tbl j e) ≡ 0 → entry e (suc n) ≡ entry (suc e) n
+    unfolding firstsFrom
+    passes e n c = setAll-out (equationOf tbl j e) e (firstsFrom tbl j (suc e) n lent) x c
+
+    kept-from : (e n : ℕ) → ((q : ℕ) → Has tbl j x q → ⊥) → entry e n ≡ getD lent x 0
+    unfolding firstsFrom
+    kept-from e zero none = refl
+    kept-from e (suc n) none =
+        elim (decLt 0 (count (isIt x) (equationOf tbl j e))) [
+          | yes a ↦ absurd (none e a)
+          | no a ↦ passes e n (omega arith) ∙ kept-from (suc e) n none
+        ]
+
+    lowest-from : (e n q : ℕ) → x < length lent → e ≤ q → q < e + n → Has tbl j x q → Has tbl j x (entry e n) × (entry e n ≤ q)
+    unfolding firstsFrom
+    lowest-from e zero q h a b c = absurd (omega arith)
+    lowest-from e (suc n) q h a b c =
+        elim (decLt 0 (count (isIt x) (equationOf tbl j e))) [
+          | yes g ↦
+              let z : entry e (suc n) ≡ e = setAll-in (equationOf tbl j e) e (firstsFrom tbl j (suc e) n lent) x (omega (arith, length-firstsFrom (suc e) n)) g in
+              (subst (Has tbl j x) (sym z) g, omega arith)
+          | no g ↦
+              let d : suc e ≤ q = by-test (eqb q e) (λ t. absurd (omega (arith, subst (Has tbl j x) (eqb-true q e t) c))) (λ t. omega (arith, eqb-false q e t)) in
+              subst (λ (v : ℕ). Has tbl j x v × (v ≤ q)) (sym (passes e n (omega arith))) (lowest-from (suc e) n q h d (omega arith) c)
+        ]
+
+    -- what has a symbol is an equation of the layer
+    has-number : (e : ℕ) → Has tbl j x e → e < length (layerOf tbl j)
+    unfolding equationOf count
+    has-number e c =
+        elim (decLt e (length (layerOf tbl j))) [
+          | yes a ↦ a
+          | no a ↦ absurd (omega (arith, ap (count (isIt x)) (List·getD-eq-default (layerOf tbl j) [] {n = e} (omega arith))))
+        ]
+
+    pub first-at : x < length lent → FirstAt tbl j lent (firsts tbl j lent) x
+    first-at h =
+        record {
+          lowest = λ e c. lowest-from 0 (length (layerOf tbl j)) e h (omega arith) (omega (arith, has-number e c)) c;
+          kept = kept-from 0 (length (layerOf tbl j));
+        }
+
+  pub none-before : NoneBefore tbl j (firsts tbl j lent)
+  none-before x e c =
+      elim (decLt x (length lent)) [
+        | yes h ↦ first-at x h .lowest e c .1
+        | no h ↦ omega (arith, List·getD-eq-default (firsts tbl j lent) 0 {n = x} (omega (arith, length-firsts)))
+      ]

@@ -10,7 +10,7 @@ use native.Mathlib.Omega.{arith}
 use lib.Dec.{eqb, leb, ltb}
 use lib.ListN.{getD, length, replicate, set}
 use lib.Seq.{getD-set-other, getD-set-same}
-use borrow.Author.Tests.{eqb-false, eqb-true, le-ltb, leb-true, lt-ltb, ltb-true}
+use borrow.Author.Tests.{eqb-false, eqb-true, le-ltb, lt-ltb, ltb-true}
 use Rattle.model.proofs.Counts.{every-member, isIt}
 use Rattle.model.proofs.Peel.{absent-other, count-used}
 use Rattle.model.proofs.Steps.{idle, lowestEq-is, takes}
@@ -187,15 +187,14 @@ module _ (root : List ℕ) (tbl : List (List (List ℕ))) (j n : ℕ) (en : n �
         stored-fewer = let q = seen (Stored x) er .told in ap (λ (l : List ℕ). suc (unused l)) (q .1 .2) ∙ fewer (q .0)
 
         -- the search goes on at the first equation that has the symbol
-        module _ (first : List ℕ) (nb : NoneBefore tbl j first 0) where
+        module _ (first : List ℕ) (nb : NoneBefore tbl j first) where
           pub stored-first : getD first x 0 ≤ e
-          stored-first =
-              leb-true (getD first x 0) e (every-member (λ y. leb (getD first y 0) e) x (equationOf tbl j e) (nb e (omega arith) (omega arith)) stored-in)
+          stored-first = nb x e stored-in
 
           has-not : (q : ℕ) → q < getD first x 0 → count (isIt x) (equationOf tbl j q) ≡ 0
           has-not q h =
               elim (decLt 0 (count (isIt x) (equationOf tbl j q))) [
-                | yes a ↦ absurd (omega (arith, h, leb-true (getD first x 0) q (every-member (λ y. leb (getD first y 0) q) x (equationOf tbl j q) (nb q (omega arith) (omega (arith, stored-first))) a)))
+                | yes a ↦ absurd (omega (arith, nb x q a))
                 | no a ↦ omega arith
               ]
 

@@ -6,10 +6,10 @@ ghost use mathlib.Core.Bool.{true};
 ghost use Prim.Native.Nat.{_≤_, _<_};
 ghost use lib.ListN.{length};
 ghost use lib.Dec.{ltb};
-ghost use Rattle.parity_table.specs.Shape.{nOf, kOf};
+ghost use Rattle.parity_table.specs.Shape.{nOf};
 ghost use Rattle.parity_table.specs.Members.{every};
 ghost use Rattle.parity_table.specs.Parse.{Indexed, tableOf};
-ghost use Rattle.peeling.specs.Firsts.{setAll, NoneBefore};
+ghost use Rattle.peeling.specs.Firsts.{setAll, firsts};
 
 // Sets e at each of the members.
 fn set_members(members: &[u32], e: usize, first: &mut [usize])
@@ -22,10 +22,10 @@ fn set_members(members: &[u32], e: usize, first: &mut [usize])
     }
 }
 
-// Fills first, of which symbol x of layer j has entry x.
+// Fills first: the number of the lowest equation of layer j that has symbol x is entry x, and entries of numbers that none has stay.
 pub fn fill(depth: usize, words: &[u32], starts: &[usize], j: usize, first: &mut [usize])
     requires { ⌜ Indexed depth (now words) (now starts) × (j < depth) × (nOf j ≤ length (now first)) ⌝ }
-    ensures { λ r. ⌜ NoneBefore (tableOf (now (words .entry))) j (now (first .exit)) 0 ⌝ }
+    ensures { λ r. ⌜ now (first .exit) ≡ firsts (tableOf (now (words .entry))) j (now (first .entry)) ⌝ }
 {
     let mut e = 3 * data_count(j);
     while 0 < e {

@@ -31,7 +31,7 @@ pub fn peel_layer(
     stored: usize,
 ) -> Run
     requires { ⌜ Lent (now root) (now words) (now starts) (now tree) (now marks) (now out) (now used) j
-        × (now used ≡ replicate (3 * kOf j) 0) × (nOf j ≤ length (now first)) × NoneBefore (tableOf (now words)) j (now first) 0
+        × (now used ≡ replicate (3 * kOf j) 0) × (nOf j ≤ length (now first)) × NoneBefore (tableOf (now words)) j (now first)
         × (stored ≤ 2 ^ 20) ⌝ }
     ensures { λ r.
         ⌜ Came (peel shape symbolHash (now (root .entry)) (tableOf (now (words .entry))) j (3 * kOf j)) j (now (tree .entry))

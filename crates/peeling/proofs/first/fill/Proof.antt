@@ -1,5 +1,5 @@
--- `fill` meets its contract. The loop keeps: no equation from e on has a symbol whose entry is a later one.
-use mathlib.Core.Path.{_∙_, _≡_, refl, subst}
+-- `fill` meets its contract. The loop keeps: the equations from e on have put their numbers at their members.
+use mathlib.Core.Path.{_∙_, _≡_, refl, sym}
 use Prim.Native.Nat.{_*_, _-_, _≤_}
 use native.Mathlib.Omega.{arith}
 use lib.ListN.{length}
@@ -10,13 +10,13 @@ use Rattle.parity_table.proofs.Accepts.{accepted-depth, accepted-table, members
 use Rattle.parity_table.proofs.Parse.{k-small}
 use Rattle.parity_table.specs.Parse.{tableOf}
 use Rattle.parity_table.specs.Shape.{kOf, nOf}
-use Rattle.peeling.proofs.FirstLaws.{none-start, none-turn, within-longer}
-use Rattle.peeling.specs.Firsts.{NoneBefore}
+use Rattle.peeling.proofs.FirstLaws.{firsts-end, firsts-start, firsts-turn, within-longer}
+use Rattle.peeling.specs.Firsts.{firstsFrom}
 use Rattle.peeling.proofs.first.fill.Statement.{statement}
 use Rattle.peeling.proofs.first.fill.Tie as tie
 
 abbrev Inv-loop : tie.InvT-loop
-Inv-loop depth words starts j first₀ e₀ first e = (e ≤ 3 * kOf j) × (length first ≡ length first₀) × NoneBefore (tableOf words) j first e
+Inv-loop depth words starts j first₀ e₀ first e = (e ≤ 3 * kOf j) × (length first ≡ length first₀) × (first ≡ firstsFrom (tableOf words) j e (3 * kOf j - e) first₀)
 
 abbrev μ-loop : tie.MeasureT-loop
 μ-loop depth words starts j first₀ e₀ first e = e
@@ -32,7 +32,7 @@ mul-e c =
 loop-holds : tie.Need-loop-holds Inv-loop μ-loop
 loop-holds c =
     let s = c .before .before .before .before in
-    (omega (arith, c .data-count .ensures), refl, none-start (tableOf (s .args .words .now)) (s .args .j) (s .args .first .now) _ (omega (arith, c .data-count .ensures, accepted-table (s .args .depth) (s .args .words .now) (s .pre .0 .accepted) .equations (s .args .j) (s .pre .1))))
+    (omega (arith, c .data-count .ensures), refl, firsts-start (tableOf (s .args .words .now)) (s .args .j) (s .args .first .now) (3 * kOf (s .args .j)) _ (omega (arith, c .data-count .ensures)))
 
 sub-e : tie.Need-sub-e Inv-loop μ-loop
 sub-e c = omega arith
@@ -74,11 +74,7 @@ loop-again c =
     let e = members-there (s .args .words .now) (s .args .j) _ _ _ (c .before .before .before .before .before .before .equation .ensures) in (
       omega (arith, l .inv .0),
       c .before .before .set-members .kept .1 .1 .0 ∙ l .inv .1,
-      none-turn (tableOf (s .args .words .now)) (s .args .j) (l .first) (l .e - 1) _ _ e
-          (within-longer (nOf (s .args .j)) (length (l .first)) _ (omega (arith, l .inv .1, s .pre .2))
-          (members-inside (s .args .depth) (s .args .words .now) (s .pre .0 .accepted) (s .args .j) _ (kOf (s .args .j)) (s .pre .1) refl (omega (arith, l .inv .0, c .before .before .before .before .before .before .before .loop-test .taken)) _ e))
-          (c .before .before .set-members .ensures)
-          (subst (NoneBefore (tableOf (s .args .words .now)) (s .args .j) (l .first)) (omega (arith, c .before .before .before .before .before .before .before .loop-test .taken)) (l .inv .2)),
+      firsts-turn (tableOf (s .args .words .now)) (s .args .j) (s .args .first .now) (3 * kOf (s .args .j)) (l .e) (l .first) (l .inv .2) _ _ (c .before .before .before .before .before .before .before .loop-test .taken) (l .inv .0) e (c .before .before .set-members .ensures),
     )
 
 same-length : tie.Need-same-length Inv-loop μ-loop
@@ -87,7 +83,7 @@ same-length c = c .before .loop .inv .1
 returns : tie.Need-returns Inv-loop μ-loop
 returns c =
     let s = c .before .before .before .before .before .before in
-    subst (NoneBefore (tableOf (s .args .words .now)) (s .args .j) (c .before .loop .first)) (omega arith) (c .before .loop .inv .2)
+    firsts-end (tableOf (s .args .words .now)) (s .args .j) (s .args .first .now) (3 * kOf (s .args .j)) (c .before .loop .e) (c .before .loop .first) (c .before .loop .inv .2) (omega arith) (sym (accepted-table (s .args .depth) (s .args .words .now) (s .pre .0 .accepted) .equations (s .args .j) (s .pre .1)))
 
 pub fill-spec : {M : Type 1} → statement M
 fill-spec =

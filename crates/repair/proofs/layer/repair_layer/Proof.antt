@@ -1,6 +1,6 @@
 -- `repair_layer` meets its contract: sweep, peeling and (c), with the layer's own lists.
 use mathlib.Core.List.{List}
-use mathlib.Core.Path.{_∙_, _≡_, ap, refl, sym}
+use mathlib.Core.Path.{_∙_, _≡_, ap, refl, subst, sym}
 use Prim.Native.Nat.{_*_, _≤_, ℕ}
 use native.Mathlib.Omega.{arith}
 use lib.ListN.{length, length-replicate, replicate}
@@ -8,6 +8,8 @@ use lib.Seq.{length-take-le}
 use borrow.Author.Needs.{needs}
 use Rattle.parity_table.specs.Parse.{tableOf}
 use Rattle.parity_table.specs.Shape.{kOf, nOf}
+use Rattle.peeling.proofs.FirstLaws.{none-before}
+use Rattle.peeling.specs.Firsts.{NoneBefore}
 use Rattle.repair.proofs.LayerLaws.{equations, front-zeros, given-keep, k-low, layer-below, layered, lent, level}
 use Rattle.repair.proofs.layer.repair_layer.Statement.{statement}
 use Rattle.repair.proofs.layer.repair_layer.Tie as tie
@@ -65,7 +67,7 @@ peel-layer-requires c κs =
       lent (s .args .depth) (s .args .words .now) (s .args .starts .now) (s .args .root .now) _ _ _ k (s .args .j) (s .pre .1) _ (ap length u ∙ length-replicate (3 * c .before .before .before .before .before .before .before .before .before .before .before .before .before .before .before .data-count .result) 0 ∙ n),
       u ∙ ap (λ (q : ℕ). replicate q 0) n,
       omega (arith, c .before .before .before .before .before .before .before .before .before .before .before .before .before .fill .kept, k-low (s .args .j) b),
-      c .before .before .before .before .before .before .before .before .before .before .before .before .before .fill .ensures,
+      subst (NoneBefore (tableOf (s .args .words .now)) (s .args .j)) (sym (c .before .before .before .before .before .before .before .before .before .before .before .before .before .fill .ensures)) (none-before (tableOf (s .args .words .now)) (s .args .j) _),
       s .pre .2,
     )
 
