@@ -1,24 +1,36 @@
--- What is known of the buffers of a table that was loaded and accepted.
+-- The buffers that a table is loaded into, and what is known of them where it is accepted.
 use mathlib.Core.Path.{_≡_, refl, sym, ap, _∙_, subst}
 use mathlib.Core.List.{List}
 use Prim.Native.Nat.{ℕ, _/_, _≤_}
 use native.Mathlib.Omega.{arith}
 use lib.ListN.{length, take, drop, length-take, length-drop, length-append}
-use Rattle.parity_table.specs.Shape.{maxDepth}
+use Rattle.parity_table.specs.Shape.{maxDepth, depthFits}
 use Rattle.parity_table.specs.declared.Answer.{Answer as Read}
 use Rattle.parity_table.specs.declared.Answer.the-variants.{Whole}
 use Rattle.parity_table.specs.declared.Answer.the-variants as read
-use Rattle.parity_table.specs.Bytes.{wordsOf, readBytesOf, loadedWords}
-use Rattle.parity_table.specs.Parse.{Indexed, indexedBy, indexOf, tableOf, equationsAbove}
-use Rattle.parity_table.proofs.ByteForm.{loaded-front, loaded-indexed, bytes-accepted, wordsOf-length}
+use Rattle.parity_table.specs.Bytes.{wordsOf, readBytesOf}
+use Rattle.parity_table.specs.Parse.{Indexed, indexedBy, indexOf, over, tableOf, equationsAbove}
+use Rattle.parity_table.proofs.ByteForm.{loaded-indexed, bytes-accepted, words-front, wordsOf-length}
 use Rattle.parity_table.specs.Reader.{readOf}
-use Rattle.parity_table.proofs.Accepts.{index-room, accepted-depth, accepted-table}
+use Rattle.parity_table.specs.Right.{Right}
+use Rattle.parity_table.proofs.Accepts.{read-right, index-room, accepted-depth, accepted-table}
+use Rattle.octets.proofs.Choice.{both}
 use Rattle.model.specs.Shape.{tree}
 use Rattle.model.proofs.Tables.{TableLaws, table-laws}
 use Rattle.cedunmi.specs.declared.Answer.{Answer}
 use Rattle.cedunmi.specs.declared.Answer.the-variants.{Done}
 use Rattle.cedunmi.specs.Stops.{numberOf}
-use Rattle.cedunmi.specs.Tables.{byTable}
+use Rattle.cedunmi.specs.Tables.{byTable, loadedWords}
+
+-- with the depth right, the words' buffer holds the words
+pub loaded-words : (d : ℕ) (b lent : List ℕ) → depthFits d ≡ true → over (wordsOf b) lent ≡ loadedWords (readOf d (wordsOf b)) b lent
+loaded-words d b lent h = by-answer (readOf d (wordsOf b)) (read-right d (wordsOf b))
+  where
+    by-answer : (a : Read) → Right d (wordsOf b) a → over (wordsOf b) lent ≡ loadedWords a b lent
+    by-answer read.Depth r = both h r
+    by-answer read.Length r = absurd r
+    by-answer (read.Wrong i) r = refl
+    by-answer Whole r = refl
 
 module _ (d : ℕ) (table w lentw s lents : List ℕ) (a : Read) (ea : a ≡ readBytesOf d table) (ok : a ≡ Whole) (ew : w ≡ loadedWords a table lentw)
     (es : s ≡ indexedBy a (wordsOf table) lents) where
@@ -26,7 +38,7 @@ module _ (d : ℕ) (table w lentw s lents : List ℕ) (a : Read) (ea : a ≡ rea
   accepted = sym ea ∙ ok
 
   pub words-there : take (length table / 4) w ≡ wordsOf table
-  words-there = ap (take (length table / 4)) (ew ∙ ap (λ r. loadedWords r table lentw) ea) ∙ loaded-front d table accepted lentw
+  words-there = words-front table lentw w (ew ∙ ap (λ r. loadedWords r table lentw) ok)
 
   pub indexed-there : Indexed d (take (length table / 4) w) s
   indexed-there =

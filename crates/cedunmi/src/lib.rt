@@ -4,6 +4,7 @@ pub mod proof; // checking a fault proof
 pub mod repairs; // repairing a tree
 pub mod sample; // taking a sample, and checking one
 mod shape; // how many symbols and bytes there are
+mod tables; // a table's words and index
 pub mod volume; // writing a tree, and reading its block back
 
 // Why a call stopped: 01, "What stops a call".

@@ -1,11 +1,11 @@
 // Checking a fault proof.
 use crate::Answer;
 use crate::Stop;
+use crate::tables::load;
 use fault_proof::Verdict;
 use parity_table::Answer as Read;
 use parity_table::MAX_EQUATIONS;
 use parity_table::depth_fits;
-use parity_table::wire;
 use parity_table::wire::MAX_WORDS;
 ghost use mathlib.Core.Path.{_≡_};
 ghost use Rattle.fault_proof.specs.Verdicts.{verdictOf};
@@ -40,7 +40,7 @@ pub fn check(depth: usize, root: &[u8], table: &[u8], proof: &[u8]) -> Answer
     }
     let mut words = [0u32; MAX_WORDS];
     let mut starts = [0usize; MAX_EQUATIONS];
-    match wire::load(table, depth, &mut words, &mut starts) {
+    match load(table, depth, &mut words, &mut starts) {
         Read::Depth => Answer::Stopped(Stop::Depth),
         Read::Length => Answer::Stopped(Stop::Length),
         Read::Wrong(i) => Answer::Stopped(Stop::Table(i)),

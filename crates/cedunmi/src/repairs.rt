@@ -2,10 +2,10 @@
 use crate::Stop;
 use crate::marks::first_bad;
 use crate::shape::tree_fits;
+use crate::tables::load;
 use parity_table::Answer as Read;
 use parity_table::MAX_EQUATIONS;
 use parity_table::depth_fits;
-use parity_table::wire;
 use parity_table::wire::MAX_WORDS;
 use repair::Report;
 ghost use mathlib.Core.Path.{_≡_};
@@ -57,7 +57,7 @@ pub fn repair_tree(
     }
     let mut words = [0u32; MAX_WORDS];
     let mut starts = [0usize; MAX_EQUATIONS];
-    match wire::load(table, depth, &mut words, &mut starts) {
+    match load(table, depth, &mut words, &mut starts) {
         Read::Depth => Outcome::Stopped(Stop::Depth),
         Read::Length => Outcome::Stopped(Stop::Length),
         Read::Wrong(i) => Outcome::Stopped(Stop::Table(i)),

@@ -4,11 +4,11 @@ use crate::Stop;
 use crate::marks::first_bad;
 use crate::shape::block_fits;
 use crate::shape::tree_fits;
+use crate::tables::load;
 use parity_table::Answer as Read;
 use parity_table::MAX_EQUATIONS;
 use parity_table::data_count;
 use parity_table::depth_fits;
-use parity_table::wire;
 use parity_table::wire::MAX_WORDS;
 ghost use mathlib.Core.Path.{_≡_};
 ghost use Rattle.cedunmi.specs.Volume.{blockRead, blockLeft, treeWritten, treeLeft, marksLeft, rootLeft};
@@ -71,7 +71,7 @@ pub fn write_tree(
     }
     let mut words = [0u32; MAX_WORDS];
     let mut starts = [0usize; MAX_EQUATIONS];
-    match wire::load(table, depth, &mut words, &mut starts) {
+    match load(table, depth, &mut words, &mut starts) {
         Read::Depth => Answer::Stopped(Stop::Depth),
         Read::Length => Answer::Stopped(Stop::Length),
         Read::Wrong(i) => Answer::Stopped(Stop::Table(i)),

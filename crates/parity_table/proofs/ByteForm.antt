@@ -1,5 +1,5 @@
 -- Words as bytes and back: the loops between the two forms, and the tests of a length.
-use mathlib.Core.Path.{_≡_, refl, sym, ap, _∙_, subst}
+use mathlib.Core.Path.{_≡_, refl, sym, ap, _∙_}
 use mathlib.Core.Bool.{Bool, true, false, _&&_}
 use mathlib.Core.List.{List, [], _∷_, _++_, append-assoc}
 use Prim.Native.Nat.{ℕ, suc, _+_, _*_, _/_, _%_, _≤_, _<_}
@@ -15,11 +15,10 @@ use Rattle.octets.proofs.Bytes.{length-words}
 use Rattle.parity_table.specs.declared.Answer.{Answer}
 use Rattle.parity_table.specs.declared.Answer.the-variants.{Depth, Length, Wrong, Whole}
 use Rattle.parity_table.specs.Shape.{depthFits}
-use Rattle.parity_table.specs.Reader.{layered, run, readOf}
+use Rattle.parity_table.specs.Reader.{readOf}
 use Rattle.parity_table.specs.Parse.{indexOf, over, indexedBy, Indexed}
-use Rattle.parity_table.specs.Bytes.{maxBytes, lengthFits, wordsOf, readBytesOf, loadedWords}
+use Rattle.parity_table.specs.Bytes.{maxBytes, lengthFits, wordsOf, readBytesOf}
 use Rattle.octets.proofs.Choice.{by-test, pick-yes, pick-no, and-yes}
-use Rattle.parity_table.proofs.Run.{run-ends}
 use Rattle.parity_table.proofs.Accepts.{refused-wrong}
 
 -- ---- a length
@@ -84,13 +83,6 @@ length-most : (n : ℕ) → lengthFits n ≡ true → n ≤ maxBytes
 unfolding lengthFits
 length-most n t = leb-true n maxBytes (and-yes (leb n maxBytes) (eqb (n % 4) 0) t .0)
 
--- with the depth and the length right, the words' buffer holds the words
-pub loaded-words : (d : ℕ) (b lent : List ℕ) → depthFits d ≡ true → over (wordsOf b) lent ≡ loadedWords (readOf d (wordsOf b)) b lent
-unfolding readOf
-loaded-words d b lent h =
-    subst (λ (a : Answer). over (wordsOf b) lent ≡ loadedWords a b lent) (sym (pick-yes (depthFits d) (run d 0 (layered d 0) (wordsOf b)) Depth h))
-    (run-ends d 0 (layered d 0) (wordsOf b) (λ (a : Answer). over (wordsOf b) lent ≡ loadedWords a b lent) (λ q. refl) (λ r q. refl))
-
 pub wordsOf-length : (b : List ℕ) → length (wordsOf b) ≡ length b / 4
 unfolding wordsOf
 wordsOf-length b = length-words b (length b / 4)
@@ -122,10 +114,6 @@ module _ (d : ℕ) (b : List ℕ) (q : readBytesOf d b ≡ Whole) where
   pub bytes-accepted : readOf d (wordsOf b) ≡ Whole
   bytes-accepted =
       by-words d b Whole q (λ e. let z : _≡_ {A = ℕ} 0 1 = cc in omega arith) (λ e. let z : _≡_ {A = ℕ} 0 1 = cc in omega arith) .1
-
-  -- they stand in front of the words' buffer
-  pub loaded-front : (lent : List ℕ) → take (length b / 4) (loadedWords (readBytesOf d b) b lent) ≡ wordsOf b
-  loaded-front lent = words-front b lent (loadedWords (readBytesOf d b) b lent) (ap (λ (r : Answer). loadedWords r b lent) q)
 
   -- and the index's buffer holds their index
   pub loaded-indexed : (lent : List ℕ) → Indexed d (wordsOf b) (indexedBy (readBytesOf d b) (wordsOf b) lent)

@@ -8,10 +8,9 @@ use lib.Dec.{leb, eqb}
 use Rattle.octets.specs.Choice.{pick}
 use Rattle.octets.specs.BigEndian.{words}
 use Rattle.parity_table.specs.declared.Answer.{Answer}
-use Rattle.parity_table.specs.declared.Answer.the-variants.{Depth, Length, Wrong, Whole}
+use Rattle.parity_table.specs.declared.Answer.the-variants.{Depth, Length}
 use Rattle.parity_table.specs.Shape.{depthFits}
 use Rattle.parity_table.specs.Reader.{readOf}
-use Rattle.parity_table.specs.Parse.{over}
 
 -- the words of the bytes
 unfoldable pub wordsOf : List ℕ → List ℕ
@@ -27,10 +26,3 @@ lengthFits n = leb n maxBytes && eqb (n % 4) 0
 -- what the reader answers of a table from C, for depth d: tests 1, 2 and 3 in this order
 unfoldable pub readBytesOf : ℕ → List ℕ → Answer
 readBytesOf d b = pick (depthFits d) (pick (lengthFits (length b)) (readOf d (wordsOf b)) Length) Depth
-
--- what the words' lent buffer holds afterwards: the words, once the depth and the length have passed
-abbrev pub loadedWords : Answer → List ℕ → List ℕ → List ℕ
-loadedWords Depth b lent = lent
-loadedWords Length b lent = lent
-loadedWords (Wrong i) b lent = over (wordsOf b) lent
-loadedWords Whole b lent = over (wordsOf b) lent

@@ -1,6 +1,5 @@
 // A table as bytes, four to a word, the highest first: the form in which it comes from C.
 use crate::Answer;
-use crate::MAX_EQUATIONS;
 use crate::depth_fits;
 use crate::index;
 use crate::reader::read;
@@ -11,7 +10,7 @@ ghost use Rattle.octets.specs.BigEndian.{bytesOf};
 ghost use Rattle.parity_table.specs.Shape.{maxDepth};
 ghost use Rattle.parity_table.specs.Reader.{readOf};
 ghost use Rattle.parity_table.specs.Parse.{over, equationsAbove, indexedBy};
-ghost use Rattle.parity_table.specs.Bytes.{lengthFits, wordsOf, readBytesOf, loadedWords};
+ghost use Rattle.parity_table.specs.Bytes.{lengthFits, wordsOf, readBytesOf};
 
 // The longest table, in bytes and in words.
 pub const MAX_BYTES: usize = 16384;
@@ -77,28 +76,6 @@ pub fn load_words(b: &[u8], depth: usize, words: &mut [u32], starts: &mut [usize
     let a = read_words(b, depth, words);
     index::fill_accepted(&words[..n], a, starts);
     a
-}
-
-// Reads a table of this depth: its words go to the front of words, and the index of a table that is
-// accepted to the front of starts.
-pub fn load(
-    b: &[u8],
-    depth: usize,
-    words: &mut [u32; MAX_WORDS],
-    starts: &mut [usize; MAX_EQUATIONS],
-) -> Answer
-    ensures { λ r.
-        ⌜ (r ≡ readBytesOf depth (now (b .entry)))
-        × (now (words .exit) ≡ loadedWords r (now (b .entry)) (now (words .entry)))
-        × (now (starts .exit) ≡ indexedBy r (wordsOf (now (b .entry))) (now (starts .entry))) ⌝ }
-{
-    if !depth_fits(depth) {
-        return Answer::Depth;
-    }
-    if !length_fits(b.len()) {
-        return Answer::Length;
-    }
-    load_words(b, depth, words, starts)
 }
 
 // Reads a table of this depth, for the answer alone.

@@ -4,14 +4,15 @@ use Prim.Native.Nat.{_-_}
 use native.Mathlib.Omega.{arith}
 use lib.ListN.{length}
 use borrow.Author.Needs.{needs}
-use Rattle.parity_table.specs.Shape.{kOf}
-use Rattle.parity_table.proofs.ByteForm.{bytes-depth, bytes-length, bytes-words, loaded-words, quarter-most}
 use Rattle.octets.proofs.Choice.{not-yes, not-no}
-use Rattle.parity_table.specs.Bytes.{loadedWords}
-use Rattle.parity_table.specs.declared.Answer.{Answer}
+use Rattle.parity_table.specs.Shape.{kOf}
 use Rattle.parity_table.specs.Parse.{equationsAbove}
-use Rattle.parity_table.proofs.wire.load.Statement.{statement}
-use Rattle.parity_table.proofs.wire.load.Tie as tie
+use Rattle.parity_table.specs.declared.Answer.{Answer as Read}
+use Rattle.parity_table.proofs.ByteForm.{bytes-depth, bytes-length, bytes-words, quarter-most}
+use Rattle.cedunmi.specs.Tables.{loadedWords}
+use Rattle.cedunmi.proofs.LoadLaws.{loaded-words}
+use Rattle.cedunmi.proofs.tables.load.Statement.{statement}
+use Rattle.cedunmi.proofs.tables.load.Tie as tie
 
 depth-fits-requires : tie.Need-depth-fits-requires
 depth-fits-requires c κs = search needs
@@ -50,7 +51,7 @@ returns-3 c =
       r .0 ∙ bytes-words (a .depth) (a .b .now) deep long,
       r .1
           ∙ loaded-words (a .depth) (a .b .now) (a .words .now) deep
-          ∙ ap (λ (x : Answer). loadedWords x (a .b .now) (a .words .now)) (sym (r .0)),
+          ∙ ap (λ (x : Read). loadedWords x (a .b .now) (a .words .now)) (sym (r .0)),
       r .2,
     )
 
