@@ -18,7 +18,7 @@ use Rattle.octets.specs.ByteLists.{xors}
 use Rattle.model.specs.Symbols.{symbolIn, xorOf, others, count, slot, committed}
 use Rattle.model.specs.Coded.{Digests, InTree, Agrees, CollisionWith}
 use Rattle.model.specs.Climb.{Climb, leads, breaks}
-use Rattle.model.specs.Fault.{reached, kindAt, proofLayer, proofEquation, proofWithheld, proofLength, body, next, givenXor, afterGiven, proofMembers, proofGiven, layerOk, equationOk, memberOk, headOk, Verdict, accepted, wrongHead, wrongLength, broken, noFault, verdictNumber, firstBreak, ruling, wayCheck, givenCheck, pathCheck, pathHash, proofCheck, withheldFits, verdict, InWay, InGiven, InPath, ProofHolds}
+use Rattle.model.specs.Fault.{reached, kindAt, proofLayer, proofEquation, proofWithheld, proofLength, body, next, givenXor, afterGiven, proofMembers, proofGiven, layerOk, equationOk, memberOk, headOk, Verdict, accepted, wrongHead, wrongLength, noFault, firstBreak, ruling, wayCheck, givenCheck, pathCheck, pathHash, proofCheck, withheldFits, verdict, InWay, InGiven, InPath, ProofHolds}
 use Rattle.model.proofs.Bytes.{yes-same, sym-cancel}
 use Rattle.model.proofs.Members.{length-xorOf}
 use Rattle.model.proofs.Counts.{isIt, ascending-once, xorOf-others, every-others, every-member}
@@ -30,18 +30,15 @@ use Rattle.model.proofs.Ways.{reached-up, reached-lt, committed-same, W
 -- ---- the tests that an accepted proof has passed
 
 -- a test that turns away did not
-picked : (b : Bool) (v w : Verdict) → (v ≡ accepted → ⊥) → pick b v w ≡ accepted → (b ≡ false) × (w ≡ accepted)
+picked : (b : Bool) (v w : Verdict) → (v ≡ accepted → _≡_ {A = ℕ} 0 1) → pick b v w ≡ accepted → (b ≡ false) × (w ≡ accepted)
 unfolding pick
-picked true v w n e = absurd (n e)
+picked true v w n e = absurd (omega (arith, n e))
 picked false v w n e = (refl, e)
-
-refused : (v : Verdict) → (verdictNumber v ≡ 0 → ⊥) → v ≡ accepted → ⊥
-refused v n e = n (ap verdictNumber e)
 
 ruled : (c : Climb) (b : Bool) → ruling c b ≡ accepted → (c ≡ leads) × (b ≡ false)
 unfolding ruling
-ruled leads b e = (refl, picked b noFault accepted (refused noFault (λ z. omega arith)) e .0)
-ruled (breaks j) b e = absurd (refused (broken j) (λ z. omega arith) e)
+ruled leads b e = (refl, picked b noFault accepted (λ z. cc) e .0)
+ruled (breaks j) b e = absurd (let z : _≡_ {A = ℕ} 0 1 = cc in omega arith)
 
 both-lead : (a b : Climb) → firstBreak a b ≡ leads → (a ≡ leads) × (b ≡ leads)
 unfolding firstBreak
@@ -76,8 +73,8 @@ module _ (S : Shape) (H : ℕ → ℕ → List ℕ → List ℕ) (root : List �
   pub accepted-is : (b : List ℕ) → verdict S H root tbl b ≡ accepted → Accepted b
   unfolding verdict proofCheck
   accepted-is b e =
-      let (a₁, e₁) = picked (not (headOk tbl b)) wrongHead _ (refused wrongHead (λ z. omega arith)) e in
-      let (a₂, e₂) = picked (not (eqb (length b) (proofLength (proofLayer b) (length (proofMembers tbl b))))) wrongLength _ (refused wrongLength (λ z. omega arith)) e₁ in
+      let (a₁, e₁) = picked (not (headOk tbl b)) wrongHead _ (λ z. cc) e in
+      let (a₂, e₂) = picked (not (eqb (length b) (proofLength (proofLayer b) (length (proofMembers tbl b))))) wrongLength _ (λ z. cc) e₁ in
       let (a₃, a₄) = ruled (proofCheck S H root tbl b) (withheldFits S H root tbl b) e₂ in
       let (g, p) = both-lead (givenCheck S H root (proofLayer b) (proofGiven tbl b) (body b)) _ a₃ in
       record {

@@ -112,14 +112,6 @@ pub data Verdict : Type 0 where
   broken : (layer : ℕ) → Verdict
   noFault : Verdict
 
--- its number in "What stops a call"
-abbrev pub verdictNumber : Verdict → ℕ
-verdictNumber accepted = 0
-verdictNumber wrongHead = 6
-verdictNumber wrongLength = 2
-verdictNumber (broken j) = 7
-verdictNumber noFault = 8
-
 -- one way after another: the first that breaks
 unfoldable pub firstBreak : Climb → Climb → Climb
 firstBreak leads c = c
