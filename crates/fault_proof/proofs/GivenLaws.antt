@@ -4,7 +4,6 @@ use mathlib.Core.List.{List, [], _∷_}
 use Prim.Native.Nat.{ℕ, suc, _+_, _*_, _≤_, _<_}
 use native.Mathlib.Omega.{arith}
 use lib.ListN.{length, getD, take, drop}
-use lib.Seq.{drop-drop}
 use Rattle.octets.specs.ByteLists.{xors}
 use Rattle.octets.proofs.ListLaws.{length-part, length-xors}
 use Rattle.symbol_hash.specs.SymbolHash.{symbolHash}
@@ -14,25 +13,14 @@ use Rattle.symbol_hash.specs.Ways.{climbOf}
 use Rattle.model.specs.Shape.{tree}
 use Rattle.model.specs.Symbols.{symbolIn, zeros, others}
 use Rattle.model.specs.Climb.{Climb, leads, breaks}
-use Rattle.model.specs.Fault.{next, givenXor, afterGiven, firstBreak, wayCheck, givenCheck}
+use Rattle.model.specs.Fault.{next, givenXor, firstBreak, wayCheck, givenCheck}
 use Rattle.model.proofs.Bytes.{xors-comm, xors-assoc, sym-zeros, length-zeros}
 use Rattle.model.proofs.Members.{others-skip, others-take, others-end}
+use Rattle.model.proofs.Ways.{next-at}
 
 -- ---- where they stand in b, from byte `from` on
 
 module _ (b : List ℕ) (j : ℕ) where
-  next-at : (from : ℕ) → next j (drop from b) ≡ drop (from + 256 * (j + 1)) b
-  unfolding next
-  next-at from = let e : from + 256 * suc j ≡ from + 256 * (j + 1) = omega arith in drop-drop (256 * suc j) from b ∙ ap (λ o. drop o b) e
-
-  -- what follows them
-  pub after-at : (ys : List ℕ) (from : ℕ) → afterGiven j ys (drop from b) ≡ drop (from + 256 * (length ys * suc j)) b
-  unfolding afterGiven
-  after-at [] from = let e : from ≡ from + 256 * (0 * suc j) = omega arith in ap (λ o. drop o b) e
-  after-at (y ∷ ys) from =
-      let e : from + 256 * (j + 1) + 256 * (length ys * suc j) ≡ from + 256 * (suc (length ys) * suc j) = omega arith in
-      ap (afterGiven j ys) (next-at from) ∙ after-at ys (from + 256 * (j + 1)) ∙ ap (λ o. drop o b) e
-
   -- their exclusive-or has 256 bytes
   length-xor : (ys : List ℕ) (from : ℕ) → from + 256 * (length ys * suc j) ≤ length b → length (givenXor j ys (drop from b)) ≡ 256
   unfolding givenXor symbolIn
@@ -40,7 +28,7 @@ module _ (b : List ℕ) (j : ℕ) where
   length-xor (y ∷ ys) from h =
       let l : length (take 256 (drop from b)) ≡ 256 = length-part b from 256 (omega arith) in
       let m : length (givenXor j ys (next j (drop from b))) ≡ 256 =
-      ap (λ c. length (givenXor j ys c)) (next-at from) ∙ length-xor ys (from + 256 * (j + 1)) (omega arith) in
+      ap (λ c. length (givenXor j ys c)) (next-at b j from) ∙ length-xor ys (from + 256 * (j + 1)) (omega arith) in
       omega (arith, length-xors (take 256 (drop from b)) (givenXor j ys (next j (drop from b))), l, m)
 
 -- ---- the members other than x, from member i on, which stand in b from byte `from` on

@@ -21,9 +21,9 @@ use Rattle.model.specs.Symbols.{others}
 use Rattle.model.specs.Climb.{Climb}
 use Rattle.model.specs.Fault.{proofLength, body, givenXor, afterGiven, accepted, wrongLength, broken, noFault, firstBreak, ruling, pathHash, givenCheck, pathCheck}
 use Rattle.model.proofs.Counts.{isIt, count-le, every-member, length-others}
+use Rattle.model.proofs.Ways.{after-at}
 use Rattle.fault_proof.specs.Lent.{Withheld}
 use Rattle.fault_proof.specs.Ruled.{ruled}
-use Rattle.fault_proof.proofs.GivenLaws.{after-at}
 
 module _ (root : List ℕ) (j x : ℕ) (ms b : List ℕ) (k : Withheld j x ms) where
   -- ---- numbers

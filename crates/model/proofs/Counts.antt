@@ -94,7 +94,7 @@ ascending-once x (y ∷ ys) a =
     (λ t. omega (arith, bit-le (eqb y x), every-none (ltb y) (isIt x) (λ z w. ne-eqb z x (λ k. omega (arith, ltb-true y z w, eqb-true y x t))) ys u))
     (λ t. omega (arith, ap bit t, ascending-once x ys v))
 
-others-none : (x : ℕ) (xs : List ℕ) → count (isIt x) xs ≡ 0 → others x xs ≡ xs
+pub others-none : (x : ℕ) (xs : List ℕ) → count (isIt x) xs ≡ 0 → others x xs ≡ xs
 unfolding others count
 others-none x [] c = refl
 others-none x (y ∷ ys) c =

@@ -51,7 +51,7 @@ be-read x h =
     sum x a b c r s t p q u = omega arith
 
 module _ (kind v : ℕ) (r : List ℕ) where
-  word-0 : kind < 4 → v < 2 ^ 30 → wordAt (be 4 (word kind v) ++ r) 0 ≡ word kind v
+  pub word-0 : kind < 4 → v < 2 ^ 30 → wordAt (be 4 (word kind v) ++ r) 0 ≡ word kind v
   unfolding wordAt be
   word-0 hk hv = be-read (kind * 2 ^ 30 + v) (omega arith)
 
@@ -79,16 +79,16 @@ module _ (kind v : ℕ) (r : List ℕ) where
   unfolding valueAt wordAt be
   value-2 = refl
 
-module _ (S : Shape) (sh : ShapeOk S) (H : ℕ → ℕ → List ℕ → List ℕ) (root : List ℕ) (f : ℕ → ℕ → List ℕ) (j : ℕ)
-    (sized : (l i : ℕ) → l ≤ j → i < S .n l → length (f l i) ≡ 256)
-    (above : (l i : ℕ) → l < j → i < S .n l → H l i (f l i) ≡ committed S root f l i) where
-  -- ---- a way that is written: its symbols, and that it leads to the root
+-- ---- what is written
+
+module _ (S : Shape) (sh : ShapeOk S) (f : ℕ → ℕ → List ℕ) (j : ℕ) (sized : (l i : ℕ) → l ≤ j → i < S .n l → length (f l i) ≡ 256) where
+  -- a way
 
   module _ (l i : ℕ) (hl : l ≤ j) (hi : i < S .n l) where
     piece : (x : ℕ) → x < suc l → length (f (l - (0 + x)) (reached S l i (0 + x))) ≡ 256
     piece x h = rw zero-add (sized (l - x) (reached S l i x) (omega arith) (reached-lt S l i sh hi x (omega arith)))
 
-    way-length : length (wayBytes S f l i) ≡ 256 * suc l
+    pub way-length : length (wayBytes S f l i) ≡ 256 * suc l
     unfolding wayBytes
     way-length = joined-length (λ x. f (l - x) (reached S l i x)) 256 (suc l) 0 piece
 
@@ -98,7 +98,7 @@ module _ (S : Shape) (sh : ShapeOk S) (H : ℕ → ℕ → List ℕ → List ℕ
         joined-piece (λ x. f (l - x) (reached S l i x)) 256 (suc l) 0 x (omega arith) piece
         ∙ ap (λ (n : ℕ). f (l - n) (reached S l i n)) (zero-add x)
 
-    way-symbol : (r : List ℕ) (x : ℕ) → x ≤ l → symbolIn (wayBytes S f l i ++ r) x ≡ f (l - x) (reached S l i x)
+    pub way-symbol : (r : List ℕ) (x : ℕ) → x ≤ l → symbolIn (wayBytes S f l i ++ r) x ≡ f (l - x) (reached S l i x)
     unfolding symbolIn
     way-symbol r x h =
         let a : List ℕ = wayBytes S f l i in
@@ -111,8 +111,54 @@ module _ (S : Shape) (sh : ShapeOk S) (H : ℕ → ℕ → List ℕ → List ℕ
     unfolding reached
     way-first r = let z : l - 0 ≡ l = omega arith in way-symbol r 0 (omega arith) ∙ ap (λ (n : ℕ). f n i) z
 
-    -- the symbol's own hash being the committed one
-    module _ (mine : H l i (f l i) ≡ committed S root f l i) where
+  -- a path
+
+  pub path-length : (l i : ℕ) → l ≤ j → length (pathBytes S f l i) ≡ 256 * l
+  unfolding pathBytes
+  path-length zero i h = refl
+  path-length (suc l) i h = way-length l (i % S .k l) (omega arith) (up-lt S sh l i)
+
+  -- the given members, which pass the test p
+
+  module _ (p : ℕ → Bool) (below : (y : ℕ) → p y ≡ true → y < S .n j) where
+    pub given-split : (y : ℕ) (ys r : List ℕ) → givenBytes S f j (y ∷ ys) ++ r ≡ wayBytes S f j y ++ (givenBytes S f j ys ++ r)
+    unfolding givenBytes
+    given-split y ys r = append-assoc (wayBytes S f j y) (givenBytes S f j ys) r
+
+    pub given-next : (y : ℕ) (ys r : List ℕ) → p y ≡ true → next j (givenBytes S f j (y ∷ ys) ++ r) ≡ givenBytes S f j ys ++ r
+    unfolding next
+    given-next y ys r t =
+        ap (drop (256 * suc j)) (given-split y ys r)
+        ∙ drop-at (wayBytes S f j y) (givenBytes S f j ys ++ r) (256 * suc j) (way-length j y (omega arith) (below y t))
+
+    pub given-length : (ys : List ℕ) → every p ys ≡ true → length (givenBytes S f j ys) ≡ 256 * (length ys * suc j)
+    unfolding givenBytes every
+    given-length [] a = omega arith
+    given-length (y ∷ ys) a =
+        let (u, v) = and-yes (p y) (every p ys) a in
+        omega (arith, length-append (wayBytes S f j y) (givenBytes S f j ys), way-length j y (omega arith) (below y u), given-length ys v)
+
+    given-xor : (ys r : List ℕ) → every p ys ≡ true → givenXor j ys (givenBytes S f j ys ++ r) ≡ xorOf (f j) ys
+    unfolding givenXor xorOf every
+    given-xor [] r a = refl
+    given-xor (y ∷ ys) r a =
+        let (u, v) = and-yes (p y) (every p ys) a in
+        ap₂ xors
+        (ap (λ (c : List ℕ). symbolIn c 0) (given-split y ys r) ∙ way-first j y (omega arith) (below y u) (givenBytes S f j ys ++ r))
+        (ap (givenXor j ys) (given-next y ys r u) ∙ given-xor ys r v)
+
+    pub given-after : (ys r : List ℕ) → every p ys ≡ true → afterGiven j ys (givenBytes S f j ys ++ r) ≡ r
+    unfolding afterGiven every givenBytes
+    given-after [] r a = refl
+    given-after (y ∷ ys) r a =
+        let (u, v) = and-yes (p y) (every p ys) a in
+        ap (afterGiven j ys) (given-next y ys r u) ∙ given-after ys r v
+
+  -- ---- it leads to the root where the symbols have the committed hashes
+
+  module _ (H : ℕ → ℕ → List ℕ → List ℕ) (root : List ℕ) (above : (l i : ℕ) → l < j → i < S .n l → H l i (f l i) ≡ committed S root f l i) where
+    -- a way, the symbol's own hash being the committed one
+    module _ (l i : ℕ) (hl : l ≤ j) (hi : i < S .n l) (mine : H l i (f l i) ≡ committed S root f l i) where
       way-hash : (x : ℕ) → x ≤ l → H (l - x) (reached S l i x) (f (l - x) (reached S l i x)) ≡ committed S root f (l - x) (reached S l i x)
       unfolding reached
       way-hash zero h = let z : l ≡ l - 0 = omega arith in subst (λ (n : ℕ). H n i (f n i) ≡ committed S root f n i) z mine
@@ -124,194 +170,152 @@ module _ (S : Shape) (sh : ShapeOk S) (H : ℕ → ℕ → List ℕ → List ℕ
           fits-way S H root l i c
           (λ x h.
           let m : ℕ = reached S l i x in
-          ap (H (l - x) m) (way-symbol r x h) ∙ way-hash x h
+          ap (H (l - x) m) (way-symbol l i hl hi r x h) ∙ way-hash x h
           ∙ sym (committed-same S root (λ u. symbolIn c (l - u)) f (l - x) m
           (λ u z.
           let q : u ≡ l - (l - u) = omega arith in
           let y : x ≡ l - suc u = omega arith in
-          way-symbol r (l - u) (omega arith)
+          way-symbol l i hl hi r (l - u) (omega arith)
           ∙ ap (λ (n : ℕ). f n (reached S l i (l - u))) (sym q)
           ∙ ap (f u) (sym (reached-up S l i u (omega arith)) ∙ ap (λ (n : ℕ). reached S l i n % S .k u) (sym y)))))
 
-  -- ---- a path
+    path-leads : (l i : ℕ) (r : List ℕ) → l ≤ j → pathCheck S H root l i (pathBytes S f l i ++ r) ≡ leads
+    unfolding pathBytes pathCheck
+    path-leads zero i r h = refl
+    path-leads (suc l) i r h =
+        way-leads l (i % S .k l) (omega arith) (up-lt S sh l i) (above l (i % S .k l) h (up-lt S sh l i)) r
 
-  path-length : (l i : ℕ) → l ≤ j → length (pathBytes S f l i) ≡ 256 * l
-  unfolding pathBytes
-  path-length zero i h = refl
-  path-length (suc l) i h = way-length l (i % S .k l) (omega arith) (up-lt S sh l i)
+    path-hash : (l i : ℕ) (r : List ℕ) → l ≤ j → pathHash S root l i (pathBytes S f l i ++ r) ≡ committed S root f l i
+    unfolding pathBytes pathHash committed
+    path-hash zero i r h = refl
+    path-hash (suc l) i r h = ap (λ (s : List ℕ). slot s (i / S .k l)) (way-first l (i % S .k l) (omega arith) (up-lt S sh l i) r)
 
-  path-leads : (l i : ℕ) (r : List ℕ) → l ≤ j → pathCheck S H root l i (pathBytes S f l i ++ r) ≡ leads
-  unfolding pathBytes pathCheck
-  path-leads zero i r h = refl
-  path-leads (suc l) i r h =
-      way-leads l (i % S .k l) (omega arith) (up-lt S sh l i) (above l (i % S .k l) h (up-lt S sh l i)) r
+    module _ (p : ℕ → Bool) (below : (y : ℕ) → p y ≡ true → y < S .n j) (mine : (y : ℕ) → p y ≡ true → H j y (f j y) ≡ committed S root f j y) where
+      given-leads : (ys r : List ℕ) → every p ys ≡ true → givenCheck S H root j ys (givenBytes S f j ys ++ r) ≡ leads
+      unfolding givenCheck every firstBreak
+      given-leads [] r a = refl
+      given-leads (y ∷ ys) r a =
+          let (u, v) = and-yes (p y) (every p ys) a in
+          ap₂ firstBreak
+          (ap (wayCheck S H root j y) (given-split p below y ys r) ∙ way-leads j y (omega arith) (below y u) (mine y u) (givenBytes S f j ys ++ r))
+          (ap (givenCheck S H root j ys) (given-next p below y ys r u) ∙ given-leads ys r v)
 
-  path-hash : (l i : ℕ) (r : List ℕ) → l ≤ j → pathHash S root l i (pathBytes S f l i ++ r) ≡ committed S root f l i
-  unfolding pathBytes pathHash committed
-  path-hash zero i r h = refl
-  path-hash (suc l) i r h = ap (λ (s : List ℕ). slot s (i / S .k l)) (way-first l (i % S .k l) (omega arith) (up-lt S sh l i) r)
+    -- ---- the whole proof
 
-  -- ---- the given members, which pass the test p
+    module _ (tbl : List (List (List ℕ))) (ok : TableLaws S tbl) (hj : j < length tbl) (e x : ℕ) (he : e < length (layerOf tbl j))
+        (member : 1 ≤ count (isIt x) (equationOf tbl j e))
+        (p : ℕ → Bool) (good : every p (others x (equationOf tbl j e)) ≡ true)
+        (below : (y : ℕ) → p y ≡ true → y < S .n j) (mine : (y : ℕ) → p y ≡ true → H j y (f j y) ≡ committed S root f j y)
+        (unfit : H j x (xorOf (f j) (others x (equationOf tbl j e))) ≢ committed S root f j x) where
+      abbrev ms : List ℕ
+      ms = equationOf tbl j e
 
-  module _ (p : ℕ → Bool) (below : (y : ℕ) → p y ≡ true → y < S .n j) (mine : (y : ℕ) → p y ≡ true → H j y (f j y) ≡ committed S root f j y) where
-    given-split : (y : ℕ) (ys r : List ℕ) → givenBytes S f j (y ∷ ys) ++ r ≡ wayBytes S f j y ++ (givenBytes S f j ys ++ r)
-    unfolding givenBytes
-    given-split y ys r = append-assoc (wayBytes S f j y) (givenBytes S f j ys) r
+      abbrev bytes : List ℕ
+      bytes = proofBytes S f j e x ms
 
-    given-next : (y : ℕ) (ys r : List ℕ) → p y ≡ true → next j (givenBytes S f j (y ∷ ys) ++ r) ≡ givenBytes S f j ys ++ r
-    unfolding next
-    given-next y ys r t =
-        ap (drop (256 * suc j)) (given-split y ys r)
-        ∙ drop-at (wayBytes S f j y) (givenBytes S f j ys ++ r) (256 * suc j) (way-length j y (omega arith) (below y t))
+      abbrev rest : List ℕ
+      rest = givenBytes S f j (others x ms) ++ pathBytes S f j x
 
-    given-length : (ys : List ℕ) → every p ys ≡ true → length (givenBytes S f j ys) ≡ 256 * (length ys * suc j)
-    unfolding givenBytes every
-    given-length [] a = omega arith
-    given-length (y ∷ ys) a =
-        let (u, v) = and-yes (p y) (every p ys) a in
-        omega (arith, length-append (wayBytes S f j y) (givenBytes S f j ys), way-length j y (omega arith) (below y u), given-length ys v)
+      x-below : x < S .n j
+      x-below = ltb-true x (S .n j) (every-member (λ y. ltb y (S .n j)) x ms (ok .within j e hj he) member)
 
-    given-leads : (ys r : List ℕ) → every p ys ≡ true → givenCheck S H root j ys (givenBytes S f j ys ++ r) ≡ leads
-    unfolding givenCheck every firstBreak
-    given-leads [] r a = refl
-    given-leads (y ∷ ys) r a =
-        let (u, v) = and-yes (p y) (every p ys) a in
-        ap₂ firstBreak
-        (ap (wayCheck S H root j y) (given-split y ys r) ∙ way-leads j y (omega arith) (below y u) (mine y u) (givenBytes S f j ys ++ r))
-        (ap (givenCheck S H root j ys) (given-next y ys r u) ∙ given-leads ys r v)
+      j-small : j < 2 ^ 30
+      j-small = omega (arith, ok .shallow)
 
-    given-xor : (ys r : List ℕ) → every p ys ≡ true → givenXor j ys (givenBytes S f j ys ++ r) ≡ xorOf (f j) ys
-    unfolding givenXor xorOf every
-    given-xor [] r a = refl
-    given-xor (y ∷ ys) r a =
-        let (u, v) = and-yes (p y) (every p ys) a in
-        ap₂ xors
-        (ap (λ (c : List ℕ). symbolIn c 0) (given-split y ys r) ∙ way-first j y (omega arith) (below y u) (givenBytes S f j ys ++ r))
-        (ap (givenXor j ys) (given-next y ys r u) ∙ given-xor ys r v)
+      e-small : e < 2 ^ 30
+      e-small = omega (arith, ok .sizes j hj, ok .narrow j hj)
 
-    given-after : (ys r : List ℕ) → every p ys ≡ true → afterGiven j ys (givenBytes S f j ys ++ r) ≡ r
-    unfolding afterGiven every givenBytes
-    given-after [] r a = refl
-    given-after (y ∷ ys) r a =
-        let (u, v) = and-yes (p y) (every p ys) a in
-        ap (afterGiven j ys) (given-next y ys r u) ∙ given-after ys r v
+      x-small : x < 2 ^ 30
+      x-small = omega (arith, x-below, ok .narrow j hj)
 
-  -- ---- the whole proof
+      -- what the checker reads from the head
+      kinds : (kindAt bytes 0 ≡ 1) × (kindAt bytes 1 ≡ 2) × (kindAt bytes 2 ≡ 3)
+      unfolding proofBytes
+      kinds = (kind-0 1 j _ (lit< tt) j-small, kind-1 1 j _ ∙ kind-0 2 e _ (lit< tt) e-small, kind-2 1 j _ ∙ kind-1 2 e _ ∙ kind-0 3 x _ (lit< tt) x-small)
 
-  module _ (tbl : List (List (List ℕ))) (ok : TableLaws S tbl) (hj : j < length tbl) (e x : ℕ) (he : e < length (layerOf tbl j))
-      (member : 1 ≤ count (isIt x) (equationOf tbl j e))
-      (p : ℕ → Bool) (good : every p (others x (equationOf tbl j e)) ≡ true)
-      (below : (y : ℕ) → p y ≡ true → y < S .n j) (mine : (y : ℕ) → p y ≡ true → H j y (f j y) ≡ committed S root f j y)
-      (unfit : H j x (xorOf (f j) (others x (equationOf tbl j e))) ≢ committed S root f j x) where
-    abbrev ms : List ℕ
-    ms = equationOf tbl j e
+      values : (valueAt bytes 0 ≡ j) × (valueAt bytes 1 ≡ e) × (valueAt bytes 2 ≡ x)
+      unfolding proofBytes
+      values = (value-0 1 j _ (lit< tt) j-small, value-1 1 j _ ∙ value-0 2 e _ (lit< tt) e-small, value-2 1 j _ ∙ value-1 2 e _ ∙ value-0 3 x _ (lit< tt) x-small)
 
-    abbrev bytes : List ℕ
-    bytes = proofBytes S f j e x ms
+      is-layer : proofLayer bytes ≡ j
+      unfolding proofLayer
+      is-layer = values .0
 
-    abbrev rest : List ℕ
-    rest = givenBytes S f j (others x ms) ++ pathBytes S f j x
+      is-equation : proofEquation bytes ≡ e
+      unfolding proofEquation
+      is-equation = values .1
 
-    x-below : x < S .n j
-    x-below = ltb-true x (S .n j) (every-member (λ y. ltb y (S .n j)) x ms (ok .within j e hj he) member)
+      is-withheld : proofWithheld bytes ≡ x
+      unfolding proofWithheld
+      is-withheld = values .2
 
-    j-small : j < 2 ^ 30
-    j-small = omega (arith, ok .shallow)
+      is-members : proofMembers tbl bytes ≡ ms
+      unfolding proofMembers
+      is-members = ap₂ (equationOf tbl) is-layer is-equation
 
-    e-small : e < 2 ^ 30
-    e-small = omega (arith, ok .sizes j hj, ok .narrow j hj)
+      is-given : proofGiven tbl bytes ≡ others x ms
+      unfolding proofGiven
+      is-given = ap₂ others is-withheld is-members
 
-    x-small : x < 2 ^ 30
-    x-small = omega (arith, x-below, ok .narrow j hj)
+      is-body : body bytes ≡ rest
+      unfolding body proofBytes be
+      is-body = refl
 
-    -- what the checker reads from the head
-    kinds : (kindAt bytes 0 ≡ 1) × (kindAt bytes 1 ≡ 2) × (kindAt bytes 2 ≡ 3)
-    unfolding proofBytes
-    kinds = (kind-0 1 j _ (lit< tt) j-small, kind-1 1 j _ ∙ kind-0 2 e _ (lit< tt) e-small, kind-2 1 j _ ∙ kind-1 2 e _ ∙ kind-0 3 x _ (lit< tt) x-small)
+      head : headOk tbl bytes ≡ true
+      unfolding headOk layerOk equationOk memberOk
+      head =
+          yes-and (yes-and (eq-eqb _ 1 (kinds .0)) (lt-ltb _ (length tbl) (omega (arith, is-layer))))
+          (yes-and
+          (yes-and (eq-eqb _ 2 (kinds .1)) (ap₂ (λ (a b : ℕ). ltb a (length (layerOf tbl b))) is-equation is-layer ∙ lt-ltb e _ he))
+          (yes-and (eq-eqb _ 3 (kinds .2)) (ap₂ (λ (a : ℕ) (b : List ℕ). leb 1 (count (isIt a) b)) is-withheld is-members ∙ le-leb 1 _ member)))
 
-    values : (valueAt bytes 0 ≡ j) × (valueAt bytes 1 ≡ e) × (valueAt bytes 2 ≡ x)
-    unfolding proofBytes
-    values = (value-0 1 j _ (lit< tt) j-small, value-1 1 j _ ∙ value-0 2 e _ (lit< tt) e-small, value-2 1 j _ ∙ value-1 2 e _ ∙ value-0 3 x _ (lit< tt) x-small)
+      bytes-length : length bytes ≡ proofLength j (length ms)
+      unfolding proofBytes proofLength be
+      bytes-length =
+          let once : count (isIt x) ms ≡ 1 = omega (arith, ascending-once x ms (ok .ascend j e hj he)) in
+          let d : length ms - 1 ≡ length (others x ms) = omega (arith, length-others x ms) in
+          omega (
+            arith,
+            ap (λ (k : ℕ). k * suc j) d,
+            length-append (givenBytes S f j (others x ms)) (pathBytes S f j x),
+            given-length p below (others x ms) good,
+            path-length j x (omega arith),
+          )
 
-    is-layer : proofLayer bytes ≡ j
-    unfolding proofLayer
-    is-layer = values .0
+      -- it fits the output buffer
+      bytes-fit : length bytes ≤ 12 + 256 * (8 * length tbl - 1)
+      unfolding proofLength
+      bytes-fit = omega (arith, bytes-length, mul-le-mul-right {m = length ms - 1} {n = 7} (suc j) (omega (arith, ok .few-members j e hj he)))
 
-    is-equation : proofEquation bytes ≡ e
-    unfolding proofEquation
-    is-equation = values .1
+      -- a function of the parts that are read, at what they are
+      at-parts : {X : Type 0} (F : ℕ → ℕ → List ℕ → List ℕ → X) → F (proofLayer bytes) (proofWithheld bytes) (proofGiven tbl bytes) (body bytes) ≡ F j x (others x ms) rest
+      at-parts F =
+          ap₂ (λ (a b : ℕ). F a b (proofGiven tbl bytes) (body bytes)) is-layer is-withheld ∙ ap₂ (λ (a b : List ℕ). F j x a b) is-given is-body
 
-    is-withheld : proofWithheld bytes ≡ x
-    unfolding proofWithheld
-    is-withheld = values .2
+      after : afterGiven j (others x ms) rest ≡ pathBytes S f j x ++ []
+      after = given-after p below (others x ms) (pathBytes S f j x) good ∙ sym (append-nil (pathBytes S f j x))
 
-    is-members : proofMembers tbl bytes ≡ ms
-    unfolding proofMembers
-    is-members = ap₂ (equationOf tbl) is-layer is-equation
+      lead : proofCheck S H root tbl bytes ≡ leads
+      unfolding proofCheck firstBreak
+      lead =
+          at-parts (λ l y ys c. firstBreak (givenCheck S H root l ys c) (pathCheck S H root l y (afterGiven l ys c)))
+          ∙ ap₂ firstBreak (given-leads p below mine (others x ms) (pathBytes S f j x) good) (ap (pathCheck S H root j x) after ∙ path-leads j x [] (omega arith))
 
-    is-given : proofGiven tbl bytes ≡ others x ms
-    unfolding proofGiven
-    is-given = ap₂ others is-withheld is-members
+      unfits : withheldFits S H root tbl bytes ≡ false
+      unfolding withheldFits
+      unfits =
+          at-parts (λ l y ys c. same (H l y (givenXor l ys c)) (pathHash S root l y (afterGiven l ys c)))
+          ∙ no-same (λ q. unfit (ap (H j x) (sym (given-xor p below (others x ms) (pathBytes S f j x) good)) ∙ q ∙ ap (pathHash S root j x) after ∙ path-hash j x [] (omega arith)))
 
-    is-body : body bytes ≡ rest
-    unfolding body proofBytes be
-    is-body = refl
+      bytes-accepted : verdict S H root tbl bytes ≡ accepted
+      unfolding verdict ruling
+      bytes-accepted =
+          let sized′ : length bytes ≡ proofLength (proofLayer bytes) (length (proofMembers tbl bytes)) =
+          bytes-length ∙ sym (ap₂ (λ (a : ℕ) (b : List ℕ). proofLength a (length b)) is-layer is-members) in
+          pick-no _ _ _ (ap not head)
+          ∙ pick-no _ _ _ (ap not (eq-eqb _ _ sized′))
+          ∙ ap₂ ruling lead unfits
+          ∙ pick-no false _ _ refl
 
-    head : headOk tbl bytes ≡ true
-    unfolding headOk layerOk equationOk memberOk
-    head =
-        yes-and (yes-and (eq-eqb _ 1 (kinds .0)) (lt-ltb _ (length tbl) (omega (arith, is-layer))))
-        (yes-and
-        (yes-and (eq-eqb _ 2 (kinds .1)) (ap₂ (λ (a b : ℕ). ltb a (length (layerOf tbl b))) is-equation is-layer ∙ lt-ltb e _ he))
-        (yes-and (eq-eqb _ 3 (kinds .2)) (ap₂ (λ (a : ℕ) (b : List ℕ). leb 1 (count (isIt a) b)) is-withheld is-members ∙ le-leb 1 _ member)))
-
-    bytes-length : length bytes ≡ proofLength j (length ms)
-    unfolding proofBytes proofLength be
-    bytes-length =
-        let once : count (isIt x) ms ≡ 1 = omega (arith, ascending-once x ms (ok .ascend j e hj he)) in
-        let d : length ms - 1 ≡ length (others x ms) = omega (arith, length-others x ms) in
-        omega (
-          arith,
-          ap (λ (k : ℕ). k * suc j) d,
-          length-append (givenBytes S f j (others x ms)) (pathBytes S f j x),
-          given-length p below mine (others x ms) good,
-          path-length j x (omega arith),
-        )
-
-    -- it fits the output buffer
-    bytes-fit : length bytes ≤ 12 + 256 * (8 * length tbl - 1)
-    unfolding proofLength
-    bytes-fit = omega (arith, bytes-length, mul-le-mul-right {m = length ms - 1} {n = 7} (suc j) (omega (arith, ok .few-members j e hj he)))
-
-    -- a function of the parts that are read, at what they are
-    at-parts : {X : Type 0} (F : ℕ → ℕ → List ℕ → List ℕ → X) → F (proofLayer bytes) (proofWithheld bytes) (proofGiven tbl bytes) (body bytes) ≡ F j x (others x ms) rest
-    at-parts F =
-        ap₂ (λ (a b : ℕ). F a b (proofGiven tbl bytes) (body bytes)) is-layer is-withheld ∙ ap₂ (λ (a b : List ℕ). F j x a b) is-given is-body
-
-    after : afterGiven j (others x ms) rest ≡ pathBytes S f j x ++ []
-    after = given-after p below mine (others x ms) (pathBytes S f j x) good ∙ sym (append-nil (pathBytes S f j x))
-
-    lead : proofCheck S H root tbl bytes ≡ leads
-    unfolding proofCheck firstBreak
-    lead =
-        at-parts (λ l y ys c. firstBreak (givenCheck S H root l ys c) (pathCheck S H root l y (afterGiven l ys c)))
-        ∙ ap₂ firstBreak (given-leads p below mine (others x ms) (pathBytes S f j x) good) (ap (pathCheck S H root j x) after ∙ path-leads j x [] (omega arith))
-
-    unfits : withheldFits S H root tbl bytes ≡ false
-    unfolding withheldFits
-    unfits =
-        at-parts (λ l y ys c. same (H l y (givenXor l ys c)) (pathHash S root l y (afterGiven l ys c)))
-        ∙ no-same (λ q. unfit (ap (H j x) (sym (given-xor p below mine (others x ms) (pathBytes S f j x) good)) ∙ q ∙ ap (pathHash S root j x) after ∙ path-hash j x [] (omega arith)))
-
-    bytes-accepted : verdict S H root tbl bytes ≡ accepted
-    unfolding verdict ruling
-    bytes-accepted =
-        let sized′ : length bytes ≡ proofLength (proofLayer bytes) (length (proofMembers tbl bytes)) =
-        bytes-length ∙ sym (ap₂ (λ (a : ℕ) (b : List ℕ). proofLength a (length b)) is-layer is-members) in
-        pick-no _ _ _ (ap not head)
-        ∙ pick-no _ _ _ (ap not (eq-eqb _ _ sized′))
-        ∙ ap₂ ruling lead unfits
-        ∙ pick-no false _ _ refl
-
-    pub proof-good : GoodProof S H root tbl j e x bytes
-    proof-good = record { accepts = bytes-accepted; fits = bytes-fit; layer-is = is-layer; equation-is = is-equation; withheld-is = is-withheld }
+      pub proof-good : GoodProof S H root tbl j e x bytes
+      proof-good = record { accepts = bytes-accepted; fits = bytes-fit; layer-is = is-layer; equation-is = is-equation; withheld-is = is-withheld }

@@ -257,7 +257,7 @@ module _ (S : Shape) (sh : ShapeOk S) (H : ℕ → ℕ → List ℕ → List ℕ
       let a : ℕ → Bool = absentAt S (st .marks) j in
       let p : List ℕ = proofBytes S (symAt S (st .tree)) j e x ms in
       let g : GoodProof S H root tbl j e x p =
-      proof-good S sh H root (symAt S (st .tree)) j (full-at st i) (λ l y h hy. i .always .above l (omega arith) .hashed y hy) tbl ok hj e x he mem
+      proof-good S sh (symAt S (st .tree)) j (full-at st i) H root (λ l y h hy. i .always .above l (omega arith) .hashed y hy) tbl ok hj e x he mem
       (λ y. not (a y) && ltb y (S .n j))
       (every-both (λ y. not (a y)) (λ y. ltb y (S .n j)) (others x ms) good (every-others (λ y. ltb y (S .n j)) x ms (ok .within j e hj he)))
       (λ y b. ltb-true y (S .n j) (and-yes (not (a y)) (ltb y (S .n j)) b .1))

@@ -40,7 +40,7 @@ unfolding ruling
 ruled leads b e = (refl, picked b noFault accepted (λ z. cc) e .0)
 ruled (breaks j) b e = absurd (let z : _≡_ {A = ℕ} 0 1 = cc in omega arith)
 
-both-lead : (a b : Climb) → firstBreak a b ≡ leads → (a ≡ leads) × (b ≡ leads)
+pub both-lead : (a b : Climb) → firstBreak a b ≡ leads → (a ≡ leads) × (b ≡ leads)
 unfolding firstBreak
 both-lead leads b e = (refl, e)
 both-lead (breaks j) b e = absurd (let z : _≡_ {A = ℕ} 0 1 = cc in omega arith)

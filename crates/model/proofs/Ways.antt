@@ -1,12 +1,14 @@
 -- The way up from a symbol: the numbers that it reaches, and what its check says.
-use mathlib.Core.Path.{_≡_, refl, ap, _∙_, subst}
-use mathlib.Core.List.{List}
-use Prim.Native.Nat.{ℕ, zero, suc, _-_, _/_, _%_, _≤_, _<_}
+use mathlib.Core.Path.{_≡_, refl, ap, ap₂, _∙_, subst}
+use mathlib.Core.List.{List, [], _∷_}
+use Prim.Native.Nat.{ℕ, zero, suc, _+_, _-_, _*_, _/_, _%_, _≤_, _<_}
 use native.Mathlib.Omega.{arith}
+use lib.ListN.{length, drop}
+use lib.Seq.{drop-drop}
 use Rattle.model.specs.Shape.{Shape, ShapeOk}
 use Rattle.model.specs.Symbols.{symbolIn, slot, committed}
 use Rattle.model.specs.Climb.{leads, Says}
-use Rattle.model.specs.Fault.{reached, pathHash, wayFits, wayCheck}
+use Rattle.model.specs.Fault.{reached, next, afterGiven, pathHash, wayFits, wayCheck}
 use Rattle.model.proofs.Bytes.{same-yes, yes-same}
 use Rattle.model.proofs.Shapes.{up-lt}
 use Rattle.model.proofs.Climbs.{climb-says, climb-leads}
@@ -26,6 +28,29 @@ module _ (S : Shape) (j i : ℕ) where
   unfolding reached
   reached-lt sh h zero k = let e : j ≡ j - 0 = omega arith in subst (λ (l : ℕ). i < S .n l) e h
   reached-lt sh h (suc x) k = up-lt S sh (j - suc x) (reached S j i x)
+
+-- the way up from symbol i is, from the layer above on, that of the symbol above it
+pub reached-past : (S : Shape) (j i x : ℕ) → x ≤ j → reached S (suc j) i (suc x) ≡ reached S j (i % S .k j) x
+unfolding reached
+reached-past S j i zero h = let e : suc j - 1 ≡ j = omega arith in ap (λ (n : ℕ). i % S .k n) e
+reached-past S j i (suc x) h =
+    let e : suc j - suc (suc x) ≡ j - suc x = omega arith in
+    ap₂ (λ (a n : ℕ). a % S .k n) (reached-past S j i x (omega arith)) e
+
+-- ---- where the ways of given members stand in b, from byte `from` on
+
+module _ (b : List ℕ) (j : ℕ) where
+  pub next-at : (from : ℕ) → next j (drop from b) ≡ drop (from + 256 * (j + 1)) b
+  unfolding next
+  next-at from = let e : from + 256 * suc j ≡ from + 256 * (j + 1) = omega arith in drop-drop (256 * suc j) from b ∙ ap (λ o. drop o b) e
+
+  -- what follows them
+  pub after-at : (ys : List ℕ) (from : ℕ) → afterGiven j ys (drop from b) ≡ drop (from + 256 * (length ys * suc j)) b
+  unfolding afterGiven
+  after-at [] from = let e : from ≡ from + 256 * (0 * suc j) = omega arith in ap (λ o. drop o b) e
+  after-at (y ∷ ys) from =
+      let e : from + 256 * (j + 1) + 256 * (length ys * suc j) ≡ from + 256 * (suc (length ys) * suc j) = omega arith in
+      ap (afterGiven j ys) (next-at from) ∙ after-at ys (from + 256 * (j + 1)) ∙ ap (λ o. drop o b) e
 
 -- ---- the hash that symbols above, w by layer, have for a symbol is the committed one where the one above it is f's
 
