@@ -1,6 +1,6 @@
 -- A list of words goes to bytes and back unchanged, so the reader's answer is the same in both forms.
 use mathlib.Core.Path.{_≡_, refl, sym, ap, _∙_}
-use mathlib.Core.Bool.{true, _&&_}
+use mathlib.Core.Bool.{Bool, true, _&&_}
 use mathlib.Core.List.{List, [], _∷_, _++_}
 use Prim.Native.Nat.{ℕ, zero, suc, _+_, _*_, _/_, _%_, _^_, _≤_, _<_}
 use native.Mathlib.Nat.{div-add-mod', div-div-eq-div-mul, mod-eq-of-lt}
@@ -18,12 +18,13 @@ use Rattle.parity_table.specs.Table.{TableOk, layerWord, equationWord, e
 use Rattle.parity_table.specs.House.{houseTable, houseWords}
 use Rattle.parity_table.specs.Reader.{layered, run, readOf}
 use Rattle.parity_table.specs.Bytes.{maxBytes, lengthFits, wordsOf, readBytesOf}
+use Rattle.parity_table.specs.Parse.{tableOf}
 use Rattle.octets.proofs.Choice.{by-test, pick-yes, pick-no, and-yes, yes-and}
 use Rattle.parity_table.proofs.Chain.{equation-chain, chain-within}
 use Rattle.parity_table.proofs.Rules.{EquationsOk, LayersOk, table-layers}
-use Rattle.parity_table.proofs.Parse.{k-small}
-use Rattle.parity_table.proofs.Accepts.{depth-is}
-use Rattle.parity_table.proofs.HouseRules.{house-rules, house-accepted}
+use Rattle.parity_table.proofs.Parse.{k-small, tableOf-words}
+use Rattle.parity_table.proofs.Accepts.{depth-is, formed-accepted}
+use Rattle.parity_table.proofs.HouseRules.{house-rules}
 use Rattle.parity_table.proofs.HouseParts.{house-small}
 
 -- the words are of 32 bits
@@ -100,11 +101,13 @@ bytes-read d ws s h =
 
 -- ---- the words of a table are of 32 bits
 
-words-append : (xs ys : List ℕ) → Words xs → Words ys → Words (xs ++ ys)
+pub every-append : (p : ℕ → Bool) (xs ys : List ℕ) → every p xs ≡ true → every p ys ≡ true → every p (xs ++ ys) ≡ true
 unfolding every
-words-append [] ys a b = b
-words-append (x ∷ xs) ys a b =
-    let (p, q) = and-yes (ltb x (2 ^ 32)) (every (λ x. ltb x (2 ^ 32)) xs) a in yes-and p (words-append xs ys q b)
+every-append p [] ys a b = b
+every-append p (x ∷ xs) ys a b = let (u, v) = and-yes (p x) (every p xs) a in yes-and u (every-append p xs ys v b)
+
+words-append : (xs ys : List ℕ) → Words xs → Words ys → Words (xs ++ ys)
+words-append = every-append (λ x. ltb x (2 ^ 32))
 
 words-cons : (x : ℕ) (xs : List ℕ) → x < 2 ^ 32 → Words xs → Words (x ∷ xs)
 unfolding every
@@ -134,13 +137,19 @@ table-words d tbl o h n =
     words-append (layersWords 0 tbl) (endWord m ∷ []) (words-layers 0 tbl (omega (arith, o .depth)) (table-layers d tbl o))
     (words-cons (endWord m) [] (omega (arith, length-append (layersWords 0 tbl) (endWord m ∷ []))) refl)
 
-house-word : (d : ℕ) → d ≤ maxDepth → length (houseWords d) ≤ 2 ^ 30 → Words (houseWords d)
-unfolding houseWords
-house-word d h n = table-words d (houseTable d) (house-rules d) h n
+-- a table by the rules that isn't too long is accepted as bytes, and they say that table
+module _ (d : ℕ) (tbl : List (List (List ℕ))) (o : TableOk d tbl) (t : depthFits d ≡ true) (short : length (tableWords tbl) * 4 ≤ maxBytes) where
+  table-word : Words (tableWords tbl)
+  table-word = table-words d tbl o (depth-is d t .1) (omega arith)
+
+  pub table-bytes-accepted : readBytesOf d (bytesOf (tableWords tbl)) ≡ Whole
+  table-bytes-accepted =
+      bytes-read d (tableWords tbl) table-word short ∙ formed-accepted d (tableWords tbl) t (record { table = tbl; rules = o; written = refl })
+
+  pub table-bytes-say : tableOf (wordsOf (bytesOf (tableWords tbl))) ≡ tbl
+  table-bytes-say = ap tableOf (words-bytes (tableWords tbl) table-word) ∙ tableOf-words d tbl o (depth-is d t .1)
 
 -- the house table is accepted as bytes, at every depth
 pub house-bytes-accepted : (d : ℕ) → depthFits d ≡ true → readBytesOf d (bytesOf (houseWords d)) ≡ Whole
-house-bytes-accepted d t =
-    let (a, h) = depth-is d t in
-    let n = house-small d h in
-    bytes-read d (houseWords d) (house-word d h (omega (arith, n))) (omega (arith, n)) ∙ house-accepted d t
+unfolding houseWords
+house-bytes-accepted d t = table-bytes-accepted d (houseTable d) (house-rules d) t (omega (arith, house-small d (depth-is d t .1)))
