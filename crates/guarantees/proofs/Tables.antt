@@ -10,8 +10,9 @@ use lib.Dec.{ltb}
 use borrow.Author.Tests.{lt-ltb, ltb-true}
 use Rattle.octets.proofs.Choice.{and-yes, yes-and}
 use Rattle.parity_table.specs.Shape.{kOf}
-use Rattle.parity_table.specs.Members.{every, ascending, lastOf}
+use Rattle.parity_table.specs.Members.{every, ascending}
 use Rattle.parity_table.specs.Table.{layerOf, equationOf, EquationOk, TableOk, equationsWords, layersWords, tableWords, WellFormed, Begins, FirstWrong}
+use Rattle.model.proofs.Members.{last-get}
 use Rattle.guarantees.specs.Tables.{EquationRules, TableRules, equationsListed, layersListed, listed, TableRight, BeginsOne, FirstWrongWord}
 
 -- ---- members
@@ -46,14 +47,6 @@ ascending-rising (x ∷ []) a q l = absurd (omega arith)
 ascending-rising (x ∷ y ∷ ys) a zero l = ltb-true x y (and-yes (ltb x y) (every (ltb x) ys) (and-yes (every (ltb x) (y ∷ ys)) (ascending (y ∷ ys)) a .0) .0)
 ascending-rising (x ∷ y ∷ ys) a (suc q) l = ascending-rising (y ∷ ys) (and-yes (every (ltb x) (y ∷ ys)) (ascending (y ∷ ys)) a .1) q (omega arith)
 
-last-is : (xs : List ℕ) (z : ℕ) → 1 ≤ length xs → lastOf xs z ≡ getD xs (length xs - 1) 0
-unfolding lastOf
-last-is [] z h = absurd (omega arith)
-last-is (x ∷ []) z h = refl
-last-is (x ∷ y ∷ ys) z h =
-    let k : suc (length (y ∷ ys) - 1) ≡ length (x ∷ y ∷ ys) - 1 = omega arith in
-    last-is (y ∷ ys) x (omega arith) ∙ ap (λ (i : ℕ). getD (x ∷ y ∷ ys) i 0) k
-
 -- ---- rules
 
 equation-ok : (j e : ℕ) (ms : List ℕ) → EquationRules j e ms → EquationOk j e ms
@@ -63,7 +56,7 @@ equation-ok j e ms r =
       some = r .two;
       few = r .eight;
       ascend = rising-ascending ms (r .ascending);
-      final = last-is ms 0 (omega (arith, r .two)) ∙ r .last;
+      final = last-get ms 0 (omega (arith, r .two)) ∙ r .last;
     }
 
 equation-rules : (j e : ℕ) (ms : List ℕ) → EquationOk j e ms → EquationRules j e ms
@@ -73,7 +66,7 @@ equation-rules j e ms k =
       two = k .some;
       eight = k .few;
       ascending = ascending-rising ms (k .ascend);
-      last = sym (last-is ms 0 (omega (arith, k .some))) ∙ k .final;
+      last = sym (last-get ms 0 (omega (arith, k .some))) ∙ k .final;
     }
 
 pub rules-ok : (d : ℕ) (tbl : List (List (List ℕ))) → TableRules d tbl → TableOk d tbl

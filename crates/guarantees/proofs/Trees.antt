@@ -15,7 +15,7 @@ use Rattle.model.specs.Symbols.{symbolIn, xorOf, zeros, slot, committed, symAt}
 use Rattle.model.specs.Coded.{rootOf, Coded, Agrees}
 use Rattle.model.specs.Writer.{BaseOf}
 use Rattle.model.proofs.Members.{every-below}
-use Rattle.model.proofs.Binding.{root-length, root-is, hashes}
+use Rattle.model.proofs.Binding.{root-slot, root-length, root-is}
 use Rattle.model.proofs.Shapes.{tree-root}
 use Rattle.guarantees.specs.Layouts.{bytesFrom, symbolNo, symbolAt, XorOf}
 use Rattle.guarantees.specs.Trees.{members, EquationHolds, CorrectlyCoded, RootOf, AgreesWith, HasBlock}
@@ -57,7 +57,12 @@ module _ (d : ℕ) (tbl : List (List (List ℕ))) (ok : TableOk d tbl) (f : ℕ 
 
 -- the root of the symbols f
 root-right : (f : ℕ → ℕ → List ℕ) (root : List ℕ) → root ≡ rootOf tree symbolHash f → RootOf f root
-root-right f root e = ?
+unfolding slot bytesFrom symbolHash kOf nOf
+root-right f root e =
+    record {
+      full = ap length e ∙ root-length tree symbolHash length-symbolHash f ∙ tree-root;
+      hashes = λ i h. ap (λ (r : List ℕ). bytesFrom r (32 * i) 32) e ∙ root-slot tree symbolHash length-symbolHash f i h;
+    }
 
 right-root : (f : ℕ → ℕ → List ℕ) (root : List ℕ) → RootOf f root → root ≡ rootOf tree symbolHash f
 unfolding slot bytesFrom symbolHash kOf nOf

@@ -33,7 +33,7 @@ all-or P X (suc m) h =
 -- ---- the root
 
 module _ (S : Shape) (H : ℕ → ℕ → List ℕ → List ℕ) (digests : Digests H) where
-  root-slot : (f : ℕ → ℕ → List ℕ) (i : ℕ) → i < S .n 0 → slot (rootOf S H f) i ≡ H 0 i (f 0 i)
+  pub root-slot : (f : ℕ → ℕ → List ℕ) (i : ℕ) → i < S .n 0 → slot (rootOf S H f) i ≡ H 0 i (f 0 i)
   unfolding slot rootOf
   root-slot f i h =
       joined-piece (λ q. H 0 q (f 0 q)) 32 (S .n 0) 0 i h (λ p k. digests 0 (0 + p) (f 0 (0 + p))) ∙ ap (λ (q : ℕ). H 0 q (f 0 q)) (zero-add i)

@@ -2,14 +2,14 @@
 use mathlib.Core.Path.{_≡_, refl, sym, ap, ap₂, _∙_}
 use mathlib.Core.Bool.{Bool, true}
 use mathlib.Core.List.{List, [], _∷_, _++_}
-use Prim.Native.Nat.{ℕ, zero, suc, _+_, _≤_, _<_}
+use Prim.Native.Nat.{ℕ, zero, suc, _+_, _-_, _≤_, _<_}
 use native.Mathlib.Numerals.{add-one}
 use native.Mathlib.Omega.{arith}
 use lib.ListN.{length, getD, drop, drop-of-length-le}
 use lib.Seq.{drop-cons}
 use lib.Dec.{ltb, eqb}
 use borrow.Author.Tests.{ltb-true, eq-eqb, ne-eqb}
-use Rattle.parity_table.specs.Members.{every}
+use Rattle.parity_table.specs.Members.{every, lastOf}
 use Rattle.octets.proofs.Choice.{and-yes, pick-yes, pick-no}
 use Rattle.parity_table.proofs.Chain.{Split}
 use Rattle.octets.specs.ByteLists.{xors}
@@ -78,6 +78,15 @@ unfolding every
 every-below n [] a i h = absurd (omega arith)
 every-below n (x ∷ xs) a zero h = ltb-true x n (and-yes (ltb x n) _ a .0)
 every-below n (x ∷ xs) a (suc i) h = every-below n xs (and-yes (ltb x n) _ a .1) i (omega arith)
+
+-- the last member
+pub last-get : (xs : List ℕ) (z : ℕ) → 1 ≤ length xs → lastOf xs z ≡ getD xs (length xs - 1) 0
+unfolding lastOf
+last-get [] z h = absurd (omega arith)
+last-get (x ∷ []) z h = refl
+last-get (x ∷ (y ∷ ys)) z h =
+    let k : suc (length (y ∷ ys) - 1) ≡ length (x ∷ (y ∷ ys)) - 1 = omega arith in
+    last-get (y ∷ ys) x (omega arith) ∙ ap (λ (i : ℕ). getD (x ∷ (y ∷ ys)) i 0) k
 
 -- ---- the members other than x, from member i on
 

@@ -15,7 +15,7 @@ use Rattle.fault_writer.proofs.WayLaws.{symbol-length}
 use Rattle.fault_writer.specs.Room.{Layers, splice}
 use Rattle.model.proofs.Bytes.{length-zeros}
 use Rattle.model.proofs.Counts.{every-member, every-others, first-member, isIt, last-member}
-use Rattle.model.proofs.Members.{length-xorOf}
+use Rattle.model.proofs.Members.{length-xorOf, last-get}
 use Rattle.model.proofs.Shapes.{n-small}
 use Rattle.model.specs.Fault.{proofBytes}
 use Rattle.model.specs.Repair.{St, absentAt, act, fault, fitsAt, form, layer, layers, refute, restOf, storeSym, twins, useEq, working, writeFault, writeTwins}
@@ -57,15 +57,7 @@ module _ (root ms t out : List ℕ) (j e : ℕ) (k : Workable root ms t out j e)
     pub proof-room : length (proofBytes tree (symAt tree t) j e x ms) ≤ length out
     proof-room = omega (arith, k .out-room, proof-fits t ms j e x (k .layers) (k .few) (k .within) c)
 
--- the last member
-pub last-get : (xs : List ℕ) (z : ℕ) → 1 ≤ length xs → lastOf xs z ≡ getD xs (length xs - 1) 0
-unfolding lastOf
-last-get [] z h = absurd (omega arith)
-last-get (x ∷ []) z h = refl
-last-get (x ∷ (y ∷ ys)) z h =
-    let k : suc (length (y ∷ ys) - 1) ≡ length (x ∷ (y ∷ ys)) - 1 = omega arith in
-    last-get (y ∷ ys) x (omega arith) ∙ ap (λ (i : ℕ). getD (x ∷ (y ∷ ys)) i 0) k
-
+-- the last member is one
 pub last-in : (xs : List ℕ) → 1 ≤ length xs → 1 ≤ count (isIt (getD xs (length xs - 1) 0)) xs
 last-in xs h = subst (λ (z : ℕ). 1 ≤ count (isIt z) xs) (last-get xs 0 h) (last-member xs 0 h)
 

@@ -6,7 +6,8 @@ use lib.ListN.{getD, length}
 use borrow.Author.Needs.{needs}
 use Rattle.model.specs.Shape.{tree}
 use Rattle.model.specs.Symbols.{symAt, zeros}
-use Rattle.peeling.proofs.TurnLaws.{full, last-get, last-in, member-below, member-low, proof-room, refute-faults, refute-twins, rest-length, symbols-room, twins-put}
+use Rattle.model.proofs.Members.{last-get}
+use Rattle.peeling.proofs.TurnLaws.{full, last-in, member-below, member-low, proof-room, refute-faults, refute-twins, rest-length, symbols-room, twins-put}
 use Rattle.peeling.proofs.equation.refute.Statement.{statement}
 use Rattle.peeling.proofs.equation.refute.Tie as tie
 
