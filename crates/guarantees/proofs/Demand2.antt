@@ -1,11 +1,12 @@
 -- Demand 2: what is written, read back, sampled and accepted.
-use mathlib.Core.Path.{_≡_, refl, sym, ap, _∙_, subst}
+use mathlib.Core.Path.{_≡_, refl, sym, ap, ap₂, _∙_, subst}
 use mathlib.Core.Logic.{_⊎_, inl, inr, ⊎-elim}
 use mathlib.Core.Bool.{true, _&&_}
 use mathlib.Core.List.{List}
 use Prim.Native.Nat.{ℕ, _+_, _-_, _*_, _≤_, _<_}
 use native.Mathlib.Omega.{arith}
-use lib.ListN.{length, drop, length-take, length-drop}
+use native.Mathlib.Nat.{zero-add}
+use lib.ListN.{length, getD, drop, length-take, length-drop}
 use lib.Dec.{ltb, eqb}
 use borrow.Author.Tests.{eqb-true, eq-eqb, ltb-true, ltb-false}
 use Rattle.octets.proofs.Choice.{pick-ind, and-yes, yes-and}
@@ -13,23 +14,29 @@ use Rattle.parity_table.specs.Shape.{depthFits, kOf, nOf}
 use Rattle.parity_table.specs.Table.{TableOk}
 use Rattle.parity_table.specs.Bytes.{wordsOf, readBytesOf}
 use Rattle.parity_table.specs.declared.Answer.the-variants.{Whole}
-use Rattle.parity_table.proofs.Accepts.{depth-is, accepted-table}
+use Rattle.sha256.specs.Hash.{sha256}
+use Rattle.parity_table.proofs.Accepts.{depth-is, accepted-formed, accepted-depth, accepted-table}
+use Rattle.parity_table.proofs.Parse.{formed-words}
 use Rattle.parity_table.proofs.ByteForm.{bytes-accepted}
 use Rattle.symbol_hash.specs.SymbolHash.{symbolHash}
 use Rattle.symbol_hash.proofs.Laws.{length-symbolHash}
 use Rattle.model.specs.Shape.{tree, place, places}
-use Rattle.model.specs.Symbols.{symbolIn, symAt, committed}
+use Rattle.model.specs.Symbols.{symbolIn, symAt}
 use Rattle.model.specs.Climb.{Climb, leads, breaks}
-use Rattle.model.specs.Coded.{InTree, Same, rootOf, Coded, Agrees}
+use Rattle.model.specs.Coded.{Agrees}
 use Rattle.model.specs.Writer.{blockOf, BaseOf, writeTree, writtenMarks, writtenRoot, Written}
 use Rattle.model.specs.Repair.{absentAt}
-use Rattle.model.specs.Sampling.{sampleSize, sampleBytes}
+use Rattle.model.specs.Sampling.{sampleSize, sampleLayer, sampleNumber, sampleBytes}
 use Rattle.model.specs.SampleCheck.{sampleCheck, SampleTrue, SampleCollision}
 use Rattle.model.proofs.Shapes.{tree-ok, tree-root}
 use Rattle.model.proofs.Tables.{TableFits, table-fits}
 use Rattle.model.proofs.Counts.{lowest-is}
 use Rattle.model.proofs.Writer.{block-symbol, marks-one, marks-length, written, written-same}
-use Rattle.model.proofs.Binding.{root-length, root-is, hashes, original-block}
+use Rattle.model.proofs.Bytes.{joined-length, joined-piece}
+use Rattle.model.proofs.Flat.{symAt-length}
+use Rattle.model.proofs.Binding.{root-length, original-block}
+use Rattle.sampling.specs.Lent.{BaseSymbol}
+use Rattle.sampling.proofs.SymbolLaws.{in-tree, sample-place-lt}
 use Rattle.model.proofs.Samples.{accepted-leads, leads-accepted, taken-length, taken-accepted, accepted-true}
 use Rattle.cedunmi.specs.declared.Answer.{Answer}
 use Rattle.cedunmi.specs.declared.Answer.the-variants.{Done}
@@ -42,14 +49,28 @@ use Rattle.cedunmi.proofs.SampleLaws.{at-end, sample-end}
 use Rattle.cedunmi.proofs.WriteLaws.{write-read}
 use Rattle.cedunmi.proofs.VolumeLaws.{tree-lengths, read-done, base-room}
 use Rattle.guarantees.specs.Terms.{equationsOf}
-use Rattle.guarantees.specs.Demand2.{treeAfter, marksAfter, rootAfter, Exactly, WriterInput, CompleteTree, ReadsBase, ReadsWritten, ReadsOriginal, SampleRight, AcceptsTaken, AcceptedIsTrue, Demand2}
+use Rattle.guarantees.specs.Layouts.{bytesFrom, allSymbols, symbolAt, sampledLayer, sampledNumber}
+use Rattle.guarantees.specs.Tables.{listed}
+use Rattle.guarantees.specs.Trees.{CorrectlyCoded, RootOf, AgreesWith, HasBlock}
+use Rattle.guarantees.specs.Refusals.{BlockLength, SampleLength, InBase}
+use Rattle.guarantees.specs.Demand2.{treeAfter, marksAfter, rootAfter, Exactly, WriterInput, CompleteTree, ReadsBase, ReadsWritten, ReadsOriginal, SampleRight, TakesExactly, AcceptsTaken, AcceptedIsTrue, Demand2}
+use Rattle.guarantees.proofs.Layouts.{tree-symbols, symbol-at, mark-at}
 use Rattle.guarantees.proofs.Marks.{held-marked, none-bad, none-absent, none-needed}
+use Rattle.guarantees.proofs.Tables.{rules-ok, ok-rules, listed-words}
+use Rattle.guarantees.proofs.Trees.{symbols-are, right-coded, agrees-with, with-agrees, block-base, base-block, twins-of}
+use Rattle.guarantees.proofs.Refusals.{depth-fits, size-tests, sampled-layer, sampled-number, leads-so, so-leads}
 
 -- ---- a table that was read whole
 
 module _ (depth : ℕ) (table : List ℕ) (w : readBytesOf depth table ≡ Whole) where
-  rules : TableOk depth (equationsOf table)
+  pub rules : TableOk depth (equationsOf table)
   rules = accepted-table depth (wordsOf table) (bytes-accepted depth table w)
+
+  -- its words are those of its equations
+  words-listed : wordsOf table ≡ listed (equationsOf table)
+  words-listed =
+      let r = bytes-accepted depth table w in
+      formed-words depth (wordsOf table) (accepted-formed depth (wordsOf table) r .1) (accepted-depth depth (wordsOf table) r .1) ∙ sym (listed-words (equationsOf table))
 
 -- ---- writing
 
@@ -115,35 +136,45 @@ module _ (depth : ℕ) (table block : List ℕ) where
     back : blockOf tree depth new ≡ block
     back = ap (λ (d : ℕ). blockOf tree d new) (sym deep) ∙ so .block-back
 
-    base-so : BaseOf tree depth (symAt tree new) block
-    base-so i h = sym (block-symbol tree depth new i h) ∙ ap (λ (b : List ℕ). symbolIn b i) back
+    ok : TableOk depth tbl
+    ok = rules depth table (c .whole-table)
 
-    only-so : (f : ℕ → ℕ → List ℕ) → Coded tree symbolHash tbl f → BaseOf tree depth f block → Same tree tbl (symAt tree new) f
-    only-so f k b = so .only f k (subst (λ (d : ℕ). BaseOf tree d f block) (sym deep) b)
+    agrees-so : AgreesWith depth tbl (writtenRoot tree symbolHash new) (symbolAt new)
+    agrees-so = rw (symbols-are new) (agrees-with depth tbl ok (writtenRoot tree symbolHash new) (symAt tree new) (so .agrees))
 
-    root-so : (f : ℕ → ℕ → List ℕ) → Coded tree symbolHash tbl f → BaseOf tree depth f block → writtenRoot tree symbolHash new ≡ rootOf tree symbolHash f
-    unfolding writtenRoot committed
+    block-so : HasBlock depth (symbolAt new) block
+    block-so i h =
+        symbol-at new (depth - 1) i
+        ∙ base-block depth (symAt tree new) block (λ q l. sym (block-symbol tree depth new q l) ∙ ap (λ (b : List ℕ). symbolIn b q) back) i h
+
+    only-so : (f : ℕ → ℕ → List ℕ) → CorrectlyCoded depth tbl f → HasBlock depth f block → (j i : ℕ) → j < depth → i < allSymbols j → symbolAt new j i ≡ f j i
+    unfolding kOf nOf
+    only-so f k b j i hj hi =
+        symbol-at new j i
+        ∙ so .only f (right-coded depth tbl ok f k) (subst (λ (d : ℕ). BaseOf tree d f block) (sym deep) (block-base depth f block b)) j i (omega (arith, deep), hi)
+
+    root-so : (f : ℕ → ℕ → List ℕ) → CorrectlyCoded depth tbl f → HasBlock depth f block → RootOf f (writtenRoot tree symbolHash new)
     root-so f k b =
-        root-is tree symbolHash length-symbolHash (writtenRoot tree symbolHash new) (root-length tree symbolHash length-symbolHash (symAt tree new)) f
-        (λ i h.
-        let inside : InTree tree tbl 0 i = (omega (arith, fits .deep), h) in
-        sym (hashes tree (tree-ok .shape) symbolHash length-symbolHash tbl (writtenRoot tree symbolHash new) (symAt tree new) (so .agrees) 0 i inside)
-        ∙ ap (symbolHash 0 i) (only-so f k b 0 i inside))
+        record {
+          full = agrees-so .root-of .full;
+          hashes = λ i h. agrees-so .root-of .hashes i h ∙ ap sha256 (only-so f k b 0 i (depth-is depth (c .fit-depth) .0) (omega arith));
+        }
 
     exactly : Exactly depth table block t m root
-    unfolding symbolHash writtenRoot
     exactly =
         record {
-          table-rules = rules depth table (c .whole-table);
-          hash-is = λ j i s. refl;
-          agrees = rw e (so .agrees);
-          base = rw e base-so;
+          by-rules = ok-rules depth tbl ok;
+          table-words = words-listed depth table (c .whole-table);
+          agrees = rw e agrees-so;
+          has-block = rw e block-so;
           only = rw e only-so;
           only-root = rw e root-so;
-          marked = rw e (marks-one tree depth);
-          tree-length = rw e new-length;
-          marks-length = rw e (marks-length tree depth);
-          root-length = rw e (root-length tree symbolHash length-symbolHash (symAt tree new) ∙ tree-root);
+          marked = rw e (λ p h. marks-one tree depth p (omega (arith, tree-symbols depth)));
+          lengths = rw e
+              (record {
+                tree-bytes = new-length ∙ ap (λ (n : ℕ). 256 * n) (sym (tree-symbols depth));
+                mark-bytes = marks-length tree depth ∙ sym (tree-symbols depth);
+              });
         }
 
   same-again : (t m root t′ m′ root′ : List ℕ) (e : treeWritten depth table block t m root ≡ Done) (e′ : treeWritten depth table block t′ m′ root′ ≡ Done)
@@ -186,7 +217,7 @@ reading d t m b =
     (λ f e. absurd (omega (arith, ap numberOf e)))
 
 reads-base : ReadsBase
-unfolding blockOf place
+unfolding blockOf place kOf symbolIn bytesFrom
 reads-base depth t m b e =
     let r = reading depth t m b e in
     let k = depth-is depth (r .fit-depth) .0 in
@@ -199,48 +230,73 @@ reads-base depth t m b e =
             r .tree-full,
             base-room depth k,
           )),
-      λ i h. (rw e (block-symbol tree depth t i h), held-marked m (depth - 1) i (low .before i (omega arith) (omega (arith, r .base-held)))),
+      λ i h. (
+        rw e (block-symbol tree depth t i h ∙ sym (symbol-at t (depth - 1) i)),
+        mark-at m (depth - 1) i ∙ held-marked m (depth - 1) i (low .before i (omega arith) (omega (arith, r .base-held))),
+      ),
     )
 
 module _ (depth : ℕ) (t m : List ℕ) (k : CompleteTree depth t m) where
-  sizes : (eqb (length t) (256 * places tree depth) && eqb (length m) (places tree depth)) ≡ true
-  sizes = yes-and (eq-eqb (length t) (256 * places tree depth) (k .tree-full)) (eq-eqb (length m) (places tree depth) (k .marks-full))
+  fit : depthFits depth ≡ true
+  fit = depth-fits depth (k .depth-right)
 
   no-bad : length m ≤ lowestBad m
-  no-bad = none-bad m (λ p h. omega (arith, k .all-held p (omega (arith, k .marks-full))))
+  no-bad = none-bad m (λ p h. omega (arith, k .all-held p (omega (arith, k .lengths .mark-bytes))))
 
-  some-layer : 1 ≤ depth
-  some-layer = depth-is depth (k .fit-depth) .0
+  held : (p : ℕ) → p < places tree depth → getD m p 0 ≡ 1
+  held p h = k .all-held p (omega (arith, tree-symbols depth))
 
-  complete-read : (b : List ℕ) → length b ≡ 256 * kOf (depth - 1) → blockRead depth t m b ≡ Done
+  complete-read : (b : List ℕ) → BlockLength depth b → blockRead depth t m b ≡ Done
+  unfolding kOf
   complete-read b l =
-      sym (read-done depth t m b (k .fit-depth) sizes (eq-eqb (length b) (256 * kOf (depth - 1)) l) no-bad (none-absent depth some-layer m (k .all-held)))
+      sym (read-done depth t m b fit (size-tests depth t m (k .lengths)) (eq-eqb (length b) (256 * kOf (depth - 1)) l) no-bad
+      (none-absent depth (k .depth-right .0) m held))
 
-  complete-sampled : (i : ℕ) (s : List ℕ) → i < nOf (depth - 1) → length s ≡ 256 * sampleSize depth → sampleTaken depth i t m s ≡ Done
+  complete-sampled : (i : ℕ) (s : List ℕ) → InBase depth i → SampleLength depth s → sampleTaken depth i t m s ≡ Done
+  unfolding kOf nOf
   complete-sampled i s h l =
-      sym (sample-end depth i t m s (k .fit-depth) sizes l no-bad h)
-      ∙ ap needed (none-needed depth some-layer m (k .all-held) i (some-layer, depth-is depth (k .fit-depth) .1, h))
+      sym (sample-end depth i t m s fit (size-tests depth t m (k .lengths)) l no-bad h)
+      ∙ ap needed (none-needed depth (k .depth-right .0) m held i (k .depth-right .0, k .depth-right .1, h))
 
 reads-written : ReadsWritten
 reads-written depth table block t m root b e l =
+    let x = exactly depth table block t m root e in
     let done : blockRead depth (new depth table block t m root e) (writtenMarks tree depth) b ≡ Done =
     complete-read depth (new depth table block t m root e) (writtenMarks tree depth)
     (record {
-      fit-depth = c depth table block t m root e .fit-depth;
-      tree-full = new-length depth table block t m root e;
-      marks-full = marks-length tree depth;
-      all-held = marks-one tree depth;
+      depth-right = depth-is depth (c depth table block t m root e .fit-depth);
+      lengths = rw e at (x .lengths);
+      all-held = rw e at (x .marked);
     })
     b l in
     (rw e done, rw (e, done) (back depth table block t m root e))
 
 reads-original : ReadsOriginal
+unfolding kOf nOf
 reads-original depth table block t m root e u w b q a =
     let d = deep depth table block t m root e in
-    ⊎-elim (λ s. inl (rw q (ap (λ (n : ℕ). blockOf tree n u) (sym d) ∙ s))) (λ x. inr (rw e x))
-    (original-block tree (tree-ok .shape) symbolHash length-symbolHash (equationsOf table) block (new depth table block t m root e) (so depth table block t m root e) u
+    let tb : List (List (List ℕ)) = equationsOf table in
+    let v : List ℕ = new depth table block t m root e in
+    let a′ : AgreesWith depth tb (writtenRoot tree symbolHash v) (symbolAt u) = rw e at a in
+    let sized-u = a′ .correctly-coded .sized in
+    let sized-v = agrees-so depth table block t m root e .correctly-coded .sized in
+    ⊎-elim (λ s. inl (rw q (ap (λ (n : ℕ). blockOf tree n u) (sym d) ∙ s)))
+    (λ x.
+    let j : ℕ = x .layer in
+    let i : ℕ = x .number in
+    let hj : j < depth = omega (arith, x .inside .0) in
+    inr (rw e
+    (record {
+      layer = j;
+      number = i;
+      in-tree = (hj, x .inside .1);
+      collide = rw (symbol-at u j i, symbol-at v j i)
+          (twins-of j i (symAt tree u j i) (symAt tree v j i) (ap length (sym (symbol-at u j i)) ∙ sized-u j i hj (x .inside .1))
+          (ap length (sym (symbol-at v j i)) ∙ sized-v j i hj (x .inside .1)) (x .collide));
+    })))
+    (original-block tree (tree-ok .shape) symbolHash length-symbolHash tb block v (so depth table block t m root e) u
     (reading depth u w b q .tree-full ∙ ap (λ (n : ℕ). 256 * places tree n) (sym d))
-    (subst (λ (z : Answer). Agrees tree symbolHash (equationsOf table) (rootLeft z (treeLeft z (wordsOf table) block t) root) (symAt tree u)) e a))
+    (with-agrees depth tb (ok depth table block t m root e) (writtenRoot tree symbolHash v) (symAt tree u) (rw (symbols-are u) at a′)))
 
 -- ---- samples
 
@@ -249,7 +305,7 @@ done-led leads e = refl
 done-led (breaks j) e = absurd (omega (arith, ap numberOf e))
 
 sample-right : (depth i : ℕ) (root s : List ℕ) → sampleChecked depth i root s ≡ Done → SampleRight depth i root s
-unfolding sampleChecked
+unfolding sampleChecked kOf nOf
 sample-right depth i root s =
     let P : Answer → Type 0 = λ a. a ≡ Done → SampleRight depth i root s in
     pick-ind P (depthFits depth)
@@ -260,42 +316,73 @@ sample-right depth i root s =
     (λ z e.
     let (r, q) = and-yes (eqb (length root) 512) (eqb (length s) (256 * sampleSize depth)) l in
     record {
-      depth-fits = f;
+      depth-right = depth-is depth f;
       root-length = eqb-true (length root) 512 r;
       sample-length = eqb-true (length s) (256 * sampleSize depth) q;
       in-base = ltb-true i (nOf (depth - 1)) z;
-      all-lead = accepted-leads tree symbolHash root depth i (depth-is depth f .0) s (done-led (sampleCheck tree symbolHash root depth i s) e);
+      all-lead = leads-so depth i root s
+          (accepted-leads tree symbolHash root depth i (depth-is depth f .0) s (done-led (sampleCheck tree symbolHash root depth i s) e));
     })
     (λ z e. absurd (omega (arith, ap numberOf e))))
     (λ l e. absurd (omega (arith, ap numberOf e))))
     (λ f e. absurd (omega (arith, ap numberOf e)))
 
-right-sample : (depth i : ℕ) (root s : List ℕ) → SampleRight depth i root s → sampleChecked depth i root s ≡ Done
-right-sample depth i root s r =
-    sym (at-end depth i root s (r .depth-fits) (r .root-length) (r .sample-length) (r .in-base))
-    ∙ ap led (leads-accepted tree symbolHash root depth i (depth-is depth (r .depth-fits) .0) s (r .all-lead))
+sample-leads : (depth i : ℕ) (root s : List ℕ) → SampleRight depth i root s → sampleCheck tree symbolHash root depth i s ≡ leads
+sample-leads depth i root s r = leads-accepted tree symbolHash root depth i (r .depth-right .0) s (so-leads depth i root s (r .all-lead))
 
--- a sample that was taken is of a symbol of the base, at a depth that fits
-taking : (depth i : ℕ) (t m s : List ℕ) → sampleTaken depth i t m s ≡ Done → (depthFits depth ≡ true) × (i < nOf (depth - 1))
+right-sample : (depth i : ℕ) (root s : List ℕ) → SampleRight depth i root s → sampleChecked depth i root s ≡ Done
+unfolding kOf nOf
+right-sample depth i root s r =
+    sym (at-end depth i root s (depth-fits depth (r .depth-right)) (r .root-length) (r .sample-length) (r .in-base)) ∙ ap led (sample-leads depth i root s r)
+
+-- a sample that was taken is of a symbol of the base of a tree of its lengths, at a depth that fits
+record Taking (depth i : ℕ) (t m : List ℕ) : Type 0 where
+  fit-depth : depthFits depth ≡ true
+  tree-full : length t ≡ 256 * places tree depth
+  in-base : i < nOf (depth - 1)
+
+taking : (depth i : ℕ) (t m s : List ℕ) → sampleTaken depth i t m s ≡ Done → Taking depth i t m
 unfolding sampleTaken
 taking depth i t m s =
-    let P : Answer → Type 0 = λ a. a ≡ Done → (depthFits depth ≡ true) × (i < nOf (depth - 1)) in
+    let P : Answer → Type 0 = λ a. a ≡ Done → Taking depth i t m in
     pick-ind P (depthFits depth)
     (λ f.
     pick-ind P ((eqb (length t) (256 * places tree depth) && eqb (length m) (places tree depth)) && eqb (length s) (256 * sampleSize depth))
     (λ l.
     pick-ind P (ltb (lowestBad m) (length m)) (λ w e. absurd (omega (arith, ap numberOf e)))
-    (λ w. pick-ind P (ltb i (nOf (depth - 1))) (λ z e. (f, ltb-true i (nOf (depth - 1)) z)) (λ z e. absurd (omega (arith, ap numberOf e)))))
+    (λ w.
+    pick-ind P (ltb i (nOf (depth - 1)))
+    (λ z e.
+    let (tm, q) = and-yes (eqb (length t) (256 * places tree depth) && eqb (length m) (places tree depth)) (eqb (length s) (256 * sampleSize depth)) l in
+    record { fit-depth = f; tree-full = tree-lengths depth (length t) (length m) tm .0; in-base = ltb-true i (nOf (depth - 1)) z })
+    (λ z e. absurd (omega (arith, ap numberOf e)))))
     (λ l e. absurd (omega (arith, ap numberOf e))))
     (λ f e. absurd (omega (arith, ap numberOf e)))
 
-module _ (depth i : ℕ) (root table : List ℕ) (w : readBytesOf depth table ≡ Whole) (f : ℕ → ℕ → List ℕ) (agr : Agrees tree symbolHash (equationsOf table) root f)
-    (fit : depthFits depth ≡ true) (hi : i < nOf (depth - 1)) where
-  abbrev tb : List (List (List ℕ))
-  tb = equationsOf table
+-- symbol x of a sample, by either numbering
+sampled-symbol : (depth i x : ℕ) (f : ℕ → ℕ → List ℕ) → f (sampledLayer depth x) (sampledNumber depth i x) ≡ f (sampleLayer depth x) (sampleNumber tree depth i x)
+sampled-symbol depth i x f = ap₂ f (sampled-layer depth x) (sampled-number depth i x)
 
+takes-exactly : TakesExactly
+unfolding sampleBytes symbolIn bytesFrom
+takes-exactly depth i t m s e =
+    let k = taking depth i t m s e in
+    let base : BaseSymbol depth i = (depth-is depth (k .fit-depth) .0, depth-is depth (k .fit-depth) .1, k .in-base) in
+    let g : ℕ → List ℕ = λ x. symAt tree t (sampleLayer depth x) (sampleNumber tree depth i x) in
+    let full : (x : ℕ) → x < sampleSize depth → length (g x) ≡ 256 =
+    λ x h. symAt-length tree t (sampleLayer depth x) (sampleNumber tree depth i x) (omega (arith, sample-place-lt depth i x base h, k .tree-full)) in
+    let from-zero : (x : ℕ) → x < sampleSize depth → length (g (0 + x)) ≡ 256 = λ x h. ap (λ (y : ℕ). length (g y)) (zero-add x) ∙ full x h in (
+      rw e (joined-length g 256 (sampleSize depth) 0 from-zero),
+      λ x h.
+          rw e
+          (joined-piece g 256 (sampleSize depth) 0 x h from-zero ∙ ap g (zero-add x) ∙ sym (symbol-at t (sampleLayer depth x) (sampleNumber tree depth i x))
+          ∙ sym (sampled-symbol depth i x (symbolAt t))),
+    )
+
+module _ (depth i : ℕ) (root : List ℕ) (tb : List (List (List ℕ))) (keeps : TableOk depth tb) (f : ℕ → ℕ → List ℕ) (agr : Agrees tree symbolHash tb root f)
+    (fit : depthFits depth ≡ true) (hi : i < nOf (depth - 1)) where
   layered : length tb ≡ depth
-  layered = rules depth table w .depth
+  layered = keeps .depth
 
   some : 1 ≤ length tb
   some = omega (arith, layered, depth-is depth fit .0)
@@ -320,15 +407,34 @@ module _ (depth i : ℕ) (root table : List ℕ) (w : readBytesOf depth table �
       (subst (λ (d : ℕ). sampleCheck tree symbolHash root d i s ≡ leads) (sym layered) e))
 
 accepts-taken : AcceptsTaken
-accepts-taken depth i root table t m s w agr e =
-    let (fit, hi) = taking depth i t m s e in
-    rw e (taken-good depth i root table w (symAt tree t) agr fit hi)
+accepts-taken depth i root t m s tbl r a e =
+    let k = taking depth i t m s e in
+    let keeps = rules-ok depth tbl r in
+    rw e
+    (taken-good depth i root tbl keeps (symAt tree t) (with-agrees depth tbl keeps root (symAt tree t) (rw (symbols-are t) at a)) (k .fit-depth) (k .in-base))
 
 accepted-is-true : AcceptedIsTrue
-accepted-is-true depth i root table s w e f agr =
-    let r = sample-right depth i root s e in
-    accepted-good depth i root table w f agr (r .depth-fits) (r .in-base) s
-    (leads-accepted tree symbolHash root depth i (depth-is depth (r .depth-fits) .0) s (r .all-lead))
+unfolding kOf nOf symbolIn bytesFrom
+accepted-is-true depth i root s tbl r e f a =
+    let k = sample-right depth i root s e in
+    let keeps = rules-ok depth tbl r in
+    let base : BaseSymbol depth i = (k .depth-right .0, k .depth-right .1, k .in-base) in
+    ⊎-elim (λ same. inl (λ x h. same x h ∙ sym (sampled-symbol depth i x f)))
+    (λ x.
+    let y : ℕ = x .index in
+    let l : ℕ = sampleLayer depth y in
+    let n : ℕ = sampleNumber tree depth i y in
+    let there = in-tree depth i y l n base (x .inside) refl refl in
+    inr (record {
+      index = y;
+      inside = x .inside;
+      collide = rw (sampled-symbol depth i y f)
+          (twins-of l n (symbolIn s y) (f l n)
+          (omega (arith, length-take 256 (drop (256 * y) s), length-drop (256 * y) s, k .sample-length, x .inside))
+          (a .correctly-coded .sized l n (there .0) (there .1)) (x .collide));
+    }))
+    (accepted-good depth i root tbl keeps f (with-agrees depth tbl keeps root f a) (depth-fits depth (k .depth-right)) (k .in-base) s
+    (sample-leads depth i root s k))
 
 -- ---- the demand
 
@@ -344,6 +450,7 @@ demand-2 =
       reads-original = reads-original;
       accepts-just-when = λ depth i root s. (sample-right depth i root s, right-sample depth i root s);
       takes-complete = λ depth i t m s k. complete-sampled depth t m k i s;
+      takes-exactly = takes-exactly;
       accepts-taken = accepts-taken;
       accepted-is-true = accepted-is-true;
     }

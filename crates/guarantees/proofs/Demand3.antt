@@ -1,21 +1,35 @@
 -- Demand 3: the checker is sound, and every repair of well-formed input ends in one of four ways.
-use mathlib.Core.Path.{_≡_, refl, sym, ap, _∙_}
-use mathlib.Core.Logic.{_⊎_, inl, inr}
-use mathlib.Core.List.{List}
-use Prim.Native.Nat.{ℕ, _*_, _≤_}
+use mathlib.Core.Path.{_≡_, refl, sym, ap, ap₂, _∙_, subst}
+use mathlib.Core.Logic.{_⊎_, _↔_, _≢_, inl, inr, ⊎-elim}
+use mathlib.Core.Bool.{Bool, true, false, not, _&&_, _||_}
+use mathlib.Core.List.{List, [], _∷_, _++_, append-nil}
+use Prim.Native.Nat.{ℕ, zero, suc, _+_, _*_, _≤_, _<_}
 use native.Mathlib.Omega.{arith}
-use lib.ListN.{length}
+use lib.ListN.{length, getD}
 use lib.Dec.{ltb}
-use borrow.Author.Tests.{eq-eqb, ltb-false}
+use borrow.Author.Tests.{ltb-true, ltb-false, eq-eqb, ne-eqb}
 use Rattle.octets.specs.Choice.{pick}
-use Rattle.octets.proofs.Choice.{pick-ind, yes-and}
-use Rattle.parity_table.specs.Shape.{depthFits}
-use Rattle.parity_table.specs.Bytes.{readBytesOf}
+use Rattle.octets.specs.ByteLists.{same}
+use Rattle.octets.proofs.Choice.{by-test, pick-ind, and-yes, yes-and, both, not-yes}
+use Rattle.sha256.specs.Hash.{sha256}
+use Rattle.parity_table.specs.Shape.{depthFits, kOf, nOf}
+use Rattle.parity_table.specs.Members.{every, lastOf}
+use Rattle.parity_table.specs.Table.{layerOf, equationOf, TableOk}
+use Rattle.parity_table.specs.Bytes.{wordsOf, readBytesOf}
 use Rattle.parity_table.specs.declared.Answer.the-variants.{Whole}
+use Rattle.parity_table.proofs.Accepts.{depth-is, accepted-depth}
+use Rattle.parity_table.proofs.ByteForm.{bytes-accepted}
+use Rattle.parity_table.proofs.Rules.{members-below}
 use Rattle.symbol_hash.specs.SymbolHash.{symbolHash}
-use Rattle.model.specs.Shape.{tree, places}
-use Rattle.model.specs.Repair.{End, working, whole, fault, unavailable, twins, St}
-use Rattle.model.specs.Ends.{Stopping, EndOk, Ended}
+use Rattle.model.specs.Shape.{tree, place, places}
+use Rattle.model.specs.Symbols.{bit, count, others, symbolIn, xorOf, zeros, committed, symAt}
+use Rattle.model.specs.Repair.{End, working, whole, fault, unavailable, twins, St, absentAt}
+use Rattle.model.specs.Ends.{Stopping, tally, gapAt, filledIn, filled, Taken, WholeEnd, FaultEnd, UnavailableEnd, TwinsEnd, EndOk, Ended}
+use Rattle.model.proofs.Bytes.{yes-same, no-same}
+use Rattle.model.proofs.Members.{every-below}
+use Rattle.model.proofs.Counts.{isIt, firstOf-passes, every-others, ascending-once, none-absent, others-held, last-member, first-member}
+use Rattle.model.proofs.Shapes.{place-lt}
+use Rattle.model.proofs.Flat.{symAt-length}
 use Rattle.cedunmi.specs.declared.Answer.{Answer}
 use Rattle.cedunmi.specs.declared.Answer.the-variants.{Done, Stopped}
 use Rattle.cedunmi.specs.Repairs.{repairLengths, repairTested, repairOf, repaired, resultBy, leftBy}
@@ -24,14 +38,45 @@ use Rattle.cedunmi.specs.Stops.{numberOf}
 use Rattle.cedunmi.specs.Marks.{lowestBad}
 use Rattle.cedunmi.proofs.LoadLaws.{table-done}
 use Rattle.cedunmi.proofs.RepairLaws.{tested-done}
-use Rattle.cedunmi.proofs.Sound.{checker-sound}
-use Rattle.cedunmi.proofs.Ends.{formed, deep, four-ways, fault-accepted}
+use Rattle.cedunmi.proofs.Sound.{passed, checker-sound}
+use Rattle.cedunmi.proofs.Ends.{formed, four-ways, fault-accepted}
+use Rattle.guarantees.specs.Layouts.{bytesFrom, symbolNo, dataSymbols, allSymbols, symbolAt, markAt, hashFor, XorOf}
+use Rattle.guarantees.specs.Tables.{IsMember}
+use Rattle.guarantees.specs.Trees.{members, EquationHolds}
 use Rattle.guarantees.specs.Terms.{equationsOf}
-use Rattle.guarantees.specs.Demand3.{Checker, RepairInput, AsTheSteps, EndsWhole, EndsFault, EndsUnavailable, EndsTwins, Repair, Demand3}
+use Rattle.guarantees.specs.Demand3.{howMany, meets, inLayers, Gap, NotTaken, Took, LastOfFailing, Checker, RepairInput, AsTheSteps, EveryEnd, EndsWhole, EndsFault, EndsUnavailable, EndsTwins, Repair, Demand3}
+use Rattle.guarantees.proofs.Layouts.{tree-symbols, symbol-at, mark-at, hash-for, xor-one, xor-of}
+use Rattle.guarantees.proofs.Membership.{every-member-of, counted-member, member-other, two-passing, member-apart, last-apart}
 use Rattle.guarantees.proofs.Marks.{held-marked, none-bad, all-right}
+use Rattle.guarantees.proofs.Tables.{ok-rules}
+use Rattle.guarantees.proofs.Trees.{symbols-are, agrees-with, with-agrees, twins-of}
+use Rattle.guarantees.proofs.Refusals.{absent-said, absent-seen}
+use Rattle.guarantees.proofs.ProofHeads.{others-apart}
+use Rattle.guarantees.proofs.FaultProofs.{fault-proofs}
+use Rattle.guarantees.proofs.Demand2.{rules}
+
+-- ---- the checker
 
 checker : Checker
-checker depth root table f agr b e = checker-sound depth root table b e f agr
+unfolding kOf nOf
+checker depth root table f agr b e =
+    let tbl : List (List (List ℕ)) = equationsOf table in
+    let p = passed depth root table b e in
+    let ok = rules depth table (p .whole) in
+    let x = checker-sound depth root table b e f (with-agrees depth tbl ok root f agr) in
+    let y = x .collision in
+    let n = fault-proofs .accepts-just-when depth root table b .0 e .named in
+    let shallow = accepted-depth depth (wordsOf table) (bytes-accepted depth table (p .whole)) .1 in
+    let hj : y .layer < depth = omega (arith, y .inside .0, ok .depth) in
+    record {
+      named = n;
+      layer = y .layer;
+      number = y .number;
+      held = y .symbol;
+      holds = fault-proofs .holds-exactly depth tbl b shallow (ok-rules depth tbl ok) n (y .layer) (y .number) (y .symbol) .0 (y .is-held);
+      in-tree = (hj, y .inside .1);
+      collide = twins-of (y .layer) (y .number) (y .symbol) (f (y .layer) (y .number)) (x .sized) (x .sized-in-tree) (y .collide);
+    }
 
 -- ---- well-formed input
 
@@ -69,11 +114,65 @@ module _ (d : ℕ) (root table t m o : List ℕ) where
       (yes-and (eq-eqb (length t) (256 * places tree d) (k .tree-full)) (eq-eqb (length m) (places tree d) (k .marks-full))) (k .out-full) Whole
       (sym (k .whole-table)) refl (none-bad m (λ p h. k .marks-right p (omega (arith, k .marks-full)))))
 
+-- ---- marks, gaps and counts
+
+-- absent, by its mark
+module _ (m : List ℕ) (j i : ℕ) where
+  pub marked-1 : absentAt tree m j i ≡ false → markAt m j i ≡ 1
+  marked-1 h = mark-at m j i ∙ held-marked m j i h
+
+  pub is-held : markAt m j i ≡ 1 → absentAt tree m j i ≡ false
+  unfolding absentAt
+  is-held e = ap not (eq-eqb (getD m (place tree j i) 0) 1 (sym (mark-at m j i) ∙ e))
+
+  pub is-absent : markAt m j i ≢ 1 → absentAt tree m j i ≡ true
+  unfolding absentAt
+  is-absent n = ap not (ne-eqb (getD m (place tree j i) 0) 1 (λ e. n (mark-at m j i ∙ e)))
+
+or-right : (a b : Bool) → a ≡ false → (a || b) ≡ true → b ≡ true
+or-right true b e h = both refl e
+or-right false b e h = h
+
+or-first : (a b : Bool) → a ≡ true → (a || b) ≡ true
+or-first true b h = refl
+or-first false b h = both h refl
+
+or-yes : (a b : Bool) → b ≡ true → (a || b) ≡ true
+or-yes true b h = refl
+or-yes false b h = h
+
+-- two tests that say the same are the same
+same-test : (p q : Bool) → (p ≡ true → q ≡ true) → (q ≡ true → p ≡ true) → p ≡ q
+same-test true q f g = sym (f refl)
+same-test false true f g = g refl
+same-test false false f g = refl
+
+bit-pick : (b : Bool) → pick b 1 0 ≡ bit b
+unfolding pick
+bit-pick true = refl
+bit-pick false = refl
+
+how-many : (p q : ℕ → Bool) (n : ℕ) → ((i : ℕ) → i < n → p i ≡ q i) → howMany p n ≡ tally q n
+unfolding howMany tally
+how-many p q zero h = refl
+how-many p q (suc n) h =
+    ap₂ (λ (a b : ℕ). a + b) (bit-pick (p n) ∙ ap bit (h n (omega arith))) (how-many p q n (λ i l. h i (omega arith)))
+
+meets-count : (p q : ℕ → Bool) (xs : List ℕ) → ((x : ℕ) → IsMember x xs → p x ≡ q x) → meets p xs ≡ count q xs
+unfolding meets count
+meets-count p q [] h = refl
+meets-count p q (x ∷ xs) h =
+    ap₂ (λ (a b : ℕ). a + b) (bit-pick (p x) ∙ ap bit (h x (0, omega arith, refl)))
+    (meets-count p q xs (λ y m. h y (suc (m .0), omega (arith, m .1), m .2)))
+
 -- ---- the four ways
 
 module _ (depth : ℕ) (root table t m o : List ℕ) (e : repairTested depth root table t m o ≡ Done) where
   abbrev st : St
   st = repairOf root table t m o
+
+  abbrev tbl : List (List (List ℕ))
+  tbl = equationsOf table
 
   as-steps : AsTheSteps depth root table t m o
   unfolding repaired
@@ -85,59 +184,289 @@ module _ (depth : ℕ) (root table t m o : List ℕ) (e : repairTested depth roo
         out-left = ap (λ (a : Answer). leftBy a (st .out) o) e;
       }
 
-  so : Ended tree symbolHash root (equationsOf table) t m o st
+  so : Ended tree symbolHash root tbl t m o st
   so = four-ways depth root table t m o e
 
-  four : (z : End) → st .end ≡ z → EndOk tree symbolHash root (equationsOf table) t m o st z
-      → EndsWhole depth root table t m o ⊎ (EndsFault depth root table t m o ⊎ (EndsUnavailable depth root table t m o ⊎ EndsTwins depth root table t m o))
-  unfolding Stopping symbolHash
-  four working q x = absurd x
-  four whole q x =
-      let d = deep depth root table t m o (formed depth root table t m o e) in
-      inl (record {
+  input : RepairInput depth root table t m o
+  input = input-of depth root table t m o e
+
+  ok : TableOk depth tbl
+  ok = rules depth table (input .whole-table)
+
+  abbrev absent : ℕ → ℕ → Bool
+  absent = absentAt tree (st .marks)
+
+  -- a layer that was entered is one of the tree's
+  in-depth : st .entered ≤ depth
+  in-depth = omega (arith, so .always .in-depth, ok .depth)
+
+  -- symbols of the tree have 256 bytes
+  full : (j i : ℕ) → j < depth → i < nOf j → length (symAt tree (st .tree) j i) ≡ 256
+  full j i hj hi =
+      symAt-length tree (st .tree) j i
+      (omega (arith, place-lt tree depth j i hj hi, so .always .sized .tree-length, ap (places tree) (ok .depth)))
+
+  committed-is : (j i : ℕ) → hashFor root (symbolAt (st .tree)) j i ≡ committed tree root (symAt tree (st .tree)) j i
+  committed-is j i = rw (symbols-are (st .tree)) (hash-for root (symAt tree (st .tree)) j i)
+
+  -- ---- gaps
+
+  module _ (j i : ℕ) (hj : j < depth) (hi : i < nOf j) where
+    lent-low : getD m (place tree j i) 0 ≤ 1
+    lent-low = input .marks-right (place tree j i) (place-lt tree depth j i hj hi)
+
+    gap-is : gapAt tree symbolHash root t m (st .tree) j i ≡ true → Gap depth root table t m o j i
+    unfolding gapAt symbolHash
+    gap-is g =
+        by-test (absentAt tree m j i) (λ a. inl (mark-at m j i ∙ absent-said m j i lent-low a))
+        (λ a.
+        inr (λ q.
+        both
+        (yes-same (ap sha256 (sym (symbol-at t j i)) ∙ q ∙ committed-is j i))
+        (not-yes (same (sha256 (symAt tree t j i)) (committed tree root (symAt tree (st .tree)) j i)) (or-right (absentAt tree m j i) _ a g))))
+
+    is-gap : Gap depth root table t m o j i → gapAt tree symbolHash root t m (st .tree) j i ≡ true
+    unfolding gapAt symbolHash
+    is-gap (inl z) = or-first (absentAt tree m j i) _ (absent-seen m j i lent-low (sym (mark-at m j i) ∙ z))
+    is-gap (inr n) =
+        or-yes (absentAt tree m j i) _
+        (ap not (no-same (λ q. n (ap sha256 (symbol-at t j i) ∙ q ∙ sym (committed-is j i)))))
+
+  gap-no : (j i : ℕ) → j < depth → i < nOf j → (Gap depth root table t m o j i → ⊥) → gapAt tree symbolHash root t m (st .tree) j i ≡ false
+  gap-no j i hj hi n = by-test (gapAt tree symbolHash root t m (st .tree) j i) (λ g. absurd (n (gap-is j i hj hi g))) (λ g. g)
+
+  -- ---- what holds at every end
+
+  module _ (p : ℕ → ℕ → Bool)
+      (says : (j i : ℕ) → j < st .entered → i < allSymbols j
+      → (p j i ≡ true) ↔ (Gap depth root table t m o j i × (markAt (st .marks) j i ≡ 1))) where
+    layer-count : (j : ℕ) → j < st .entered → howMany (p j) (allSymbols j) ≡ filledIn tree symbolHash root t m (st .tree) (st .marks) j
+    unfolding filledIn kOf nOf
+    layer-count j hj =
+        how-many (p j) (λ i. gapAt tree symbolHash root t m (st .tree) j i && not (absent j i)) (allSymbols j)
+        (λ i hi.
+        let lj : j < depth = omega (arith, in-depth) in
+        same-test (p j i) _
+        (λ q. let (g, h) = says j i hj hi .0 q in yes-and (is-gap j i lj hi g) (ap not (is-held (st .marks) j i h)))
+        (λ q.
+        let (g, h) = and-yes (gapAt tree symbolHash root t m (st .tree) j i) (not (absent j i)) q in
+        says j i hj hi .1 (gap-is j i lj hi g, marked-1 (st .marks) j i (not-yes (absent j i) h))))
+
+    layers-count : (d : ℕ) → d ≤ st .entered → inLayers p d ≡ filled tree symbolHash root t m (st .tree) (st .marks) d
+    unfolding inLayers filled
+    layers-count zero h = refl
+    layers-count (suc d) h = ap₂ (λ (a b : ℕ). a + b) (layer-count d (omega arith)) (layers-count d (omega arith))
+
+  -- an equation whose exclusive-or is zeros holds, and only such a one
+  module _ (j q : ℕ) (hj : j < depth) (hq : q < 3 * kOf j) where
+    inside : (i : ℕ) → i < length (equationOf tbl j q) → length (symAt tree (st .tree) j (getD (equationOf tbl j q) i 0)) ≡ 256
+    inside i h =
+        full j (getD (equationOf tbl j q) i 0) hj (every-below (nOf j) (equationOf tbl j q) (members-below depth tbl ok j q hj hq) i h)
+
+    holds-so : xorOf (symAt tree (st .tree) j) (equationOf tbl j q) ≡ zeros → EquationHolds (symbolAt (st .tree) j) (members tbl j q)
+    unfolding layerOf equationOf zeros
+    holds-so z =
+        subst (λ (f : ℕ → ℕ → List ℕ). EquationHolds (f j) (members tbl j q)) (sym (symbols-are (st .tree)))
+        (subst (XorOf (λ i. symAt tree (st .tree) j (getD (members tbl j q) i 0)) (length (members tbl j q))) z
+        (xor-of (symAt tree (st .tree) j) (members tbl j q) inside))
+
+    so-holds : EquationHolds (symbolAt (st .tree) j) (members tbl j q) → xorOf (symAt tree (st .tree) j) (equationOf tbl j q) ≡ zeros
+    unfolding layerOf equationOf zeros
+    so-holds x =
+        xor-one (λ i. symAt tree (st .tree) j (getD (members tbl j q) i 0)) (length (members tbl j q)) (xorOf (symAt tree (st .tree) j) (members tbl j q)) zeros
+        (xor-of (symAt tree (st .tree) j) (members tbl j q) inside)
+        (subst (λ (f : ℕ → ℕ → List ℕ). EquationHolds (f j) (members tbl j q)) (symbols-are (st .tree)) x)
+
+  every-end : EveryEnd depth root table t m o
+  unfolding kOf nOf symbolHash zeros
+  every-end =
+      let a = so .always in
+      record {
+        in-depth = in-depth;
+        lengths = record {
+          tree-bytes = a .sized .tree-length ∙ ap (λ (n : ℕ). 256 * places tree n) (ok .depth) ∙ ap (λ (n : ℕ). 256 * n) (sym (tree-symbols depth));
+          mark-bytes = a .sized .marks-length ∙ ap (places tree) (ok .depth) ∙ sym (tree-symbols depth);
+        };
+        tree-below = rw (tree-symbols (st .entered)) (a .untouched);
+        marks-below = rw (tree-symbols (st .entered)) (a .unmarked);
+        zeroed = λ j i hj hi n.
+            let (z, s) = a .cleared j i hj hi (is-absent (st .marks) j i n) in (mark-at (st .marks) j i ∙ z, symbol-at (st .tree) j i ∙ s);
+        kept = λ j i hj hi n.
+            let (h, s) = a .kept j i hj hi (gap-no j i (omega (arith, in-depth)) hi n) in
+            (marked-1 (st .marks) j i h, symbol-at (st .tree) j i ∙ s ∙ sym (symbol-at t j i));
+        held = λ j i hj hi h. ap sha256 (symbol-at (st .tree) j i) ∙ a .held j i hj hi (is-held (st .marks) j i h) ∙ sym (committed-is j i);
+        above-complete = λ j i hj hi. marked-1 (st .marks) j i (a .above j hj .full i hi);
+        above-holds = λ j q hj hq.
+            holds-so j q (omega (arith, in-depth)) hq (a .above j hj .holds q (omega (arith, ok .equations j (omega (arith, in-depth)))));
+        counted = λ p says. a .counted ∙ sym (layers-count p says (st .entered) (omega arith));
+      }
+
+  -- ---- the equation that was taken
+
+  module _ (j q x : ℕ) (k : Taken tree symbolHash root tbl (st .tree) (st .marks) j q x) (en : st .entered ≡ suc j) where
+    hj : j < depth
+    hj = omega (arith, in-depth, en)
+
+    hq : q < 3 * kOf j
+    hq = omega (arith, k .in-table, ok .equations j hj)
+
+    abbrev ms : List ℕ
+    ms = equationOf tbl j q
+
+    zero-mark : (p : ℕ) → p < 3 * kOf j → (y : ℕ) → IsMember y (equationOf tbl j p) → absent j y ≡ true → markAt (st .marks) j y ≡ 0
+    zero-mark p hp y mem a =
+        let below : y < nOf j =
+        ltb-true y (nOf j) (every-member-of (λ z. ltb z (nOf j)) (equationOf tbl j p) (members-below depth tbl ok j p hj hp) y mem) in
+        mark-at (st .marks) j y ∙ so .always .cleared j y (omega (arith, en)) below a .0
+
+    one-mark : (ys : List ℕ) → every (λ y. not (absent j y)) ys ≡ true → (y : ℕ) → IsMember y ys → markAt (st .marks) j y ≡ 1
+    one-mark ys a y mem = marked-1 (st .marks) j y (not-yes (absent j y) (every-member-of (λ z. not (absent j z)) ys a y mem))
+
+    is-member : IsMember x ms
+    is-member =
+        ⊎-elim (λ w. counted-member x ms (rw (w .1) (first-member (absent j) ms (omega (arith, w .0)))))
+        (λ w. counted-member x ms (rw (w .1) (last-member ms 0 (omega (arith, ok .members j q hj hq .some))))) (k .withheld)
+
+    held-others : (y : ℕ) → IsMember y ms → y ≢ x → markAt (st .marks) j y ≡ 1
+    held-others y mem n =
+        ⊎-elim (λ w. one-mark (others x ms) (others-held (absent j) x ms (w .0) (w .1)) y (member-other x y ms mem n))
+        (λ w. one-mark ms (none-absent (absent j) ms (w .0)) y mem) (k .withheld)
+
+    not-taken : (p : ℕ) → p < q → NotTaken depth root table t m o j p
+    unfolding layerOf equationOf
+    not-taken p h =
+        let hp : p < 3 * kOf j = omega (arith, hq) in
+        ⊎-elim (λ w. inl (one-mark (equationOf tbl j p) (none-absent (absent j) (equationOf tbl j p) (w .0)), holds-so j p hj hp (w .1)))
+        (λ w.
+        let (y, z, my, mz, l, ay, az) = two-passing (absent j) (equationOf tbl j p) (ok .members j p hj hp .ascend) w in
+        inr (y, z, my, mz, l, zero-mark p hp y my ay, zero-mark p hp z mz az))
+        (k .lower p h)
+
+    took : Took depth root table t m o j q x
+    unfolding layerOf equationOf kOf
+    took = record { last = en; in-table = (hj, hq); member = is-member; others-held = held-others; lowest = not-taken }
+
+    failing : (count (absent j) ms ≡ 0) × (x ≡ lastOf ms 0) × (xorOf (symAt tree (st .tree) j) ms ≢ zeros) → LastOfFailing depth root table t m o j q x
+    unfolding kOf
+    failing w = (
+      one-mark ms (none-absent (absent j) ms (w .0)) x is-member,
+      w .1 ∙ ok .members j q hj hq .final,
+      λ h. w .2 (so-holds j q hj hq h),
+    )
+
+  -- ---- the ends
+
+  shallow : depth ≤ 5
+  shallow = depth-is depth (input .fit-depth) .1
+
+  ends-whole : st .end ≡ whole → WholeEnd tree symbolHash root tbl t m o st → EndsWhole depth root table t m o
+  unfolding kOf nOf
+  ends-whole q x =
+      record {
         is-end = q;
-        all-held = λ j i h k. held-marked (st .marks) j i (x .all-held j i (omega arith) k);
-        agrees = x .agrees;
+        last = x .last ∙ ok .depth;
+        all-held = λ j i hj hi. marked-1 (st .marks) j i (x .all-held j i (omega (arith, ok .depth)) hi);
+        agrees = rw (symbols-are (st .tree)) (agrees-with depth tbl ok root (symAt tree (st .tree)) (x .agrees));
         out-untouched = x .out-kept;
-      })
-  four (fault j q′ w n) q x =
-      inr (inl (record {
+      }
+
+  ends-fault : (j q w n : ℕ) → st .end ≡ fault j q w n → FaultEnd tree symbolHash root tbl o j q w n st → EndsFault depth root table t m o
+  unfolding kOf nOf
+  ends-fault j q w n z x =
+      let k = x .taken in
+      let (front, back, s) = member-apart w (equationOf tbl j q) (is-member j q w k (x .last)) in
+      record {
         layer = j;
-        equation = q′;
+        equation-no = q;
         withheld = w;
         size = n;
-        is-end = q;
-        accepted = fault-accepted depth root table t m o e j q′ w n q;
+        is-end = z;
+        took = took j q w k (x .last);
+        why = ⊎-elim
+            (λ a.
+            inl (zero-mark j q w k (x .last) q (hq j q w k (x .last)) w (is-member j q w k (x .last))
+            (rw (a .1) (firstOf-passes (absent j) (equationOf tbl j q) (omega (arith, a .0))))))
+            (λ a. inr (failing j q w k (x .last) a)) (k .withheld);
+        accepted = fault-accepted depth root table t m o e j q w n z;
+        proof = rw (x .proof, symbols-are (st .tree))
+            (fault-proofs .writes-layout depth tbl shallow (ok-rules depth tbl ok) (symAt tree (st .tree)) full j q w front back (hj j q w k (x .last)) (hq j q w k (x .last)) s);
         exact = x .sized;
         out-rest = x .out-rest;
-      }))
-  four (unavailable j) q x =
-      inr (inr (inl (record {
+      }
+
+  ends-unavailable : (j : ℕ) → st .end ≡ unavailable j → UnavailableEnd tree symbolHash root tbl t m o j st → EndsUnavailable depth root table t m o
+  unfolding kOf nOf Stopping layerOf equationOf
+  ends-unavailable j q x =
+      let lj : j < depth = omega (arith, in-depth, x .last) in
+      let a = so .always in
+      let gone : (i : ℕ) → i < allSymbols j → absent j i ≡ true → markAt (st .marks) j i ≡ 0 =
+      λ i hi h. mark-at (st .marks) j i ∙ a .cleared j i (omega (arith, x .last)) hi h .0 in
+      let lost : (i : ℕ) → markAt (st .marks) j i ≡ 0 → absent j i ≡ true = λ i z. is-absent (st .marks) j i (λ h. omega arith) in
+      let in-table : (p : ℕ) → p < 3 * dataSymbols j → p < length (layerOf tbl j) = λ p h. omega (arith, ok .equations j lj) in
+      let low : (p : ℕ) → p < 3 * dataSymbols j → (y : ℕ) → IsMember y (members tbl j p) → y < allSymbols j =
+      λ p hp y mem. ltb-true y (nOf j) (every-member-of (λ z. ltb z (nOf j)) (members tbl j p) (members-below depth tbl ok j p lj hp) y mem) in
+      record {
         layer = j;
         is-end = q;
-        incomplete = let (i, h, a) = x .missing in (i, h, so .always .cleared j i (omega (arith, x .last)) h a .0);
-        first = λ l i h k. held-marked (st .marks) l i (so .always .above l (omega (arith, x .last)) .full i k);
-        marked-0 = λ i h a. so .always .cleared j i (omega (arith, x .last)) h a .0;
-        within-gaps = x .largest .inside;
-        never-once = x .largest .stopping;
-        largest = x .largest .contains;
+        last = x .last;
+        incomplete = let (i, h, b) = x .missing in (i, h, gone i h b);
+        first = λ l i h hi. marked-1 (st .marks) l i (a .above l (omega (arith, x .last)) .full i hi);
+        within-gaps = λ i hi z. gap-is j i lj hi (x .largest .inside i hi (lost i z));
+        never-once = λ p says r hr c.
+            x .largest .stopping r (in-table r hr)
+            (sym (meets-count p (absent j) (members tbl j r)
+            (λ y mem. same-test (p y) (absent j y) (λ b. lost y (says y (low r hr y mem) .0 b)) (λ b. says y (low r hr y mem) .1 (gone y (low r hr y mem) b))))
+            ∙ c);
+        largest = λ s w n i hi b.
+            gone i hi
+            (x .largest .contains s (λ y hy c. is-gap j y lj hy (w y hy c))
+            (λ r hr c. n r (omega (arith, ok .equations j lj)) (meets-count s s (members tbl j r) (λ y mem. refl) ∙ c)) i hi b);
         out-untouched = x .out-kept;
-      })))
-  four (twins j n) q x =
-      inr (inr (inr (record {
+      }
+
+  ends-twins : (j n : ℕ) → st .end ≡ twins j n → TwinsEnd tree symbolHash root tbl o j n st → EndsTwins depth root table t m o
+  unfolding symbolIn bytesFrom symbolHash layerOf equationOf
+  ends-twins j n q x =
+      let k = x .taken in
+      let r : ℕ = x .equation in
+      let lj = hj j r n k (x .last) in
+      let lr = hq j r n k (x .last) in
+      let es : List ℕ = members tbl j r in
+      let w = ⊎-elim (λ a. absurd (omega (arith, a .0, x .complete))) (λ a. a) (k .withheld) in
+      let (front, s) = last-apart es 0 (omega (arith, ok .members j r lj lr .some)) in
+      let split : es ≡ front ++ (n ∷ []) = s ∙ ap (λ (z : ℕ). front ++ (z ∷ [])) (sym (w .1)) in
+      let once : count (isIt n) (front ++ (n ∷ [])) ≤ 1 = subst (λ (l : List ℕ). count (isIt n) l ≤ 1) split (ascending-once n es (ok .members j r lj lr .ascend)) in
+      let rest : others n es ≡ front = ap (others n) split ∙ others-apart n front [] once ∙ append-nil front in
+      let low : every (λ y. ltb y (nOf j)) front ≡ true =
+      subst (λ (l : List ℕ). every (λ y. ltb y (nOf j)) l ≡ true) rest (every-others (λ y. ltb y (nOf j)) n es (members-below depth tbl ok j r lj lr)) in
+      record {
         layer = j;
+        equation-no = r;
         number = n;
         is-end = q;
-        sized = x .sized;
-        differ = x .differ;
-        equal = x .hash-first ∙ sym (x .hash-second);
-        held = x .first-is;
-        is-committed = x .hash-first;
+        took = took j r n k (x .last);
+        why = failing j r n k (x .last) w;
+        shown = record { symbols = x .sized; differ = x .differ; equal = x .hash-first ∙ sym (x .hash-second) };
+        first-is = x .first-is ∙ sym (symbol-at (st .tree) j n);
+        front = front;
+        splits = split;
+        second-is = subst (λ (f : ℕ → ℕ → List ℕ). XorOf (λ i. f j (getD front i 0)) (length front) (symbolNo (st .out) 1)) (sym (symbols-are (st .tree)))
+            (subst (XorOf (λ i. symAt tree (st .tree) j (getD front i 0)) (length front)) (sym (x .second-is ∙ ap (xorOf (symAt tree (st .tree) j)) rest))
+            (xor-of (symAt tree (st .tree) j) front (λ i h. full j (getD front i 0) lj (every-below (nOf j) front low i h))));
+        is-committed = x .hash-first ∙ sym (committed-is j n);
         out-rest = x .out-rest;
-      })))
+      }
+
+  four : (z : End) → st .end ≡ z → EndOk tree symbolHash root tbl t m o st z
+      → EndsWhole depth root table t m o ⊎ (EndsFault depth root table t m o ⊎ (EndsUnavailable depth root table t m o ⊎ EndsTwins depth root table t m o))
+  four working q x = absurd x
+  four whole q x = inl (ends-whole q x)
+  four (fault j r w n) q x = inr (inl (ends-fault j r w n q x))
+  four (unavailable j) q x = inr (inr (inl (ends-unavailable j q x)))
+  four (twins j n) q x = inr (inr (inr (ends-twins j n q x)))
 
   repair-so : Repair depth root table t m o
-  repair-so = record { as-the-steps = as-steps; one-of-four = four (st .end) refl (so .ends); always = so .always }
+  repair-so = record { as-the-steps = as-steps; one-of-four = four (st .end) refl (so .ends); every-end = every-end }
 
 pub demand-3 : Demand3
 demand-3 =

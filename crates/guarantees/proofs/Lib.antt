@@ -2,8 +2,13 @@ pub mod Answers
 pub mod Layouts
 pub mod Tables
 pub mod Trees
+pub mod Membership
 pub mod Marks
 pub mod Refusals
+pub mod ProofPlaces
+pub mod ProofHeads
+pub mod ProofWritten
+pub mod FaultProofs
 pub mod Demand1
 pub mod Results
 pub mod Demand2

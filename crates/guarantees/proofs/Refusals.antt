@@ -62,9 +62,12 @@ use Rattle.guarantees.proofs.Tables.{first-wrong, wrong-first, formed-r
 pub depth-right : (d : ℕ) → depthFits d ≡ true → DepthRight d
 depth-right d f = depth-is d f
 
-pub depth-wrong : (d : ℕ) → depthFits d ≡ false → DepthRight d → ⊥
+pub depth-fits : (d : ℕ) → DepthRight d → depthFits d ≡ true
 unfolding depthFits
-depth-wrong d f r = true≢false (sym (yes-and (le-leb 1 d (r .0)) (le-leb d 5 (r .1))) ∙ f)
+depth-fits d r = yes-and (le-leb 1 d (r .0)) (le-leb d 5 (r .1))
+
+pub depth-wrong : (d : ℕ) → depthFits d ≡ false → DepthRight d → ⊥
+depth-wrong d f r = true≢false (sym (depth-fits d r) ∙ f)
 
 -- the answer to a depth that fits, and to one that doesn't
 module _ {A : Type 0} (d : ℕ) (numbered valued : A → ℕ) where
@@ -167,7 +170,7 @@ sized d t m h =
       mark-bytes = rw (tree-symbols d) (eqb-true (length m) (places tree d) q);
     }
 
-size-tests : (d : ℕ) (t m : List ℕ) → TreeLengths d t m → sizes d t m ≡ true
+pub size-tests : (d : ℕ) (t m : List ℕ) → TreeLengths d t m → sizes d t m ≡ true
 size-tests d t m k =
     yes-and (eq-eqb (length t) (256 * places tree d) (k .tree-bytes ∙ ap (λ (n : ℕ). 256 * n) (tree-symbols d)))
     (eq-eqb (length m) (places tree d) (k .mark-bytes ∙ tree-symbols d))
@@ -201,13 +204,13 @@ module _ (d : ℕ) (m : List ℕ) (full : length m ≡ treeSymbols d) where
 
 -- a symbol is absent just when its mark is 0, all marks being 0 or 1
 module _ (m : List ℕ) (j i : ℕ) (low : getD m (place tree j i) 0 ≤ 1) where
-  absent-said : absentAt tree m j i ≡ true → getD m (place tree j i) 0 ≡ 0
+  pub absent-said : absentAt tree m j i ≡ true → getD m (place tree j i) 0 ≡ 0
   unfolding absentAt
   absent-said h =
       let k = eqb-false (getD m (place tree j i) 0) 1 (not-yes (eqb (getD m (place tree j i) 0) 1) h) in
       elim (decLt 0 (getD m (place tree j i) 0)) [ yes q ↦ absurd (k (omega arith)) | no q ↦ omega arith ]
 
-  absent-seen : getD m (place tree j i) 0 ≡ 0 → absentAt tree m j i ≡ true
+  pub absent-seen : getD m (place tree j i) 0 ≡ 0 → absentAt tree m j i ≡ true
   unfolding absentAt
   absent-seen e = ap not (ne-eqb (getD m (place tree j i) 0) 1 (λ q. omega arith))
 
@@ -367,7 +370,7 @@ module _ (d i : ℕ) (t m s : List ℕ) where
       (λ v. Stopped (Absent v)) Done (λ v. refl) (λ v. refl) (λ q. all-done))))))
 
 module _ (d i : ℕ) (root s : List ℕ) where
-  leads-so : SampleLeads tree symbolHash root d i s → AllHashesLead d i root s
+  pub leads-so : SampleLeads tree symbolHash root d i s → AllHashesLead d i root s
   unfolding sampleHas sampleData sampleParity symbolIn bytesFrom dataNo parityNo symbolHash kOf
   leads-so k =
       record {
@@ -376,7 +379,7 @@ module _ (d i : ℕ) (root s : List ℕ) where
         parity-symbol = λ j h. k .parity-symbol j h ∙ sym (hash-for root (dataOfSample d i root s) j (dataSymbols j + i % (3 * dataSymbols j)));
       }
 
-  so-leads : AllHashesLead d i root s → SampleLeads tree symbolHash root d i s
+  pub so-leads : AllHashesLead d i root s → SampleLeads tree symbolHash root d i s
   unfolding sampleHas sampleData sampleParity symbolIn bytesFrom dataNo parityNo symbolHash kOf
   so-leads k =
       record {

@@ -39,8 +39,11 @@ use Rattle.cedunmi.specs.Repairs.{repairOf, repaired, resultBy, ended, leftBy}
 use Rattle.cedunmi.proofs.WriteLaws.{write-read}
 use Rattle.cedunmi.proofs.RepairLaws.{tested-done}
 use Rattle.guarantees.specs.Terms.{equationsOf}
+use Rattle.guarantees.specs.Trees.{AgreesWith}
 use Rattle.guarantees.specs.Demand2.{Exactly}
 use Rattle.guarantees.specs.Cases.{block, houseBytes, coded, codedRoot, marksBut, treeBut, tested, steps, entered, turn, Gives, Turns, Leaves}
+use Rattle.guarantees.proofs.Tables.{rules-ok}
+use Rattle.guarantees.proofs.Trees.{symbols-are, with-agrees}
 use Rattle.guarantees.proofs.Demand2.{demand-2}
 
 -- ---- the coded tree
@@ -92,7 +95,11 @@ coded-is =
 -- the coded tree agrees with its root
 coded-agrees : Agrees tree symbolHash (houseTable 1) codedRoot (symAt tree coded)
 unfolding coded codedRoot
-coded-agrees = subst (λ (tbl : List (List (List ℕ))). Agrees tree symbolHash tbl codedRoot (symAt tree coded)) said (exact .agrees)
+coded-agrees =
+    let tbl : List (List (List ℕ)) = equationsOf houseBytes in
+    subst (λ (l : List (List (List ℕ))). Agrees tree symbolHash l codedRoot (symAt tree coded)) said
+    (with-agrees 1 tbl (rules-ok 1 tbl (exact .by-rules)) codedRoot (symAt tree coded)
+    (subst (AgreesWith 1 tbl codedRoot) (symbols-are coded) (exact .agrees)))
 
 -- ---- the repair of layer 0, with any test of a symbol of a number
 
@@ -279,8 +286,8 @@ module _ (absent : List ℕ) (o : List ℕ) (room : length o ≡ 12 + 256 * (8 *
   tested-so : tested absent o ≡ Done
   unfolding tested coded codedRoot depthFits places kOf nOf
   tested-so =
-      sym (tested-done 1 codedRoot houseBytes coded (marksBut absent) o refl (exact .root-length)
-      (yes-and (eq-eqb _ _ (exact .tree-length)) (eq-eqb _ _ (marks-length absent))) room Whole (sym accepted) refl
+      sym (tested-done 1 codedRoot houseBytes coded (marksBut absent) o refl (exact .agrees .root-of .full)
+      (yes-and (eq-eqb _ _ (exact .lengths .tree-bytes)) (eq-eqb _ _ (marks-length absent))) room Whole (sym accepted) refl
       (omega (arith, marks, marks-length absent)))
 
   module _ (missing us : List ℕ) (n : ℕ) (z : End) (comes : repairBy fitsRoot (start listed (marksBut absent) o) ≡ at missing us n z o) where

@@ -12,13 +12,13 @@ use Rattle.symbol_hash.specs.SymbolHash.{symbolHash}
 use Rattle.symbol_hash.proofs.Laws.{length-symbolHash}
 use Rattle.model.specs.Shape.{tree}
 use Rattle.model.specs.Symbols.{symbolIn, xorOf, zeros, slot, committed, symAt}
-use Rattle.model.specs.Coded.{rootOf, Coded, Agrees}
+use Rattle.model.specs.Coded.{Collide, rootOf, Coded, Agrees}
 use Rattle.model.specs.Writer.{BaseOf}
 use Rattle.model.proofs.Members.{every-below}
 use Rattle.model.proofs.Binding.{root-slot, root-length, root-is}
 use Rattle.model.proofs.Shapes.{tree-root}
 use Rattle.guarantees.specs.Layouts.{bytesFrom, symbolNo, symbolAt, XorOf}
-use Rattle.guarantees.specs.Trees.{members, EquationHolds, CorrectlyCoded, RootOf, AgreesWith, HasBlock}
+use Rattle.guarantees.specs.Trees.{members, EquationHolds, CorrectlyCoded, RootOf, AgreesWith, HasBlock, Twins}
 use Rattle.guarantees.proofs.Layouts.{symbol-at, hash-for, xor-one, xor-of}
 
 -- the tree buffer's symbols
@@ -30,7 +30,7 @@ module _ (d : ℕ) (tbl : List (List (List ℕ))) (ok : TableOk d tbl) (f : ℕ 
   below : (j e : ℕ) → j < d → e < 3 * kOf j → (q : ℕ) → q < length (equationOf tbl j e) → getD (equationOf tbl j e) q 0 < nOf j
   below j e hj he = every-below (nOf j) (equationOf tbl j e) (members-below d tbl ok j e hj he)
 
-  coded-right : Coded tree symbolHash tbl f → CorrectlyCoded d tbl f
+  pub coded-right : Coded tree symbolHash tbl f → CorrectlyCoded d tbl f
   unfolding kOf nOf layerOf equationOf zeros symbolHash committed
   coded-right c =
       record {
@@ -42,7 +42,7 @@ module _ (d : ℕ) (tbl : List (List (List ℕ))) (ok : TableOk d tbl) (f : ℕ 
         hashes-stand = λ j i hj hi. hash-for [] f (suc j) i ∙ c .stands j i (omega (arith, ok .depth), hi);
       }
 
-  right-coded : CorrectlyCoded d tbl f → Coded tree symbolHash tbl f
+  pub right-coded : CorrectlyCoded d tbl f → Coded tree symbolHash tbl f
   unfolding kOf nOf layerOf equationOf zeros symbolHash committed
   right-coded c =
       record {
@@ -56,7 +56,7 @@ module _ (d : ℕ) (tbl : List (List (List ℕ))) (ok : TableOk d tbl) (f : ℕ 
       }
 
 -- the root of the symbols f
-root-right : (f : ℕ → ℕ → List ℕ) (root : List ℕ) → root ≡ rootOf tree symbolHash f → RootOf f root
+pub root-right : (f : ℕ → ℕ → List ℕ) (root : List ℕ) → root ≡ rootOf tree symbolHash f → RootOf f root
 unfolding slot bytesFrom symbolHash kOf nOf
 root-right f root e =
     record {
@@ -64,6 +64,27 @@ root-right f root e =
       hashes = λ i h. ap (λ (r : List ℕ). bytesFrom r (32 * i) 32) e ∙ root-slot tree symbolHash length-symbolHash f i h;
     }
 
-right-root : (f : ℕ → ℕ → List ℕ) (root : List ℕ) → RootOf f root → root ≡ rootOf tree symbolHash f
+pub right-root : (f : ℕ → ℕ → List ℕ) (root : List ℕ) → RootOf f root → root ≡ rootOf tree symbolHash f
 unfolding slot bytesFrom symbolHash kOf nOf
 right-root f root r = root-is tree symbolHash length-symbolHash root (r .full) f (λ i h. r .hashes i h)
+
+module _ (d : ℕ) (tbl : List (List (List ℕ))) (ok : TableOk d tbl) (root : List ℕ) (f : ℕ → ℕ → List ℕ) where
+  pub agrees-with : Agrees tree symbolHash tbl root f → AgreesWith d tbl root f
+  agrees-with a = record { correctly-coded = coded-right d tbl ok f (a .coded); root-of = root-right f root (a .rooted) }
+
+  pub with-agrees : AgreesWith d tbl root f → Agrees tree symbolHash tbl root f
+  with-agrees a = record { coded = right-coded d tbl ok f (a .correctly-coded); rooted = right-root f root (a .root-of) }
+
+-- a block's data symbols
+pub block-base : (d : ℕ) (f : ℕ → ℕ → List ℕ) (block : List ℕ) → HasBlock d f block → BaseOf tree d f block
+unfolding kOf symbolIn bytesFrom
+block-base d f block h = h
+
+pub base-block : (d : ℕ) (f : ℕ → ℕ → List ℕ) (block : List ℕ) → BaseOf tree d f block → HasBlock d f block
+unfolding kOf symbolIn bytesFrom
+base-block d f block h = h
+
+-- a collision of two symbols
+pub twins-of : (j i : ℕ) (s u : List ℕ) → length s ≡ 256 → length u ≡ 256 → Collide symbolHash j i s u → Twins s u
+unfolding symbolHash
+twins-of j i s u p q c = record { symbols = (p, q); differ = c .differ; equal = c .equal }

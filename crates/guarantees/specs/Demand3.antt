@@ -1,38 +1,59 @@
--- Demand 3. Statements only. The definitions are those of crate `model` over `symbolHash`, which is SHA-256 of a symbol; the table is what the
--- reader says of its bytes.
+-- Demand 3. Statements only. The tree is 01's (Trees.antt), with `sha256`; the equations are those that the table's words say.
 use mathlib.Core.Path.{_≡_}
 use mathlib.Core.Logic.{_⊎_, _↔_, _≢_}
 use mathlib.Core.Bool.{Bool, true}
-use mathlib.Core.List.{List}
-use Prim.Native.Nat.{ℕ, _+_, _-_, _*_, _≤_, _<_}
-use lib.ListN.{length, getD, take, drop}
+use mathlib.Core.List.{List, [], _∷_, _++_}
+use Prim.Native.Nat.{ℕ, zero, suc, _+_, _-_, _*_, _≤_, _<_}
+use lib.ListN.{length, getD, take, drop, replicate}
+use Rattle.octets.specs.Choice.{pick}
 use Rattle.sha256.specs.Hash.{sha256}
-use Rattle.parity_table.specs.Shape.{depthFits, nOf}
+use Rattle.parity_table.specs.Shape.{depthFits}
 use Rattle.parity_table.specs.Bytes.{readBytesOf}
 use Rattle.parity_table.specs.declared.Answer.the-variants.{Whole}
-use Rattle.parity_table.specs.Table.{layerOf, equationOf}
-use Rattle.symbol_hash.specs.SymbolHash.{symbolHash}
-use Rattle.model.specs.Shape.{tree, place, places}
-use Rattle.model.specs.Symbols.{count, symbolIn, symAt, committed}
-use Rattle.model.specs.Coded.{Agrees}
-use Rattle.model.specs.Repair.{whole, fault, unavailable, twins, St, absentAt}
-use Rattle.model.specs.Ends.{Within, gapAt, Always}
+use Rattle.model.specs.Shape.{tree, places}
+use Rattle.model.specs.Repair.{whole, fault, unavailable, twins, St}
 use Rattle.cedunmi.specs.declared.Answer.the-variants.{Done}
 use Rattle.cedunmi.specs.Proof.{proofChecked}
-use Rattle.cedunmi.specs.Sound.{Colliding}
 use Rattle.cedunmi.specs.Repairs.{repairTested, repairOf, repaired, ended, leftBy}
+use Rattle.guarantees.specs.Layouts.{symbolNo, dataSymbols, allSymbols, treeSymbols, symbolAt, markAt, hashFor, XorOf}
+use Rattle.guarantees.specs.Tables.{IsMember}
+use Rattle.guarantees.specs.Trees.{members, EquationHolds, AgreesWith, Twins}
+use Rattle.guarantees.specs.Refusals.{TreeLengths}
+use Rattle.guarantees.specs.FaultProofs.{Named, Holds, Written}
 use Rattle.guarantees.specs.Terms.{equationsOf}
 
 -- ---- "For every root and table, every correctly coded tree that agrees with them, and whatever bytes anyone sends as a fault proof, the
 -- checker accepts the bytes for that root and table only when proof and tree hold, at one layer and number, two different symbols of equal
 -- SHA-256."
 
+pub record ProofCollides (depth : ℕ) (table b : List ℕ) (f : ℕ → ℕ → List ℕ) : Type 0 where
+  pub named : Named depth (equationsOf table) b
+  pub layer : ℕ
+  pub number : ℕ
+  pub held : List ℕ
+  pub holds : Holds named layer number held
+  pub in-tree : (layer < depth) × (number < allSymbols layer)
+  pub collide : Twins held (f layer number)
+
 abbrev pub Checker : Type 0
 Checker =
-    (depth : ℕ) (root table : List ℕ) (f : ℕ → ℕ → List ℕ) → Agrees tree symbolHash (equationsOf table) root f
-    → (b : List ℕ) → proofChecked depth root table b ≡ Done → Colliding (equationsOf table) b f
+    (depth : ℕ) (root table : List ℕ) (f : ℕ → ℕ → List ℕ) → AgreesWith depth (equationsOf table) root f
+    → (b : List ℕ) → proofChecked depth root table b ≡ Done → ProofCollides depth table b f
 
 -- ---- "And whatever symbols and marks the shops send back, right, wrong or none, every repair of well-formed input .."
+
+-- how many of the n numbers from 0 on pass, of the members pass, and of the symbols of the d topmost layers
+unfoldable pub howMany : (ℕ → Bool) → ℕ → ℕ
+howMany p zero = 0
+howMany p (suc n) = pick (p n) 1 0 + howMany p n
+
+unfoldable pub meets : (ℕ → Bool) → List ℕ → ℕ
+meets p [] = 0
+meets p (x ∷ xs) = pick (p x) 1 0 + meets p xs
+
+unfoldable pub inLayers : (ℕ → ℕ → Bool) → ℕ → ℕ
+inLayers p zero = 0
+inLayers p (suc l) = howMany (p l) (allSymbols l) + inLayers p l
 
 module _ (depth : ℕ) (root table t m o : List ℕ) where
   -- what 01's steps of repair make of the tree t, the marks m and the output o
@@ -46,67 +67,133 @@ module _ (depth : ℕ) (root table t m o : List ℕ) where
     pub marks-left : leftBy (repairTested depth root table t m o) (steps .marks) m ≡ steps .marks
     pub out-left : leftBy (repairTested depth root table t m o) (steps .out) o ≡ steps .out
 
-  -- symbol i of layer j is missing: its place has another mark than 1
-  abbrev pub missing : ℕ → ℕ → Bool
-  missing = absentAt tree (steps .marks)
+  -- symbol i of layer j, and its mark, as the call leaves them, and the members of equation e
+  abbrev pub symbol : ℕ → ℕ → List ℕ
+  symbol = symbolAt (steps .tree)
 
-  -- ".. and ends in one of these four ways: with every symbol marked held in a correctly coded tree that agrees with that root and table; .."
+  abbrev pub mark : ℕ → ℕ → ℕ
+  mark = markAt (steps .marks)
+
+  abbrev pub equation : ℕ → ℕ → List ℕ
+  equation = members (equationsOf table)
+
+  -- "The committed hash of a symbol is the one that the root, or the layer above as the call leaves it, has for it."
+  abbrev pub committed : ℕ → ℕ → List ℕ
+  committed = hashFor root symbol
+
+  -- "The gaps of an entered layer are the places lent with mark 0 or with a symbol of another hash than the committed one"
+  abbrev pub Gap : ℕ → ℕ → Type 0
+  Gap j i = (markAt m j i ≡ 0) ⊎ (sha256 (symbolAt t j i) ≢ committed j i)
+
+  -- ---- 01, "Repair", of every end; `steps .entered` layers were entered
+
+  pub record EveryEnd : Type 0 where
+    pub in-depth : steps .entered ≤ depth
+    pub lengths : TreeLengths depth (steps .tree) (steps .marks)
+    -- "Layers below the last one entered are not touched."
+    pub tree-below : drop (256 * treeSymbols (steps .entered)) (steps .tree) ≡ drop (256 * treeSymbols (steps .entered)) t
+    pub marks-below : drop (treeSymbols (steps .entered)) (steps .marks) ≡ drop (treeSymbols (steps .entered)) m
+    -- every mark is 0 or 1; "absent places are zeroed"
+    pub zeroed : (j i : ℕ) → j < steps .entered → i < allSymbols j → mark j i ≢ 1 → (mark j i ≡ 0) × (symbol j i ≡ replicate 256 0)
+    -- what is no gap is held and stays
+    pub kept : (j i : ℕ) → j < steps .entered → i < allSymbols j → (Gap j i → ⊥) → (mark j i ≡ 1) × (symbol j i ≡ symbolAt t j i)
+    -- "each symbol then marked held in an entered layer has the committed hash"
+    pub held : (j i : ℕ) → j < steps .entered → i < allSymbols j → mark j i ≡ 1 → sha256 (symbol j i) ≡ committed j i
+    -- "every layer above the last one entered is complete, all its equations holding"
+    pub above-complete : (j i : ℕ) → suc j < steps .entered → i < allSymbols j → mark j i ≡ 1
+    pub above-holds : (j e : ℕ) → suc j < steps .entered → e < 3 * dataSymbols j → EquationHolds (symbol j) (equation j e)
+    -- the number stored "equals the gaps of entered layers now marked 1", by whichever test tells these
+    pub counted : (p : ℕ → ℕ → Bool)
+        → ((j i : ℕ) → j < steps .entered → i < allSymbols j → (p j i ≡ true) ↔ (Gap j i × (mark j i ≡ 1)))
+        → steps .stored ≡ inLayers p (steps .entered)
+
+  -- ---- ".. and ends in one of these four ways: with every symbol marked held in a correctly coded tree that agrees with that root and table; .."
+
   pub record EndsWhole : Type 0 where
     pub is-end : steps .end ≡ whole
-    pub all-held : (j i : ℕ) → j < depth → i < nOf j → getD (steps .marks) (place tree j i) 0 ≡ 1
-    pub agrees : Agrees tree symbolHash (equationsOf table) root (symAt tree (steps .tree))
+    pub last : steps .entered ≡ depth
+    pub all-held : (j i : ℕ) → j < depth → i < allSymbols j → mark j i ≡ 1
+    pub agrees : AgreesWith depth (equationsOf table) root symbol
     pub out-untouched : steps .out ≡ o
 
-  -- ".. with a fault proof that the checker accepts for them; .."
-  -- The proof is the first `size` bytes of the output; the rest of it is untouched.
+  -- 01 (b), "Take the lowest unused equation with at most one absent member": at layer j equation e was taken, x being the member that is withheld
+
+  -- a lower equation was used, so that it is complete and holds, or has two absent members
+  abbrev pub NotTaken : ℕ → ℕ → Type 0
+  NotTaken j q =
+      (((x : ℕ) → IsMember x (equation j q) → mark j x ≡ 1) × EquationHolds (symbol j) (equation j q))
+      ⊎ ((x : ℕ) × (y : ℕ) × IsMember x (equation j q) × IsMember y (equation j q) × (x < y) × (mark j x ≡ 0) × (mark j y ≡ 0))
+
+  pub record Took (j e x : ℕ) : Type 0 where
+    pub last : steps .entered ≡ suc j
+    pub in-table : (j < depth) × (e < 3 * dataSymbols j)
+    pub member : IsMember x (equation j e)
+    pub others-held : (y : ℕ) → IsMember y (equation j e) → y ≢ x → mark j y ≡ 1
+    pub lowest : (q : ℕ) → q < e → NotTaken j q
+
+  -- "One absent: form it from the others; [..] None absent and the equation fails: withhold the last member"
+  abbrev pub LastOfFailing : ℕ → ℕ → ℕ → Type 0
+  LastOfFailing j e x = (mark j x ≡ 1) × (x ≡ dataSymbols j + e) × (EquationHolds (symbol j) (equation j e) → ⊥)
+
+  -- ---- ".. with a fault proof that the checker accepts for them; .."
+
+  -- The proof is the first `size` bytes of the output, of these symbols; the rest of it is untouched.
   pub record EndsFault : Type 0 where
     pub layer : ℕ
-    pub equation : ℕ
+    pub equation-no : ℕ
     pub withheld : ℕ
     pub size : ℕ
-    pub is-end : steps .end ≡ fault layer equation withheld size
+    pub is-end : steps .end ≡ fault layer equation-no withheld size
+    pub took : Took layer equation-no withheld
+    pub why : (mark layer withheld ≡ 0) ⊎ LastOfFailing layer equation-no withheld
     pub accepted : proofChecked depth root table (take size (steps .out)) ≡ Done
+    pub proof : Written depth (equationsOf table) symbol layer equation-no withheld (take size (steps .out))
     pub exact : length (take size (steps .out)) ≡ size
     pub out-rest : drop size (steps .out) ≡ drop size o
 
-  -- ".. with the missing symbols of the first incomplete layer, which are the largest set within its gaps that no equation meets exactly once,
+  -- ---- ".. with the missing symbols of the first incomplete layer, which are the largest set within its gaps that no equation meets exactly once,
   -- so that every other such set lies inside it; .."
+
   pub record EndsUnavailable : Type 0 where
     pub layer : ℕ
     pub is-end : steps .end ≡ unavailable layer
+    pub last : steps .entered ≡ suc layer
     -- the topmost with a mark 0
-    pub incomplete : (i : ℕ) × (i < nOf layer) × (getD (steps .marks) (place tree layer i) 0 ≡ 0)
-    pub first : (j i : ℕ) → j < layer → i < nOf j → getD (steps .marks) (place tree j i) 0 ≡ 1
-    pub marked-0 : (i : ℕ) → i < nOf layer → missing layer i ≡ true → getD (steps .marks) (place tree layer i) 0 ≡ 0
-    -- the missing symbols are a set within the layer's gaps that no equation meets exactly once
-    pub within-gaps : Within (nOf layer) (missing layer) (gapAt tree symbolHash root t m (steps .tree) layer)
-    pub never-once : (e : ℕ) → e < length (layerOf (equationsOf table) layer) → count (missing layer) (equationOf (equationsOf table) layer e) ≢ 1
+    pub incomplete : (i : ℕ) × (i < allSymbols layer) × (mark layer i ≡ 0)
+    pub first : (j i : ℕ) → j < layer → i < allSymbols j → mark j i ≡ 1
+    -- the missing symbols are a set within the layer's gaps that no equation meets exactly once, by whichever test tells them
+    pub within-gaps : (i : ℕ) → i < allSymbols layer → mark layer i ≡ 0 → Gap layer i
+    pub never-once : (p : ℕ → Bool) → ((i : ℕ) → i < allSymbols layer → (p i ≡ true) ↔ (mark layer i ≡ 0))
+        → (e : ℕ) → e < 3 * dataSymbols layer → meets p (equation layer e) ≢ 1
     -- and every other such set lies inside them
-    pub largest : (s : ℕ → Bool) → Within (nOf layer) s (gapAt tree symbolHash root t m (steps .tree) layer)
-        → ((e : ℕ) → e < length (layerOf (equationsOf table) layer) → count s (equationOf (equationsOf table) layer e) ≢ 1)
-        → Within (nOf layer) s (missing layer)
+    pub largest : (s : ℕ → Bool) → ((i : ℕ) → i < allSymbols layer → s i ≡ true → Gap layer i)
+        → ((e : ℕ) → e < 3 * dataSymbols layer → meets s (equation layer e) ≢ 1)
+        → (i : ℕ) → i < allSymbols layer → s i ≡ true → mark layer i ≡ 0
     pub out-untouched : steps .out ≡ o
 
-  -- ".. or with two different symbols of equal SHA-256, shown."
-  -- They are the first two symbols of the output, the one that is held and the exclusive-or of the others; the rest of it is untouched.
+  -- ---- ".. or with two different symbols of equal SHA-256, shown."
+
+  -- They are the first two symbols of the output: the last member of an equation, and the exclusive-or of the others; the rest of it is untouched.
   pub record EndsTwins : Type 0 where
     pub layer : ℕ
+    pub equation-no : ℕ
     pub number : ℕ
     pub is-end : steps .end ≡ twins layer number
-    pub sized : (length (symbolIn (steps .out) 0) ≡ 256) × (length (symbolIn (steps .out) 1) ≡ 256)
-    pub differ : symbolIn (steps .out) 0 ≢ symbolIn (steps .out) 1
-    pub equal : sha256 (symbolIn (steps .out) 0) ≡ sha256 (symbolIn (steps .out) 1)
-    pub held : symbolIn (steps .out) 0 ≡ symAt tree (steps .tree) layer number
-    pub is-committed : sha256 (symbolIn (steps .out) 0) ≡ committed tree root (symAt tree (steps .tree)) layer number
+    pub took : Took layer equation-no number
+    pub why : LastOfFailing layer equation-no number
+    pub shown : Twins (symbolNo (steps .out) 0) (symbolNo (steps .out) 1)
+    pub first-is : symbolNo (steps .out) 0 ≡ symbol layer number
+    pub front : List ℕ
+    pub splits : equation layer equation-no ≡ front ++ (number ∷ [])
+    pub second-is : XorOf (λ q. symbol layer (getD front q 0)) (length front) (symbolNo (steps .out) 1)
+    pub is-committed : sha256 (symbolNo (steps .out) 0) ≡ committed layer number
     pub out-rest : drop 512 (steps .out) ≡ drop 512 o
 
   -- the sentence, of a repair whose input no numbered test turns away
   pub record Repair : Type 0 where
     pub as-the-steps : AsTheSteps
     pub one-of-four : EndsWhole ⊎ (EndsFault ⊎ (EndsUnavailable ⊎ EndsTwins))
-    -- 01, "Repair", of every end: the stored count "equals the gaps of entered layers now marked 1", "Layers below the last one entered are not
-    -- touched", "each symbol then marked held in an entered layer has the committed hash", "every layer above the last one entered is complete"
-    pub always : Always tree symbolHash root (equationsOf table) t m (steps .tree) (steps .marks) (steps .stored) (steps .entered)
+    pub every-end : EveryEnd
 
 -- "Input to a repair is well-formed when no numbered test turns it away": depth, lengths and table are right, and every mark is 0 or 1
 pub record RepairInput (depth : ℕ) (root table t m o : List ℕ) : Type 0 where

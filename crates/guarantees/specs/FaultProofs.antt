@@ -5,7 +5,7 @@ use mathlib.Core.List.{List, _∷_, _++_}
 use Prim.Native.Nat.{ℕ, suc, _+_, _-_, _*_, _%_, _≤_, _<_}
 use lib.ListN.{length, getD}
 use Rattle.sha256.specs.Hash.{sha256}
-use Rattle.parity_table.specs.Table.{equationOf, TableOk, WellFormed, FirstWrong}
+use Rattle.parity_table.specs.Table.{equationOf}
 use Rattle.parity_table.specs.Bytes.{wordsOf}
 use Rattle.model.specs.Shape.{tree}
 use Rattle.model.specs.Fault.{proofBytes, ProofHolds}
@@ -13,6 +13,7 @@ use Rattle.cedunmi.specs.declared.Answer.the-variants.{Done}
 use Rattle.cedunmi.specs.Stops.{numberOf, valueOf}
 use Rattle.cedunmi.specs.Proof.{proofChecked}
 use Rattle.guarantees.specs.Layouts.{bytesFrom, dataSymbols, allSymbols, hashFor, XorOf, upFrom, wordNo, kindValue}
+use Rattle.guarantees.specs.Tables.{TableRules, TableRight, FirstWrongWord}
 use Rattle.guarantees.specs.Answers.{Answered, done, test, unless, JustWhen}
 use Rattle.guarantees.specs.Terms.{equationsOf}
 
@@ -96,7 +97,7 @@ pub record ProofLengths (root table b : List ℕ) : Type 0 where
 pub record ProofRight (depth : ℕ) (root table b : List ℕ) : Type 0 where
   pub depth-right : (1 ≤ depth) × (depth ≤ 5)
   pub lengths-right : ProofLengths root table b
-  pub table-right : WellFormed depth (wordsOf table)
+  pub table-right : TableRight depth (wordsOf table)
   pub named : Named depth (equationsOf table) b
   pub exact : Exact named
   pub all-lead : AllLead root named
@@ -110,7 +111,7 @@ abbrev pub proofTests : ℕ → List ℕ → List ℕ → List ℕ → Answered
 proofTests depth root table b =
     test 1 (unless ((1 ≤ depth) × (depth ≤ 5)))
     (test 2 (unless (ProofLengths root table b))
-    (test 3 (FirstWrong depth (wordsOf table))
+    (test 3 (FirstWrongWord depth (wordsOf table))
     (test 6 (unless (Named depth (equationsOf table) b))
     (test 2 (unless ((h : Named depth (equationsOf table) b) × Exact h))
     (test 7 (unless ((h : Named depth (equationsOf table) b) × AllLead root h))
@@ -149,16 +150,17 @@ module _ {depth : ℕ} {tbl : List (List (List ℕ))} {b : List ℕ} (h : Named 
     pub path-symbols : (u : ℕ) → 1 ≤ u → u ≤ h .layer
         → withheldSymbol b (h .layer) (length (given h)) u ≡ f (h .layer - u) (upFrom (h .layer) (h .withheld) u)
 
--- what demand 3 says that a proof holds is this, of every proof whose head names an equation and a member of the table
+-- What demand 3 says that a proof holds is this, of every proof whose head names an equation and a member of the table. The depth is one that a call
+-- takes: a layer's number has to fit a word's value.
 abbrev pub HoldsExactly : Type 0
 HoldsExactly =
-    (depth : ℕ) (tbl : List (List (List ℕ))) (b : List ℕ) → TableOk depth tbl → (h : Named depth tbl b)
+    (depth : ℕ) (tbl : List (List (List ℕ))) (b : List ℕ) → depth ≤ 5 → TableRules depth tbl → (h : Named depth tbl b)
     → (l m : ℕ) (s : List ℕ) → ProofHolds tree tbl b l m s ↔ Holds h l m s
 
 -- so a proof that has the symbols f holds just these, and only where a given member or a path is
 abbrev pub HoldsItsSymbols : Type 0
 HoldsItsSymbols =
-    (depth : ℕ) (tbl : List (List (List ℕ))) (b : List ℕ) → TableOk depth tbl → (h : Named depth tbl b)
+    (depth : ℕ) (tbl : List (List (List ℕ))) (b : List ℕ) → depth ≤ 5 → TableRules depth tbl → (h : Named depth tbl b)
     → (f : ℕ → ℕ → List ℕ) → Layout h f → (l m : ℕ) (s : List ℕ) → ProofHolds tree tbl b l m s ↔ (OnPath h l m × (s ≡ f l m))
 
 -- a proof that is written for the symbols f has them in their places, under a head that names its equation and its withheld member
@@ -171,7 +173,7 @@ pub record Written (depth : ℕ) (tbl : List (List (List ℕ))) (f : ℕ → ℕ
 
 abbrev pub WritesLayout : Type 0
 WritesLayout =
-    (depth : ℕ) (tbl : List (List (List ℕ))) → depth ≤ 5 → TableOk depth tbl
+    (depth : ℕ) (tbl : List (List (List ℕ))) → depth ≤ 5 → TableRules depth tbl
     → (f : ℕ → ℕ → List ℕ) → ((l m : ℕ) → l < depth → m < allSymbols l → length (f l m) ≡ 256)
     → (j e x : ℕ) (front back : List ℕ) → j < depth → e < 3 * dataSymbols j → equationOf tbl j e ≡ front ++ (x ∷ back)
     → Written depth tbl f j e x (proofBytes tree f j e x (equationOf tbl j e))

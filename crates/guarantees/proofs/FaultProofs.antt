@@ -1,0 +1,326 @@
+-- Fault proofs by their bytes: what the checker answers, what a proof holds, and what is written.
+use mathlib.Core.Path.{_≡_, refl, sym, ap, ap₂, _∙_, subst}
+use mathlib.Core.Logic.{_⊎_, inl, inr, ⊎-elim}
+use mathlib.Core.Bool.{true, false, not, _&&_}
+use mathlib.Core.List.{List, []}
+use Prim.Native.Nat.{ℕ, suc, _+_, _*_, _%_, _≤_}
+use native.Mathlib.Omega.{arith}
+use lib.ListN.{length, getD, drop}
+use lib.Dec.{leb, eqb}
+use borrow.Author.Tests.{eqb-true, leb-true, eq-eqb, le-leb}
+use Rattle.octets.specs.Choice.{pick}
+use Rattle.octets.specs.ByteLists.{same}
+use Rattle.octets.proofs.Choice.{by-test, pick-no, pick-ind, and-yes, yes-and, both, not-yes, not-no}
+use Rattle.sha256.specs.Hash.{sha256}
+use Rattle.parity_table.specs.Shape.{maxDepth, depthFits}
+use Rattle.parity_table.specs.Table.{TableOk, WellFormed}
+use Rattle.parity_table.specs.Bytes.{wordsOf, lengthFits, readBytesOf}
+use Rattle.parity_table.specs.Reader.{readOf}
+use Rattle.parity_table.specs.Right.{Right}
+use Rattle.parity_table.specs.declared.Answer.{Answer as Read}
+use Rattle.parity_table.specs.declared.Answer.the-variants as read
+use Rattle.parity_table.proofs.Accepts.{depth-is, read-right, formed-accepted}
+use Rattle.parity_table.proofs.Parse.{formed-rules}
+use Rattle.parity_table.proofs.ByteForm.{bytes-length, bytes-words}
+use Rattle.symbol_hash.specs.SymbolHash.{symbolHash}
+use Rattle.model.specs.Shape.{tree}
+use Rattle.model.specs.Climb.{Climb, leads, breaks}
+use Rattle.model.specs.Fault.{proofLayer, proofMembers, proofLength, body, givenXor, afterGiven, headOk, Verdict, accepted, noFault, firstBreak, ruling, givenCheck, pathCheck, pathHash, proofCheck, withheldFits, verdict, InGiven, InPath, ProofHolds}
+use Rattle.model.proofs.Bytes.{same-yes, yes-same}
+use Rattle.model.proofs.Sound.{both-lead}
+use Rattle.model.proofs.Ways.{after-at}
+use Rattle.cedunmi.specs.declared.Stop.{Stop}
+use Rattle.cedunmi.specs.declared.Stop.the-variants.{Depth, Length, Head, Hash, NoFault}
+use Rattle.cedunmi.specs.declared.Answer.{Answer}
+use Rattle.cedunmi.specs.declared.Answer.the-variants.{Done, Stopped}
+use Rattle.cedunmi.specs.Stops.{numberOf, valueOf}
+use Rattle.cedunmi.specs.Tables.{byTable}
+use Rattle.cedunmi.specs.Proof.{judged, proofChecked}
+use Rattle.cedunmi.proofs.ProofLaws.{proof-read}
+use Rattle.guarantees.specs.Layouts.{bytesFrom, hashFor, XorOf}
+use Rattle.guarantees.specs.Tables.{FirstWrongWord}
+use Rattle.guarantees.specs.Answers.{Answered, done, test, unless, JustWhen}
+use Rattle.guarantees.specs.Terms.{equationsOf}
+use Rattle.guarantees.specs.FaultProofs.{givenSymbol, Named, given, Exact, path, AllLead, Fits, ProofLengths, ProofRight, AcceptsProofJustWhen, proofTests, ProofCheckerAnswers, Holds, HoldsExactly, HoldsItsSymbols, FaultProofs}
+use Rattle.guarantees.proofs.Answers.{all-done, stops-unless, passes-unless}
+use Rattle.guarantees.proofs.Tables.{rules-ok, first-wrong, right-formed, formed-right}
+use Rattle.guarantees.proofs.Refusals.{depth-fits, stops-wrong, passes-right}
+use Rattle.guarantees.proofs.Layouts.{xor-one}
+use Rattle.guarantees.proofs.ProofPlaces.{fromMember, given-xor-of, given-held, held-given, given-lead, lead-given, way-leads, leads-way, way-held, held-way, path-leads, leads-path, path-hash, path-held, held-path}
+use Rattle.guarantees.proofs.ProofHeads.{named-fitting, as-named, as-read, length-named, named-ok, ok-named}
+use Rattle.guarantees.proofs.ProofWritten.{writes-layout}
+
+-- ---- what is read by the head's names is what is named
+
+module _ (depth : ℕ) (tbl : List (List (List ℕ))) (b : List ℕ) (shallow : depth ≤ 5) (o : TableOk depth tbl) (h : Named depth tbl b) where
+  abbrev j : ℕ
+  j = h .layer
+
+  abbrev g : ℕ
+  g = length (given h)
+
+  -- the withheld member's path follows the given members
+  path-there : afterGiven j (given h) (drop 12 b) ≡ fromMember b j g
+  path-there = after-at b j (given h) 12
+
+  -- ---- what the proof holds
+
+  held-named : (l m : ℕ) (s : List ℕ) → ProofHolds tree tbl b l m s → Holds h l m s
+  unfolding ProofHolds body
+  held-named l m s x =
+      ⊎-elim
+      (λ y.
+      let (p, k, w) = given-held b j l m s (given h) 12 y in
+      let (u, up, e) = way-held [] b j p (getD (given h) p 0) l m s w in
+      inl (p, u, k, up, e))
+      (λ y. inr (path-held b l m s j g (h .withheld) (subst (λ (c : List ℕ). InPath tree j (h .withheld) c l m s) path-there y)))
+      (as-named depth tbl b shallow o h
+      (λ i y ys. InGiven tree i ys (drop 12 b) l m s ⊎ InPath tree i y (afterGiven i ys (drop 12 b)) l m s) x)
+
+  named-held : (l m : ℕ) (s : List ℕ) → Holds h l m s → ProofHolds tree tbl b l m s
+  unfolding ProofHolds body
+  named-held l m s x =
+      as-read depth tbl b shallow o h (λ i y ys. InGiven tree i ys (drop 12 b) l m s ⊎ InPath tree i y (afterGiven i ys (drop 12 b)) l m s)
+      (⊎-elim (λ (p, u, k, up, e). inl (held-given b j l m s (given h) 12 p k (held-way [] b j p (getD (given h) p 0) l m s u up e)))
+      (λ (u, a, up, e). inr (subst (λ (c : List ℕ). InPath tree j (h .withheld) c l m s) (sym path-there) (held-path b l m s j g (h .withheld) u a up e)))
+      x)
+
+  -- ---- its hashes
+
+  module _ (root : List ℕ) where
+    checks : ℕ → ℕ → List ℕ → Type 0
+    checks i y ys =
+        firstBreak (givenCheck tree symbolHash root i ys (drop 12 b)) (pathCheck tree symbolHash root i y (afterGiven i ys (drop 12 b))) ≡ leads
+
+    lead-named : proofCheck tree symbolHash root tbl b ≡ leads → AllLead root h
+    unfolding proofCheck body checks
+    lead-named e =
+        let (a, c) = both-lead (givenCheck tree symbolHash root j (given h) (drop 12 b)) _ (as-named depth tbl b shallow o h checks e) in
+        record {
+          given-lead = λ p k. way-leads root b j p (getD (given h) p 0) (given-lead b j root (given h) 12 a p k);
+          withheld-leads = path-leads root b j g (h .withheld) (ap (pathCheck tree symbolHash root j (h .withheld)) (sym path-there) ∙ c);
+        }
+
+    named-lead : AllLead root h → proofCheck tree symbolHash root tbl b ≡ leads
+    unfolding proofCheck body checks firstBreak
+    named-lead a =
+        as-read depth tbl b shallow o h checks
+        (ap₂ firstBreak (lead-given b j root (given h) 12 (λ p k. leads-way root b j p (getD (given h) p 0) (a .given-lead p k)))
+        (ap (pathCheck tree symbolHash root j (h .withheld)) path-there ∙ leads-path root b j g (h .withheld) (a .withheld-leads)))
+
+    -- ---- its exclusive-or
+
+    module _ (x : Exact h) where
+      xor-is : XorOf (λ p. givenSymbol b j p 0) g (givenXor j (given h) (drop 12 b))
+      unfolding givenSymbol
+      xor-is =
+          given-xor-of b j (given h) 12 (λ p. givenSymbol b j p 0)
+          (omega (arith, ap (λ (n : ℕ). n * (j + 1)) (named-fitting depth tbl b shallow o h .given-count)))
+          (λ p. let e : 12 + 256 * (p * (j + 1) + 0) ≡ 12 + 256 * (p * suc j) = omega arith in ap (λ (n : ℕ). bytesFrom b n 256) e)
+
+      committed-is : pathHash tree root j (h .withheld) (afterGiven j (given h) (drop 12 b)) ≡ hashFor root (path root h) j (h .withheld)
+      committed-is = ap (pathHash tree root j (h .withheld)) path-there ∙ path-hash root b j g (h .withheld)
+
+      equals : ℕ → ℕ → List ℕ → Type 0
+      equals i y ys = same (symbolHash i y (givenXor i ys (drop 12 b))) (pathHash tree root i y (afterGiven i ys (drop 12 b))) ≡ true
+
+      fits-named : withheldFits tree symbolHash root tbl b ≡ true → Fits root h
+      unfolding withheldFits body equals symbolHash
+      fits-named t s y =
+          ap sha256 (xor-one _ g s _ y xor-is) ∙ same-yes _ _ (as-named depth tbl b shallow o h equals t) ∙ committed-is
+
+      named-fits : Fits root h → withheldFits tree symbolHash root tbl b ≡ true
+      unfolding withheldFits body equals symbolHash
+      named-fits f = as-read depth tbl b shallow o h equals (yes-same (f _ xor-is ∙ sym committed-is))
+
+-- ---- the checker
+
+module _ (depth : ℕ) (root table b : List ℕ) where
+  abbrev ws : List ℕ
+  ws = wordsOf table
+
+  abbrev tbl : List (List (List ℕ))
+  tbl = equationsOf table
+
+  -- the tests, from each of them on
+  abbrev from8 : Answered
+  from8 = test 8 (unless ((h : Named depth tbl b) × (Fits root h → ⊥))) done
+
+  abbrev from7 : Answered
+  from7 = test 7 (unless ((h : Named depth tbl b) × AllLead root h)) from8
+
+  abbrev from2 : Answered
+  from2 = test 2 (unless ((h : Named depth tbl b) × Exact h)) from7
+
+  abbrev from6 : Answered
+  from6 = test 6 (unless (Named depth tbl b)) from2
+
+  abbrev from3 : Answered
+  from3 = test 3 (FirstWrongWord depth ws) from6
+
+  -- an answer by these tests, which is Done of a right proof only
+  record By (tests : Answered) (a : Answer) : Type 0 where
+    just : JustWhen (numberOf a) (valueOf a) tests
+    only : a ≡ Done → ProofRight depth root table b
+
+  stop : (z : Stop) (k : ℕ) (right : Type 0) (later : Answered) → numberOf (Stopped z) ≡ suc k → valueOf (Stopped z) ≡ 0 → (right → ⊥)
+      → By (test (suc k) (unless right) later) (Stopped z)
+  stop z k right later n v x =
+      record { just = rw (n, v) (stops-unless x); only = λ e. absurd (omega (arith, ap numberOf e)) }
+
+  pass : (a : Answer) (k : ℕ) (right : Type 0) (later : Answered) → right → By later a → By (test k (unless right) later) a
+  pass a k right later r y = record { just = passes-unless r (y .just); only = y .only }
+
+  abbrev Judged : Answered → Verdict → Type 0
+  Judged tests v = By tests (judged v)
+
+  module _ (dr : (1 ≤ depth) × (depth ≤ 5)) (lr : ProofLengths root table b) (f : WellFormed depth ws) where
+    rules : TableOk depth tbl
+    rules = formed-rules depth ws f (dr .1)
+
+    -- the head names h, and the length is the one that it demands
+    module _ (h : Named depth tbl b) (x : length b ≡ proofLength (proofLayer b) (length (proofMembers tbl b))) where
+      exact-of : (z : Named depth tbl b) → Exact z
+      exact-of z = x ∙ length-named depth tbl b (dr .1) rules z
+
+      at-8 : AllLead root h → Judged from8 (pick (withheldFits tree symbolHash root tbl b) noFault accepted)
+      at-8 a =
+          pick-ind (Judged from8) (withheldFits tree symbolHash root tbl b)
+          (λ t. stop NoFault 7 _ done refl refl (λ (z, n). n (fits-named depth tbl b (dr .1) rules z root (exact-of z) t)))
+          (λ t.
+          let n : Fits root h → ⊥ = λ y. both (named-fits depth tbl b (dr .1) rules h root (exact-of h) y) t in
+          pass Done 8 _ done (h, n)
+          (record {
+            just = all-done;
+            only = λ e. record { depth-right = dr; lengths-right = lr; table-right = formed-right depth ws f; named = h; exact = exact-of h; all-lead = a; differs = n };
+          }))
+
+      at-7 : (c : Climb) → proofCheck tree symbolHash root tbl b ≡ c → Judged from7 (ruling c (withheldFits tree symbolHash root tbl b))
+      unfolding ruling
+      at-7 leads e =
+          let a : AllLead root h = lead-named depth tbl b (dr .1) rules h root e in
+          pass _ 7 _ from8 (h, a) (at-8 a)
+      at-7 (breaks l) e =
+          stop Hash 6 _ from8 refl refl
+          (λ (z, a). let q = named-lead depth tbl b (dr .1) rules z root a in let zero-one : _≡_ {A = ℕ} 0 1 = cc in omega arith)
+
+    at-6 : Judged from6 (verdict tree symbolHash root tbl b)
+    unfolding verdict
+    at-6 =
+        pick-ind (Judged from6) (not (headOk tbl b))
+        (λ t. stop Head 5 _ from2 refl refl (λ h. both (named-ok depth tbl b (dr .1) rules h) (not-yes (headOk tbl b) t)))
+        (λ t.
+        let h : Named depth tbl b = ok-named depth tbl b (dr .1) rules (not-no (headOk tbl b) t) in
+        let n : ℕ = proofLength (proofLayer b) (length (proofMembers tbl b)) in
+        pass _ 6 _ from2 h
+        (pick-ind (Judged from2) (not (eqb (length b) n))
+        (λ u. stop Length 1 _ from7 refl refl
+        (λ (z, x). both (eq-eqb (length b) n (x ∙ sym (length-named depth tbl b (dr .1) rules z))) (not-yes (eqb (length b) n) u)))
+        (λ u.
+        let x : length b ≡ n = eqb-true (length b) n (not-no (eqb (length b) n) u) in
+        pass _ 2 _ from7 (h, exact-of h x h) (at-7 h x (proofCheck tree symbolHash root tbl b) refl))))
+
+  abbrev ruled : Answer
+  ruled = judged (verdict tree symbolHash root tbl b)
+
+  at-3 : (1 ≤ depth) × (depth ≤ 5) → depthFits depth ≡ true → ProofLengths root table b → (r : Read) → Right depth ws r → By from3 (byTable r ruled)
+  at-3 dr t lr read.Depth x = both t x
+  at-3 dr t lr read.Length x = absurd x
+  at-3 dr t lr (read.Wrong i) x =
+      record {
+        just = stops-wrong depth ws i (first-wrong depth ws i (x .1));
+        only = λ e. absurd (omega (arith, ap numberOf e));
+      }
+  at-3 dr t lr read.Whole x =
+      let y = at-6 dr lr (x .1) in
+      record { just = passes-right depth ws (formed-right depth ws (x .1)) (y .just); only = y .only }
+
+  -- the lengths: the root's and the proof's, then the table's
+  at-2 : (1 ≤ depth) × (depth ≤ 5) → depthFits depth ≡ true
+      → By (test 2 (unless (ProofLengths root table b)) from3)
+      (pick (eqb (length root) 512 && leb 12 (length b)) (byTable (readBytesOf depth table) ruled) (Stopped Length))
+  unfolding lengthFits
+  at-2 dr t =
+      pick-ind (By (test 2 (unless (ProofLengths root table b)) from3)) (eqb (length root) 512 && leb 12 (length b))
+      (λ l.
+      let (r, s) = and-yes (eqb (length root) 512) (leb 12 (length b)) l in
+      by-test (lengthFits (length table))
+      (λ u.
+      let (m, q) = and-yes (leb (length table) 16384) (eqb (length table % 4) 0) u in
+      let lr : ProofLengths root table b =
+      record {
+        root-full = eqb-true (length root) 512 r;
+        table-short = leb-true (length table) 16384 m;
+        table-whole = eqb-true (length table % 4) 0 q;
+        head-there = leb-true 12 (length b) s;
+      } in
+      pass _ 2 _ from3 lr (subst (λ (a : Read). By from3 (byTable a ruled)) (bytes-words depth table t u) (at-3 dr t lr (readOf depth ws) (read-right depth ws))))
+      (λ u.
+      subst (λ (a : Read). By (test 2 (unless (ProofLengths root table b)) from3) (byTable a ruled)) (bytes-length depth table t u)
+      (stop Length 1 _ from3 refl refl
+      (λ lr. both (yes-and (le-leb (length table) 16384 (lr .table-short)) (eq-eqb (length table % 4) 0 (lr .table-whole))) u))))
+      (λ l.
+      stop Length 1 _ from3 refl refl (λ lr. both (yes-and (eq-eqb (length root) 512 (lr .root-full)) (le-leb 12 (length b) (lr .head-there))) l))
+
+  checked : By (proofTests depth root table b) (proofChecked depth root table b)
+  unfolding proofChecked
+  checked =
+      pick-ind (By (proofTests depth root table b)) (depthFits depth) (λ t. pass _ 1 _ _ (depth-is depth t) (at-2 (depth-is depth t) t))
+      (λ t. stop Depth 0 _ _ refl refl (λ dr. both (depth-fits depth dr) t))
+
+  -- a right proof is accepted
+  right-done : ProofRight depth root table b → proofChecked depth root table b ≡ Done
+  unfolding lengthFits verdict ruling
+  right-done r =
+      let t : depthFits depth ≡ true = depth-fits depth (r .depth-right) in
+      let lr = r .lengths-right in
+      let whole : readBytesOf depth table ≡ read.Whole =
+      sym (bytes-words depth table t (yes-and (le-leb (length table) 16384 (lr .table-short)) (eq-eqb (length table % 4) 0 (lr .table-whole))))
+      ∙ formed-accepted depth ws t (right-formed depth ws (r .table-right)) in
+      let o : TableOk depth tbl = formed-rules depth ws (right-formed depth ws (r .table-right)) (r .depth-right .1) in
+      let h = r .named in
+      let unfit : withheldFits tree symbolHash root tbl b ≡ false =
+      by-test (withheldFits tree symbolHash root tbl b) (λ u. absurd (r .differs (fits-named depth tbl b (r .depth-right .1) o h root (r .exact) u))) (λ u. u) in
+      sym (proof-read depth root table b t (lr .root-full) (lr .head-there) read.Whole (sym whole))
+      ∙ ap judged
+      (pick-no _ _ _ (ap not (named-ok depth tbl b (r .depth-right .1) o h))
+      ∙ pick-no _ _ _ (ap not (eq-eqb (length b) _ (r .exact ∙ sym (length-named depth tbl b (r .depth-right .1) o h))))
+      ∙ ap₂ ruling (named-lead depth tbl b (r .depth-right .1) o h root (r .all-lead)) unfit
+      ∙ pick-no false _ _ refl)
+
+accepts-just-when : AcceptsProofJustWhen
+accepts-just-when depth root table b = (checked depth root table b .only, right-done depth root table b)
+
+checker-answers : ProofCheckerAnswers
+checker-answers depth root table b = checked depth root table b .just
+
+-- ---- what a proof holds
+
+holds-exactly : HoldsExactly
+holds-exactly depth tbl b shallow r h l m s =
+    let o = rules-ok depth tbl r in
+    (held-named depth tbl b shallow o h l m s, named-held depth tbl b shallow o h l m s)
+
+holds-its-symbols : HoldsItsSymbols
+holds-its-symbols depth tbl b shallow r h f lay l m s =
+    let o = rules-ok depth tbl r in (
+      λ x. ⊎-elim
+          (λ (p, u, k, up, e). (inl (p, u, k, up), e ∙ lay .given-symbols p u k (up .0) ∙ sym (ap₂ f (up .1) (up .2))))
+          (λ (u, a, up, e). (inr (u, a, up), e ∙ lay .path-symbols u a (up .0) ∙ sym (ap₂ f (up .1) (up .2))))
+          (held-named depth tbl b shallow o h l m s x),
+      λ (x, e). named-held depth tbl b shallow o h l m s
+          (⊎-elim (λ (p, u, k, up). inl (p, u, k, up, e ∙ ap₂ f (up .1) (up .2) ∙ sym (lay .given-symbols p u k (up .0))))
+          (λ (u, a, up). inr (u, a, up, e ∙ ap₂ f (up .1) (up .2) ∙ sym (lay .path-symbols u a (up .0)))) x),
+    )
+
+-- ---- all of it
+
+pub fault-proofs : FaultProofs
+fault-proofs =
+    record {
+      accepts-just-when = accepts-just-when;
+      checker-answers = checker-answers;
+      holds-exactly = holds-exactly;
+      holds-its-symbols = holds-its-symbols;
+      writes-layout = writes-layout;
+    }
