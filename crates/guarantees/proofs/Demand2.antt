@@ -67,7 +67,7 @@ module _ (depth : ℕ) (table : List ℕ) (w : readBytesOf depth table ≡ Whole
   rules = accepted-table depth (wordsOf table) (bytes-accepted depth table w)
 
   -- its words are those of its equations
-  words-listed : wordsOf table ≡ listed (equationsOf table)
+  pub words-listed : wordsOf table ≡ listed (equationsOf table)
   words-listed =
       let r = bytes-accepted depth table w in
       formed-words depth (wordsOf table) (accepted-formed depth (wordsOf table) r .1) (accepted-depth depth (wordsOf table) r .1) ∙ sym (listed-words (equationsOf table))

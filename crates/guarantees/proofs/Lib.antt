@@ -12,6 +12,7 @@ pub mod FaultProofs
 pub mod Demand1
 pub mod Results
 pub mod Demand2
+pub mod House
 pub mod Demand3
 pub mod RepairCases
 pub mod Cases

@@ -6,6 +6,7 @@ pub mod Answers
 pub mod Refusals
 pub mod FaultProofs
 pub mod Results
+pub mod House
 pub mod Demand1
 pub mod Demand2
 pub mod Demand3

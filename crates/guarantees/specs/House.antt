@@ -1,0 +1,30 @@
+-- A table from C, and the house table: 01, "Parity table". Statements only.
+use mathlib.Core.Path.{_≡_}
+use mathlib.Core.Logic.{_⊎_, _↔_}
+use mathlib.Core.List.{List}
+use Prim.Native.Nat.{ℕ, _+_, _-_, _*_, _/_, _%_, _≤_, _<_}
+use lib.ListN.{length, getD}
+use Rattle.octets.specs.BigEndian.{bytesOf}
+use Rattle.parity_table.specs.Bytes.{wordsOf}
+use Rattle.parity_table.specs.House.{houseTable, houseWords}
+use Rattle.guarantees.specs.Layouts.{dataSymbols, wordNo}
+use Rattle.guarantees.specs.Tables.{TableRules, listed, IsMember}
+use Rattle.guarantees.specs.Trees.{members}
+
+-- "big-endian bytes, four to a word": the words of the bytes b
+pub record WordsOf (b : List ℕ) : Type 0 where
+  pub count : length (wordsOf b) ≡ length b / 4
+  pub word : (w : ℕ) → w < length b / 4 → getD (wordsOf b) w 0 ≡ wordNo b w
+
+-- "House table: equation e has data members e mod k and (e+1+⌊e/k⌋) mod k, symbol k+e−1 if e > 0, and k+e, written ascending."
+abbrev pub HouseMember : ℕ → ℕ → ℕ → Type 0
+HouseMember k e x = (x ≡ e % k) ⊎ ((x ≡ (e + 1 + e / k) % k) ⊎ (((0 < e) × (x ≡ k + e - 1)) ⊎ (x ≡ k + e)))
+
+pub record HouseTable : Type 0 where
+  pub words-of : (b : List ℕ) → WordsOf b
+  -- by the rules, so that members are ascending; and these are its members
+  pub by-rules : (d : ℕ) → TableRules d (houseTable d)
+  pub members-are : (d j e x : ℕ) → j < d → e < 3 * dataSymbols j → IsMember x (members (houseTable d) j e) ↔ HouseMember (dataSymbols j) e x
+  -- what the calls write, as words and as bytes
+  pub words-are : (d : ℕ) → houseWords d ≡ listed (houseTable d)
+  pub bytes-are : (d : ℕ) → 1 ≤ d → d ≤ 5 → wordsOf (bytesOf (houseWords d)) ≡ listed (houseTable d)
