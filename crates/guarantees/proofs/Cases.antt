@@ -1,12 +1,13 @@
 -- 01's starred cases: every row of the table holds.
-use mathlib.Core.Path.{_≡_, refl, sym, ap}
-use mathlib.Core.Bool.{false}
+use mathlib.Core.Path.{_≡_, refl, sym, ap, _∙_}
+use mathlib.Core.Bool.{true, false}
 use mathlib.Core.List.{List}
 use Prim.Native.Nat.{ℕ, suc, _+_, _-_, _*_, _≤_, _<_}
 use native.Mathlib.Nat.{mul-le-mul-right}
 use native.Mathlib.Omega.{arith}
 use lib.ListN.{length}
 use lib.Dec.{eqb}
+use Rattle.octets.specs.BigEndian.{bytesOf}
 use Rattle.octets.specs.Choice.{pick}
 use Rattle.octets.proofs.Choice.{pick-no}
 use Rattle.parity_table.specs.Shape.{maxDepth, depthFits, kOf, nOf}
@@ -18,6 +19,7 @@ use Rattle.parity_table.specs.Right as reader
 use Rattle.parity_table.specs.declared.Answer.the-variants as read
 use Rattle.parity_table.proofs.Accepts.{accepted-table}
 use Rattle.parity_table.proofs.ByteForm.{bytes-depth, bytes-accepted}
+use Rattle.parity_table.proofs.RoundTrip.{house-bytes-accepted}
 use Rattle.symbol_hash.specs.SymbolHash.{symbolHash}
 use Rattle.model.specs.Shape.{tree, place, places}
 use Rattle.model.specs.Symbols.{symbolIn, slot, symAt}
@@ -32,8 +34,10 @@ use Rattle.cedunmi.proofs.ProofLaws.{proof-depth}
 use Rattle.cedunmi.proofs.RepairLaws.{tested-depth}
 use Rattle.cedunmi.proofs.Sound.{passed}
 use Rattle.guarantees.specs.Terms.{equationsOf}
-use Rattle.guarantees.specs.Cases.{coded, StopsWith1, Longest, Stands, none, _also_, CasesHold}
+use Rattle.guarantees.specs.Cases.{coded, StopsWith1, Has, Longest, Stands, none, _also_, CasesHold}
+use Rattle.guarantees.proofs.Demand2.{demand-2}
 use Rattle.guarantees.proofs.RepairCases.{listed, coded-is, two-turns, two-absent, eight-absent, all-absent}
+use Rattle.guarantees.proofs.LongestProof.{longest-accepted}
 
 -- ---- case 8
 
@@ -51,6 +55,26 @@ stops d f =
       repairer = λ root table t m o. sym (ap numberOf (tested-depth d root table t m o f));
     }
 
+has : (d n : ℕ) → depthFits d ≡ true → places tree d ≡ n → Has d n
+unfolding kOf
+has d n f p =
+    record {
+      in-all = p;
+      writes = λ b t m root l.
+          let (passes, done) = demand-2 .writes-just-when d (bytesOf (houseWords d)) b t m root in (
+            λ e. let c = passes e in (c .tree-full ∙ ap (λ (x : ℕ). 256 * x) p, c .marks-full ∙ p, c .root-full),
+            λ s.
+                done (record {
+                  fit-depth = f;
+                  whole-table = house-bytes-accepted d f;
+                  block-full = l;
+                  tree-full = s .0 ∙ ap (λ (x : ℕ). 256 * x) (sym p);
+                  marks-full = s .1 ∙ sym p;
+                  root-full = s .2;
+                }),
+          );
+    }
+
 -- ---- case 9
 
 longer : (j d : ℕ) → j < 5 → d ≤ 8 → proofLength j d ≤ 9996
@@ -63,6 +87,7 @@ longest =
     record {
       reached = refl;
       none-longer = longer;
+      some-accepted = longest-accepted;
       none-accepted = λ root table b e.
           let p = passed 5 root table b e in
           let tbl : List (List (List ℕ)) = equationsOf table in
@@ -95,4 +120,4 @@ unfolding houseTable houseLayers houseEquations houseEquation layerOf equationOf
 cases-hold =
     refl also refl also refl also table-size also symbol 5 also symbol 7 also symbol 9
     also two-turns also two-absent also eight-absent also all-absent
-    also stops 0 refl also stops (maxDepth + 1) refl also refl also longest also stands also none
+    also stops 0 refl also stops (maxDepth + 1) refl also has 5 _ refl refl also longest also stands also none

@@ -15,4 +15,5 @@ pub mod Demand2
 pub mod House
 pub mod Demand3
 pub mod RepairCases
+pub mod LongestProof
 pub mod Cases

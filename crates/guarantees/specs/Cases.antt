@@ -1,14 +1,16 @@
 -- 01, "Cases at depth 1, house table": the starred cases as rows of one table. What a row says is `Holds`; that all hold is one theorem,
 -- `cases-hold` of proofs/Cases.antt. Statements only.
 use mathlib.Core.Path.{_≡_}
+use mathlib.Core.Logic.{_↔_}
 use mathlib.Core.Bool.{true, false}
 use mathlib.Core.List.{List, [], _∷_, _++_}
 use Prim.Native.Nat.{ℕ, suc, _+_, _-_, _*_, _≤_, _<_}
 use lib.ListN.{length, take, drop, set, replicate}
+use lib.Dec.{ltb}
 use Rattle.octets.specs.BigEndian.{bytesOf}
 use Rattle.sha256.specs.Hash.{sha256}
 use Rattle.parity_table.specs.Shape.{maxDepth}
-use Rattle.parity_table.specs.Members.{lastOf}
+use Rattle.parity_table.specs.Members.{every, lastOf}
 use Rattle.parity_table.specs.Table.{equationOf, endWord}
 use Rattle.parity_table.specs.Bytes.{readBytesOf}
 use Rattle.parity_table.specs.House.{houseTable, houseWords, houseAnswer}
@@ -26,6 +28,7 @@ use Rattle.cedunmi.specs.Volume.{treeWritten, blockRead}
 use Rattle.cedunmi.specs.Sample.{sampleTaken, sampleChecked}
 use Rattle.cedunmi.specs.Proof.{proofChecked}
 use Rattle.cedunmi.specs.Repairs.{repairTested, repairOf, repaired, ended, leftBy}
+use Rattle.guarantees.specs.Layouts.{dataSymbols}
 use Rattle.guarantees.specs.Terms.{equationsOf}
 use Rattle.guarantees.specs.Demand2.{treeAfter, rootAfter}
 
@@ -108,10 +111,31 @@ pub record StopsWith1 (depth : ℕ) : Type 0 where
   pub proof-checker : (root table b : List ℕ) → numberOf (proofChecked depth root table b) ≡ 1
   pub repairer : (root table t m o : List ℕ) → numberOf (repairTested depth root table t m o) ≡ 1
 
--- the longest proof: of an equation of the base with 8 members; none of any layer and of at most 8 members is longer, and no longer one is accepted
+-- With the house table and a block of its length, the writer is done just when it is lent a tree of so many symbols, a mark for each, and a root.
+pub record Has (depth symbols : ℕ) : Type 0 where
+  pub in-all : places tree depth ≡ symbols
+  pub writes : (b t m root : List ℕ) → length b ≡ 256 * dataSymbols (depth - 1)
+      → (treeWritten depth (bytesOf (houseWords depth)) b t m root ≡ Done) ↔ ((length t ≡ 256 * symbols) × (length m ≡ symbols) × (length root ≡ 512))
+
+-- each of these is a byte
+abbrev pub AreBytes : List ℕ → Type 0
+AreBytes b = every (λ x. ltb x 256) b ≡ true
+
+-- a proof of this many bytes that is accepted, of a root and a table
+pub record AcceptedOf (depth bytes : ℕ) : Type 0 where
+  pub root : List ℕ
+  pub table : List ℕ
+  pub proof : List ℕ
+  pub are-bytes : AreBytes root × AreBytes table × AreBytes proof
+  pub accepts : proofChecked depth root table proof ≡ Done
+  pub sized : length proof ≡ bytes
+
+-- the longest proof: of an equation of the base with 8 members; none of any layer and of at most 8 members is longer; one of that length is
+-- accepted, and no longer one is
 pub record Longest (depth bytes : ℕ) : Type 0 where
   pub reached : proofLength (depth - 1) 8 ≡ bytes
   pub none-longer : (j d : ℕ) → j < depth → d ≤ 8 → proofLength j d ≤ bytes
+  pub some-accepted : AcceptedOf depth bytes
   pub none-accepted : (root table b : List ℕ) → proofChecked depth root table b ≡ Done → length b ≤ bytes
 
 -- In every correctly coded tree of this depth the hash of base symbol i stands in data symbol s of the layer above, in these bytes.
@@ -142,7 +166,7 @@ Holds (symbolIs i b) = symAt tree coded 0 i ≡ replicate 256 b
 Holds (repairGives absent gs) = (o : List ℕ) → Turns gs (entered absent o)
 Holds (repairLeaves absent z missing n) = (o : List ℕ) → length o ≡ 12 + 256 * (8 * 1 - 1) → Leaves absent z missing n o
 Holds (depthStops d) = StopsWith1 d
-Holds (depthHas d n) = places tree d ≡ n
+Holds (depthHas d n) = Has d n
 Holds (longestProof d n) = Longest d n
 Holds (hashStands d i s a b) = Stands d i s a b
 
