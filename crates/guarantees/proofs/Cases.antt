@@ -1,58 +1,96 @@
 -- 01's starred cases: every row of the table holds.
 use mathlib.Core.Path.{_≡_, refl, sym, ap, _∙_}
-use mathlib.Core.Bool.{true, false}
+use mathlib.Core.Logic.{_↔_}
+use mathlib.Core.Bool.{true}
 use mathlib.Core.List.{List}
 use Prim.Native.Nat.{ℕ, suc, _+_, _-_, _*_, _≤_, _<_}
 use native.Mathlib.Nat.{mul-le-mul-right}
 use native.Mathlib.Omega.{arith}
 use lib.ListN.{length}
-use lib.Dec.{eqb}
 use Rattle.octets.specs.BigEndian.{bytesOf}
-use Rattle.octets.specs.Choice.{pick}
-use Rattle.octets.proofs.Choice.{pick-no}
-use Rattle.parity_table.specs.Shape.{maxDepth, depthFits, kOf, nOf}
+use Rattle.parity_table.specs.Shape.{depthFits, kOf, nOf}
 use Rattle.parity_table.specs.Members.{lastOf}
 use Rattle.parity_table.specs.Table.{endWord, layerOf, equationOf, equationsWords, layersWords, tableWords}
 use Rattle.parity_table.specs.Bytes.{wordsOf}
-use Rattle.parity_table.specs.House.{houseEquation, houseEquations, houseLayers, houseTable, houseWords, houseAnswer}
-use Rattle.parity_table.specs.Right as reader
-use Rattle.parity_table.specs.declared.Answer.the-variants as read
+use Rattle.parity_table.specs.House.{houseEquation, houseEquations, houseLayers, houseTable, houseWords}
 use Rattle.parity_table.proofs.Accepts.{accepted-table}
-use Rattle.parity_table.proofs.ByteForm.{bytes-depth, bytes-accepted}
+use Rattle.parity_table.proofs.ByteForm.{bytes-accepted}
 use Rattle.parity_table.proofs.RoundTrip.{house-bytes-accepted}
 use Rattle.symbol_hash.specs.SymbolHash.{symbolHash}
 use Rattle.model.specs.Shape.{tree, place, places}
 use Rattle.model.specs.Symbols.{symbolIn, slot, symAt}
 use Rattle.model.specs.Fault.{proofLength, proofLayer, proofEquation, proofMembers}
 use Rattle.model.proofs.Sound.{accepted-is}
-use Rattle.cedunmi.specs.Stops.{numberOf}
 use Rattle.cedunmi.proofs.LoadLaws.{table-laws-of}
-use Rattle.cedunmi.proofs.WriteLaws.{write-depth}
-use Rattle.cedunmi.proofs.VolumeLaws.{read-depth}
-use Rattle.cedunmi.proofs.SampleLaws.{at-depth, sample-depth}
-use Rattle.cedunmi.proofs.ProofLaws.{proof-depth}
-use Rattle.cedunmi.proofs.RepairLaws.{tested-depth}
 use Rattle.cedunmi.proofs.Sound.{passed}
 use Rattle.guarantees.specs.Terms.{equationsOf}
-use Rattle.guarantees.specs.Cases.{coded, StopsWith1, Has, Longest, Stands, none, _also_, CasesHold}
-use Rattle.guarantees.proofs.Demand2.{demand-2}
+use Rattle.guarantees.specs.Cases.{coded, EveryCall, Depths, Has, Longest, Stands, none, _also_, CasesHold}
+use Rattle.guarantees.specs.Answers.{done, test, fails, holds, unless, JustWhen}
+use Rattle.guarantees.proofs.Demand1.{demand-1}
+use Rattle.guarantees.proofs.Demand2.{coding, written-when}
 use Rattle.guarantees.proofs.RepairCases.{listed, coded-is, two-turns, two-absent, eight-absent, all-absent}
 use Rattle.guarantees.proofs.LongestProof.{longest-accepted}
 
 -- ---- case 8
 
-stops : (d : ℕ) → depthFits d ≡ false → StopsWith1 d
-unfolding houseAnswer
-stops d f =
+-- a later test doesn't give 1
+not-one : {k : ℕ} {wrong : ℕ → Type 0} {later : ℕ → ℕ → Type 0} → (k ≡ 1 → ⊥) → ((v : ℕ) → later 1 v → ⊥) → (v : ℕ) → test k wrong later 1 v → ⊥
+not-one n l v (fails e x) = n (sym e)
+not-one n l v (holds x y) = l v y
+
+nor-done : (v : ℕ) → done 1 v → ⊥
+nor-done v (e, q) = omega arith
+
+-- the test of the depth comes first
+at-depth : {number value : ℕ} {right : Type 0} {later : ℕ → ℕ → Type 0} → JustWhen number value (test 1 (unless right) later) → ((v : ℕ) → later 1 v → ⊥)
+    → (number ≡ 1) ↔ (right → ⊥)
+at-depth {number} {value} {right} {later} j l =
+    (λ e. found value (j .answers 1 value .0 (e, refl)), λ n. j .answers 1 0 .1 (fails refl (record { is-not = n; alone = refl })) .0)
+  where
+    found : (v : ℕ) → test 1 (unless right) later 1 v → right → ⊥
+    found v (fails e x) = x .is-not
+    found v (holds x y) = absurd (l v y)
+
+depths : Depths 1 5
+depths d =
+    let r = demand-1 .refusals in
     record {
-      table-check = λ b. sym (ap reader.numberOf (bytes-depth d b f));
-      house-writer = λ n. ap reader.numberOf (pick-no (depthFits d) (pick (eqb n (length (houseWords d) * 4)) read.Whole read.Length) read.Depth f);
-      tree-writer = λ table b t m root. sym (ap numberOf (write-depth d table b t m root f));
-      block-reader = λ t m b. sym (ap numberOf (read-depth d t m b f));
-      sampler = λ i t m s. sym (ap numberOf (sample-depth d i t m s f));
-      sample-checker = λ i root s. sym (ap numberOf (at-depth d i root s f));
-      proof-checker = λ root table b. sym (ap numberOf (proof-depth d root table b f));
-      repairer = λ root table t m o. sym (ap numberOf (tested-depth d root table t m o f));
+      table-words = λ ws. at-depth (r .table-words d ws) (not-one (λ e. omega arith) nor-done);
+      table-bytes = λ b. at-depth (r .table-bytes d b) (not-one (λ e. omega arith) (not-one (λ e. omega arith) nor-done));
+      house-words = λ n. at-depth (r .house-words d n) (not-one (λ e. omega arith) nor-done);
+      house-bytes = λ n. at-depth (r .house-bytes d n) (not-one (λ e. omega arith) nor-done);
+      tree-writer = λ table b t m root. at-depth (r .tree-writer d table b t m root) (not-one (λ e. omega arith) (not-one (λ e. omega arith) nor-done));
+      block-reader = λ t m b.
+          at-depth (r .block-reader d t m b) (not-one (λ e. omega arith) (not-one (λ e. omega arith) (not-one (λ e. omega arith) nor-done)));
+      sampler = λ i t m s.
+          at-depth (r .sampler d i t m s)
+          (not-one (λ e. omega arith) (not-one (λ e. omega arith) (not-one (λ e. omega arith) (not-one (λ e. omega arith) nor-done))));
+      sample-checker = λ i root s.
+          at-depth (r .sample-checker d i root s) (not-one (λ e. omega arith) (not-one (λ e. omega arith) (not-one (λ e. omega arith) nor-done)));
+      proof-checker = λ root table b.
+          at-depth (demand-1 .proof-checker d root table b)
+          (not-one (λ e. omega arith)
+          (not-one (λ e. omega arith)
+          (not-one (λ e. omega arith) (not-one (λ e. omega arith) (not-one (λ e. omega arith) (not-one (λ e. omega arith) nor-done))))));
+      repairer = λ root table t m o.
+          at-depth (r .repairer d root table t m o) (not-one (λ e. omega arith) (not-one (λ e. omega arith) (not-one (λ e. omega arith) nor-done)));
+    }
+
+-- so every call stops at a depth that is none of these
+stops : (d : ℕ) → ((1 ≤ d) × (d ≤ 5) → ⊥) → EveryCall d (λ number. number ≡ 1)
+stops d n =
+    let k = depths d in
+    record {
+      table-words = λ ws. k .table-words ws .1 n;
+      table-bytes = λ b. k .table-bytes b .1 n;
+      house-words = λ m. k .house-words m .1 n;
+      house-bytes = λ m. k .house-bytes m .1 n;
+      tree-writer = λ table b t m root. k .tree-writer table b t m root .1 n;
+      block-reader = λ t m b. k .block-reader t m b .1 n;
+      sampler = λ i t m s. k .sampler i t m s .1 n;
+      sample-checker = λ i root s. k .sample-checker i root s .1 n;
+      proof-checker = λ root table b. k .proof-checker root table b .1 n;
+      repairer = λ root table t m o. k .repairer root table t m o .1 n;
     }
 
 has : (d n : ℕ) → depthFits d ≡ true → places tree d ≡ n → Has d n
@@ -60,19 +98,18 @@ unfolding kOf
 has d n f p =
     record {
       in-all = p;
-      writes = λ b t m root l.
-          let (passes, done) = demand-2 .writes-just-when d (bytesOf (houseWords d)) b t m root in (
-            λ e. let c = passes e in (c .tree-full ∙ ap (λ (x : ℕ). 256 * x) p, c .marks-full ∙ p, c .root-full),
-            λ s.
-                done (record {
-                  fit-depth = f;
-                  whole-table = house-bytes-accepted d f;
-                  block-full = l;
-                  tree-full = s .0 ∙ ap (λ (x : ℕ). 256 * x) (sym p);
-                  marks-full = s .1 ∙ sym p;
-                  root-full = s .2;
-                }),
-          );
+      writes = λ b t m root l. (
+        λ e. let c = coding d (bytesOf (houseWords d)) b t m root e in (c .tree-full ∙ ap (λ (x : ℕ). 256 * x) p, c .marks-full ∙ p, c .root-full),
+        λ s.
+            written-when d (bytesOf (houseWords d)) b t m root (record {
+              fit-depth = f;
+              whole-table = house-bytes-accepted d f;
+              block-full = l;
+              tree-full = s .0 ∙ ap (λ (x : ℕ). 256 * x) (sym p);
+              marks-full = s .1 ∙ sym p;
+              root-full = s .2;
+            }),
+      );
     }
 
 -- ---- case 9
@@ -120,4 +157,4 @@ unfolding houseTable houseLayers houseEquations houseEquation layerOf equationOf
 cases-hold =
     refl also refl also refl also table-size also symbol 5 also symbol 7 also symbol 9
     also two-turns also two-absent also eight-absent also all-absent
-    also stops 0 refl also stops (maxDepth + 1) refl also has 5 _ refl refl also longest also stands also none
+    also stops 0 (λ h. omega (arith, h .0)) also stops 6 (λ h. omega (arith, h .1)) also depths also has 5 _ refl refl also longest also stands also none

@@ -53,7 +53,7 @@ use Rattle.guarantees.specs.Layouts.{bytesFrom, allSymbols, symbolAt, sa
 use Rattle.guarantees.specs.Tables.{listed}
 use Rattle.guarantees.specs.Trees.{CorrectlyCoded, RootOf, AgreesWith, HasBlock}
 use Rattle.guarantees.specs.Refusals.{BlockLength, SampleLength, InBase}
-use Rattle.guarantees.specs.Demand2.{treeAfter, marksAfter, rootAfter, Exactly, WriterInput, CompleteTree, ReadsBase, ReadsWritten, ReadsOriginal, SampleRight, TakesExactly, AcceptsTaken, AcceptedIsTrue, Demand2}
+use Rattle.guarantees.specs.Demand2.{treeAfter, marksAfter, rootAfter, Exactly, CompleteTree, ReadsBase, ReadsWritten, ReadsOriginal, SampleRight, TakesExactly, AcceptsTaken, AcceptedIsTrue, Demand2}
 use Rattle.guarantees.proofs.Layouts.{tree-symbols, symbol-at, mark-at}
 use Rattle.guarantees.proofs.Marks.{held-marked, none-bad, none-absent, none-needed}
 use Rattle.guarantees.proofs.Tables.{rules-ok, ok-rules, listed-words}
@@ -75,7 +75,15 @@ module _ (depth : ℕ) (table : List ℕ) (w : readBytesOf depth table ≡ Whole
 -- ---- writing
 
 -- the tests that a tree that was written has passed
-coding : (d : ℕ) (table block t m root : List ℕ) → treeWritten d table block t m root ≡ Done → WriterInput d table block t m root
+pub record WriterInput (depth : ℕ) (table block t m root : List ℕ) : Type 0 where
+  pub fit-depth : depthFits depth ≡ true
+  pub whole-table : readBytesOf depth table ≡ Whole
+  pub block-full : length block ≡ 256 * kOf (depth - 1)
+  pub tree-full : length t ≡ 256 * places tree depth
+  pub marks-full : length m ≡ places tree depth
+  pub root-full : length root ≡ 512
+
+pub coding : (d : ℕ) (table block t m root : List ℕ) → treeWritten d table block t m root ≡ Done → WriterInput d table block t m root
 unfolding treeWritten
 coding d table block t m root =
     let P : Answer → Type 0 = λ a. a ≡ Done → WriterInput d table block t m root in
@@ -98,7 +106,7 @@ coding d table block t m root =
     (λ l e. absurd (omega (arith, ap numberOf e))))
     (λ f e. absurd (omega (arith, ap numberOf e)))
 
-written-when : (d : ℕ) (table block t m root : List ℕ) → WriterInput d table block t m root → treeWritten d table block t m root ≡ Done
+pub written-when : (d : ℕ) (table block t m root : List ℕ) → WriterInput d table block t m root → treeWritten d table block t m root ≡ Done
 written-when d table block t m root k =
     sym (write-read d table block t m root (k .fit-depth) (eq-eqb (length block) (256 * kOf (d - 1)) (k .block-full))
     (yes-and (eq-eqb (length t) (256 * places tree d) (k .tree-full)) (eq-eqb (length m) (places tree d) (k .marks-full))) (k .root-full) Whole
@@ -442,7 +450,6 @@ pub demand-2 : Demand2
 demand-2 =
     record {
       writes-exactly = λ depth table block t m root e. exactly depth table block t m root e;
-      writes-just-when = λ depth table block t m root. (coding depth table block t m root, written-when depth table block t m root);
       writes-the-same = λ depth table block t m root t′ m′ root′ e e′. same-again depth table block t m root t′ m′ root′ e e′;
       reads-complete = λ depth t m b k. complete-read depth t m k b;
       reads-base = reads-base;

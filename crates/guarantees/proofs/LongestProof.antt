@@ -227,7 +227,7 @@ proof = proofBytes tree symbol 4 0 64 (equationOf wide 4 0)
 good : GoodProof tree symbolHash root wide 4 0 64 proof
 unfolding proof symbol every count others pick nOf kOf
 good =
-    proof-good tree (tree-ok .shape) symbolHash root symbol 4 (λ l i h k. above-length (4 - l)) right
+    proof-good tree (tree-ok .shape) symbol 4 (λ l i h k. above-length (4 - l)) symbolHash root right
     wide (table-laws 5 wide (omega arith) (omega arith) wide-rules) (omega (arith, wide-rules .depth)) 0 64
     (omega (arith, wide-rules .equations 4 (omega arith)))
     (rw wide-eight (omega arith))

@@ -9,7 +9,7 @@ use lib.ListN.{length, take, drop, set, replicate}
 use lib.Dec.{ltb}
 use Rattle.octets.specs.BigEndian.{bytesOf}
 use Rattle.sha256.specs.Hash.{sha256}
-use Rattle.parity_table.specs.Shape.{maxDepth}
+use Rattle.parity_table.specs.Reader.{readOf}
 use Rattle.parity_table.specs.Members.{every, lastOf}
 use Rattle.parity_table.specs.Table.{equationOf, endWord}
 use Rattle.parity_table.specs.Bytes.{readBytesOf}
@@ -100,16 +100,22 @@ pub record Leaves (absent : List ℕ) (end : End) (missing : List ℕ) (stored :
 
 -- ---- other claims
 
--- every call that is given a depth stops with 1 at this one, whatever else it is lent
-pub record StopsWith1 (depth : ℕ) : Type 0 where
-  pub table-check : (b : List ℕ) → reader.numberOf (readBytesOf depth b) ≡ 1
-  pub house-writer : (n : ℕ) → reader.numberOf (houseAnswer depth n (length (houseWords depth) * 4)) ≡ 1
-  pub tree-writer : (table b t m root : List ℕ) → numberOf (treeWritten depth table b t m root) ≡ 1
-  pub block-reader : (t m b : List ℕ) → numberOf (blockRead depth t m b) ≡ 1
-  pub sampler : (i : ℕ) (t m s : List ℕ) → numberOf (sampleTaken depth i t m s) ≡ 1
-  pub sample-checker : (i : ℕ) (root s : List ℕ) → numberOf (sampleChecked depth i root s) ≡ 1
-  pub proof-checker : (root table b : List ℕ) → numberOf (proofChecked depth root table b) ≡ 1
-  pub repairer : (root table t m o : List ℕ) → numberOf (repairTested depth root table t m o) ≡ 1
+-- what holds of the number that every call gives at this depth, whatever else it is lent
+pub record EveryCall (depth : ℕ) (P : ℕ → Type 0) : Type 0 where
+  pub table-words : (ws : List ℕ) → P (reader.numberOf (readOf depth ws))
+  pub table-bytes : (b : List ℕ) → P (reader.numberOf (readBytesOf depth b))
+  pub house-words : (n : ℕ) → P (reader.numberOf (houseAnswer depth n (length (houseWords depth))))
+  pub house-bytes : (n : ℕ) → P (reader.numberOf (houseAnswer depth n (length (houseWords depth) * 4)))
+  pub tree-writer : (table b t m root : List ℕ) → P (numberOf (treeWritten depth table b t m root))
+  pub block-reader : (t m b : List ℕ) → P (numberOf (blockRead depth t m b))
+  pub sampler : (i : ℕ) (t m s : List ℕ) → P (numberOf (sampleTaken depth i t m s))
+  pub sample-checker : (i : ℕ) (root s : List ℕ) → P (numberOf (sampleChecked depth i root s))
+  pub proof-checker : (root table b : List ℕ) → P (numberOf (proofChecked depth root table b))
+  pub repairer : (root table t m o : List ℕ) → P (numberOf (repairTested depth root table t m o))
+
+-- it is 1 just when the depth isn't `least` to `most`
+abbrev pub Depths : ℕ → ℕ → Type 0
+Depths least most = (depth : ℕ) → EveryCall depth (λ number. (number ≡ 1) ↔ (((least ≤ depth) × (depth ≤ most)) → ⊥))
 
 -- With the house table and a block of its length, the writer is done just when it is lent a tree of so many symbols, a mark for each, and a root.
 pub record Has (depth symbols : ℕ) : Type 0 where
@@ -154,6 +160,7 @@ pub data Case : Type 0 where
   repairGives : (absent : List ℕ) (gives : List (ℕ × ℕ)) → Case
   repairLeaves : (absent : List ℕ) (end : End) (missing : List ℕ) (stored : ℕ) → Case
   depthStops : (depth : ℕ) → Case
+  depthsAre : (least most : ℕ) → Case
   depthHas : (depth symbols : ℕ) → Case
   longestProof : (depth bytes : ℕ) → Case
   hashStands : (depth i s from upto : ℕ) → Case
@@ -165,7 +172,8 @@ Holds (tableHas n v) = (length (houseWords 1) ≡ n) × (lastOf (houseWords 1) 0
 Holds (symbolIs i b) = symAt tree coded 0 i ≡ replicate 256 b
 Holds (repairGives absent gs) = (o : List ℕ) → Turns gs (entered absent o)
 Holds (repairLeaves absent z missing n) = (o : List ℕ) → length o ≡ 12 + 256 * (8 * 1 - 1) → Leaves absent z missing n o
-Holds (depthStops d) = StopsWith1 d
+Holds (depthStops d) = EveryCall d (λ number. number ≡ 1)
+Holds (depthsAre a b) = Depths a b
 Holds (depthHas d n) = Has d n
 Holds (longestProof d n) = Longest d n
 Holds (hashStands d i s a b) = Stands d i s a b
@@ -190,9 +198,10 @@ cases =
     -- 6. "All absent: unavailable, all sixteen, stored 0."
     ∷ repairLeaves (0 ∷ 1 ∷ 2 ∷ 3 ∷ 4 ∷ 5 ∷ 6 ∷ 7 ∷ 8 ∷ 9 ∷ 10 ∷ 11 ∷ 12 ∷ 13 ∷ 14 ∷ 15 ∷ []) (unavailable 0)
     (0 ∷ 1 ∷ 2 ∷ 3 ∷ 4 ∷ 5 ∷ 6 ∷ 7 ∷ 8 ∷ 9 ∷ 10 ∷ 11 ∷ 12 ∷ 13 ∷ 14 ∷ 15 ∷ []) 0
-    -- 8. "Depth 0 and depth 6: 1. Depth 5 has 496 symbols." Depth 6 is one more than the largest.
+    -- 8. "Depth 0 and depth 6: 1. Depth 5 has 496 symbols." "Depth D is 1 to 5."
     ∷ depthStops 0
-    ∷ depthStops (maxDepth + 1)
+    ∷ depthStops 6
+    ∷ depthsAre 1 5
     ∷ depthHas 5 496
     -- 9. "At depth 5 the longest proof is 9,996 bytes."
     ∷ longestProof 5 9996

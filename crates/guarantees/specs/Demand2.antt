@@ -3,14 +3,10 @@
 -- The definition is that of Trees.antt, 01's, with `sha256`, FIPS 180-4's.
 use mathlib.Core.Path.{_≡_}
 use mathlib.Core.Logic.{_⊎_, _↔_}
-use mathlib.Core.Bool.{true}
 use mathlib.Core.List.{List}
 use Prim.Native.Nat.{ℕ, _-_, _*_, _<_}
 use lib.ListN.{length, getD}
-use Rattle.parity_table.specs.Shape.{depthFits, kOf}
-use Rattle.parity_table.specs.Bytes.{wordsOf, readBytesOf}
-use Rattle.parity_table.specs.declared.Answer.the-variants.{Whole}
-use Rattle.model.specs.Shape.{tree, places}
+use Rattle.parity_table.specs.Bytes.{wordsOf}
 use Rattle.cedunmi.specs.declared.Answer.the-variants.{Done}
 use Rattle.cedunmi.specs.Volume.{treeWritten, treeLeft, marksLeft, rootLeft, blockRead, blockLeft}
 use Rattle.cedunmi.specs.Sample.{sampleTaken, sampleLeft, sampleChecked}
@@ -57,19 +53,6 @@ module _ (depth : ℕ) (table block t m root : List ℕ) where
 
 abbrev pub WritesExactly : Type 0
 WritesExactly = (depth : ℕ) (table block t m root : List ℕ) → treeWritten depth table block t m root ≡ Done → Exactly depth table block t m root
-
--- a call is done just when depth, lengths and table are right
-pub record WriterInput (depth : ℕ) (table block t m root : List ℕ) : Type 0 where
-  pub fit-depth : depthFits depth ≡ true
-  pub whole-table : readBytesOf depth table ≡ Whole
-  pub block-full : length block ≡ 256 * kOf (depth - 1)
-  pub tree-full : length t ≡ 256 * places tree depth
-  pub marks-full : length m ≡ places tree depth
-  pub root-full : length root ≡ 512
-
-abbrev pub WritesJustWhen : Type 0
-WritesJustWhen =
-    (depth : ℕ) (table block t m root : List ℕ) → (treeWritten depth table block t m root ≡ Done) ↔ WriterInput depth table block t m root
 
 -- whatever the lent buffers held
 abbrev pub WritesTheSame : Type 0
@@ -176,7 +159,6 @@ AcceptedIsTrue =
 
 pub record Demand2 : Type 0 where
   pub writes-exactly : WritesExactly
-  pub writes-just-when : WritesJustWhen
   pub writes-the-same : WritesTheSame
   pub reads-complete : ReadsComplete
   pub reads-base : ReadsBase

@@ -7,10 +7,6 @@ use Prim.Native.Nat.{ℕ, zero, suc, _+_, _-_, _*_, _≤_, _<_}
 use lib.ListN.{length, getD, take, drop, replicate}
 use Rattle.octets.specs.Choice.{pick}
 use Rattle.sha256.specs.Hash.{sha256}
-use Rattle.parity_table.specs.Shape.{depthFits}
-use Rattle.parity_table.specs.Bytes.{readBytesOf}
-use Rattle.parity_table.specs.declared.Answer.the-variants.{Whole}
-use Rattle.model.specs.Shape.{tree, places}
 use Rattle.model.specs.Repair.{whole, fault, unavailable, twins, St}
 use Rattle.cedunmi.specs.declared.Answer.the-variants.{Done}
 use Rattle.cedunmi.specs.Proof.{proofChecked}
@@ -195,20 +191,7 @@ module _ (depth : ℕ) (root table t m o : List ℕ) where
     pub one-of-four : EndsWhole ⊎ (EndsFault ⊎ (EndsUnavailable ⊎ EndsTwins))
     pub every-end : EveryEnd
 
--- "Input to a repair is well-formed when no numbered test turns it away": depth, lengths and table are right, and every mark is 0 or 1
-pub record RepairInput (depth : ℕ) (root table t m o : List ℕ) : Type 0 where
-  pub fit-depth : depthFits depth ≡ true
-  pub whole-table : readBytesOf depth table ≡ Whole
-  pub root-full : length root ≡ 512
-  pub tree-full : length t ≡ 256 * places tree depth
-  pub marks-full : length m ≡ places tree depth
-  pub out-full : length o ≡ 12 + 256 * (8 * depth - 1)
-  pub marks-right : (p : ℕ) → p < places tree depth → getD m p 0 ≤ 1
-
-abbrev pub WellFormedJustWhen : Type 0
-WellFormedJustWhen =
-    (depth : ℕ) (root table t m o : List ℕ) → (repairTested depth root table t m o ≡ Done) ↔ RepairInput depth root table t m o
-
+-- "Input to a repair is well-formed when no numbered test turns it away before layer 0 is entered": just when, is in Refusals.antt.
 abbrev pub Repairs : Type 0
 Repairs = (depth : ℕ) (root table t m o : List ℕ) → repairTested depth root table t m o ≡ Done → Repair depth root table t m o
 
@@ -216,5 +199,4 @@ Repairs = (depth : ℕ) (root table t m o : List ℕ) → repairTested depth roo
 
 pub record Demand3 : Type 0 where
   pub checker : Checker
-  pub well-formed-just-when : WellFormedJustWhen
   pub repairs : Repairs
