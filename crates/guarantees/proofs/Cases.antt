@@ -10,7 +10,7 @@ use lib.ListN.{length}
 use Rattle.octets.specs.BigEndian.{bytesOf}
 use Rattle.parity_table.specs.Shape.{depthFits, kOf, nOf}
 use Rattle.parity_table.specs.Members.{lastOf}
-use Rattle.parity_table.specs.Table.{endWord, layerOf, equationOf, equationsWords, layersWords, tableWords}
+use Rattle.parity_table.specs.Table.{layerOf, equationOf, equationsWords, layersWords, tableWords}
 use Rattle.parity_table.specs.Bytes.{wordsOf}
 use Rattle.parity_table.specs.House.{houseEquation, houseEquations, houseLayers, houseTable, houseWords}
 use Rattle.parity_table.proofs.Accepts.{accepted-table}
@@ -25,7 +25,9 @@ use Rattle.cedunmi.proofs.LoadLaws.{table-laws-of}
 use Rattle.cedunmi.proofs.Sound.{passed}
 use Rattle.guarantees.specs.Terms.{equationsOf}
 use Rattle.guarantees.specs.Cases.{coded, EveryCall, Depths, Has, Longest, Stands, none, _also_, CasesHold}
+use Rattle.guarantees.specs.Layouts.{bytesFrom, symbolAt, hashFor, kindValue}
 use Rattle.guarantees.specs.Answers.{done, test, fails, holds, unless, JustWhen}
+use Rattle.guarantees.proofs.Layouts.{symbol-at}
 use Rattle.guarantees.proofs.Demand1.{demand-1}
 use Rattle.guarantees.proofs.Demand2.{coding, written-when}
 use Rattle.guarantees.proofs.RepairCases.{listed, coded-is, two-turns, two-absent, eight-absent, all-absent}
@@ -139,18 +141,18 @@ longest =
 -- ---- case 10
 
 stands : Stands 2 31 3 224 255
-unfolding slot kOf nOf symbolHash
-stands = record { bytes = refl; stands = λ tbl f deep c. c .stands 0 31 (omega arith, omega arith) }
+unfolding hashFor bytesFrom
+stands = record { bytes = refl; stands = λ tbl f c. c .hashes-stand 0 31 (omega arith) (omega arith) }
 
 -- ---- all of them
 
-table-size : (length (houseWords 1) ≡ 61) × (lastOf (houseWords 1) 0 ≡ endWord 60)
+table-size : (length (houseWords 1) ≡ 61) × (lastOf (houseWords 1) 0 ≡ kindValue 3 60)
 unfolding houseTable houseLayers houseEquations houseEquation houseWords tableWords layersWords equationsWords lastOf kOf
 table-size = (refl, refl)
 
 -- symbol i, as it is listed
-symbol : (i : ℕ) → symAt tree coded 0 i ≡ symAt tree listed 0 i
-symbol i = ap (λ (t : List ℕ). symAt tree t 0 i) coded-is
+symbol : (i : ℕ) → symbolAt coded 0 i ≡ symAt tree listed 0 i
+symbol i = symbol-at coded 0 i ∙ ap (λ (t : List ℕ). symAt tree t 0 i) coded-is
 
 pub cases-hold : CasesHold
 unfolding houseTable houseLayers houseEquations houseEquation layerOf equationOf kOf nOf depthFits places place symAt symbolIn

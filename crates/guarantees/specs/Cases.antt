@@ -11,14 +11,13 @@ use Rattle.octets.specs.BigEndian.{bytesOf}
 use Rattle.sha256.specs.Hash.{sha256}
 use Rattle.parity_table.specs.Reader.{readOf}
 use Rattle.parity_table.specs.Members.{every, lastOf}
-use Rattle.parity_table.specs.Table.{equationOf, endWord}
+use Rattle.parity_table.specs.Table.{equationOf}
 use Rattle.parity_table.specs.Bytes.{readBytesOf}
 use Rattle.parity_table.specs.House.{houseTable, houseWords, houseAnswer}
 use Rattle.parity_table.specs.Right as reader
 use Rattle.symbol_hash.specs.SymbolHash.{symbolHash}
 use Rattle.model.specs.Shape.{tree, places}
 use Rattle.model.specs.Symbols.{zeros, symAt, putAt}
-use Rattle.model.specs.Coded.{Coded}
 use Rattle.model.specs.Fault.{proofLength}
 use Rattle.model.specs.Repair.{End, working, whole, unavailable, St, absentAt, lowestEq, step, enter}
 use Rattle.cedunmi.specs.declared.Answer.{Answer}
@@ -28,7 +27,8 @@ use Rattle.cedunmi.specs.Volume.{treeWritten, blockRead}
 use Rattle.cedunmi.specs.Sample.{sampleTaken, sampleChecked}
 use Rattle.cedunmi.specs.Proof.{proofChecked}
 use Rattle.cedunmi.specs.Repairs.{repairTested, repairOf, repaired, ended, leftBy}
-use Rattle.guarantees.specs.Layouts.{dataSymbols}
+use Rattle.guarantees.specs.Layouts.{dataSymbols, symbolAt, kindValue}
+use Rattle.guarantees.specs.Trees.{CorrectlyCoded}
 use Rattle.guarantees.specs.Terms.{equationsOf}
 use Rattle.guarantees.specs.Demand2.{treeAfter, rootAfter}
 
@@ -147,8 +147,7 @@ pub record Longest (depth bytes : ℕ) : Type 0 where
 -- In every correctly coded tree of this depth the hash of base symbol i stands in data symbol s of the layer above, in these bytes.
 pub record Stands (depth i s from upto : ℕ) : Type 0 where
   pub bytes : upto ≡ from + 31
-  pub stands : (tbl : List (List (List ℕ))) (f : ℕ → ℕ → List ℕ) → length tbl ≡ depth → Coded tree symbolHash tbl f
-      → take 32 (drop from (f (depth - 2) s)) ≡ sha256 (f (depth - 1) i)
+  pub stands : (tbl : List (List (List ℕ))) (f : ℕ → ℕ → List ℕ) → CorrectlyCoded depth tbl f → take 32 (drop from (f (depth - 2) s)) ≡ sha256 (f (depth - 1) i)
 
 -- ---- the table
 
@@ -168,8 +167,8 @@ pub data Case : Type 0 where
 -- what a row says
 abbrev pub Holds : Case → Type 0
 Holds (equationIs e ms) = equationOf (houseTable 1) 0 e ≡ ms
-Holds (tableHas n v) = (length (houseWords 1) ≡ n) × (lastOf (houseWords 1) 0 ≡ endWord v)
-Holds (symbolIs i b) = symAt tree coded 0 i ≡ replicate 256 b
+Holds (tableHas n v) = (length (houseWords 1) ≡ n) × (lastOf (houseWords 1) 0 ≡ kindValue 3 v)
+Holds (symbolIs i b) = symbolAt coded 0 i ≡ replicate 256 b
 Holds (repairGives absent gs) = (o : List ℕ) → Turns gs (entered absent o)
 Holds (repairLeaves absent z missing n) = (o : List ℕ) → length o ≡ 12 + 256 * (8 * 1 - 1) → Leaves absent z missing n o
 Holds (depthStops d) = EveryCall d (λ number. number ≡ 1)
