@@ -1,14 +1,21 @@
--- Bytes as lower-case hexadecimal digits. Definitions only.
+-- Bytes as hexadecimal digits. Definitions only.
 use mathlib.Core.List.{List, [], _∷_}
-use Prim.Native.Nat.{ℕ, _+_, _/_, _%_}
+use Prim.Native.Nat.{ℕ, _+_, _-_, _/_, _%_}
 use lib.Dec.{ltb}
 use Rattle.octets.specs.Choice.{pick}
 
--- the character of a digit below 16: 0 to 9, a to f
-unfoldable pub hexDigit : ℕ → ℕ
-hexDigit n = pick (ltb n 10) (48 + n) (87 + n)
+-- the character of a digit below 16: 0 to 9, then six letters, of which the first is given
+unfoldable pub hexDigit : ℕ → ℕ → ℕ
+hexDigit letter n = pick (ltb n 10) (48 + n) (letter + (n - 10))
+
+-- the letters from a on, and from A on
+abbrev pub lower : ℕ
+lower = 97
+
+abbrev pub upper : ℕ
+upper = 65
 
 -- two digits to a byte
-unfoldable pub hexOf : List ℕ → List ℕ
-hexOf [] = []
-hexOf (x ∷ xs) = hexDigit (x / 16) ∷ hexDigit (x % 16) ∷ hexOf xs
+unfoldable pub hexOf : ℕ → List ℕ → List ℕ
+hexOf letter [] = []
+hexOf letter (x ∷ xs) = hexDigit letter (x / 16) ∷ hexDigit letter (x % 16) ∷ hexOf letter xs

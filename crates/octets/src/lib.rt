@@ -1,5 +1,5 @@
 // Work on byte slices: 32-bit words in them, the highest byte first; copies; their hexadecimal form.
-mod hex;
+pub mod hex;
 mod lists;
 
 pub use hex::put_hex;

@@ -11,10 +11,10 @@ add-result-2 : tie.Need-add-result-2
 add-result-2 c = search needs
 
 returns : tie.Need-returns
-returns c = digit-low _ (c .if1 .taken)
+returns c = digit-low _ _ (c .if1 .taken)
 
 returns-2 : tie.Need-returns-2
-returns-2 c = digit-high _ (c .if1 .left)
+returns-2 c = digit-high _ _ (c .if1 .left)
 
 pub digit-spec : {M : Type 1} → statement M
 digit-spec = tie.close (tie.spec add-result add-result-2 returns returns-2)

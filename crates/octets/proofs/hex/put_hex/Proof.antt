@@ -4,14 +4,14 @@ use Prim.Native.Nat.{_-_, _*_, _≤_}
 use native.Mathlib.Omega.{arith}
 use lib.ListN.{length, take, length-set}
 use borrow.Author.Needs.{needs}
-use Rattle.octets.specs.Hex.{hexOf}
+use Rattle.octets.specs.Hex.{hexOf, lower}
 use Rattle.octets.proofs.HexLaws.{hex-more, hex-all}
 use Rattle.octets.proofs.hex.put_hex.Statement.{statement}
 use Rattle.octets.proofs.hex.put_hex.Tie as tie
 
 abbrev Inv-loop : tie.InvT-loop
 Inv-loop s out₀ i₀ i-end out i =
-    (i ≤ i-end) × (i-end ≡ length s) × (length out ≡ length s * 2) × (take (i * 2) out ≡ hexOf (take i s))
+    (i ≤ i-end) × (i-end ≡ length s) × (length out ≡ length s * 2) × (take (i * 2) out ≡ hexOf lower (take i s))
 
 abbrev μ-loop : tie.MeasureT-loop
 μ-loop s out₀ i₀ i-end out i = length s - i
@@ -55,13 +55,13 @@ loop-less c = search needs
 
 loop-again : tie.Need-loop-again Inv-loop μ-loop
 loop-again c =
-    (omega arith, c .before .before .before .before .before .loop .inv .1, simp length-set (c .before .before .before .before .before .loop .inv .2), hex-more _ _ (c .before .before .before .before .before .loop .i) _ _ (omega arith) (c .before .before .before .before .before .loop .inv .2) (c .before .before .before .before .before .loop .inv .3) (c .before .before .high .ensures) (c .low .ensures))
+    (omega arith, c .before .before .before .before .before .loop .inv .1, simp length-set (c .before .before .before .before .before .loop .inv .2), hex-more lower _ _ (c .before .before .before .before .before .loop .i) _ _ (omega arith) (c .before .before .before .before .before .loop .inv .2) (c .before .before .before .before .before .loop .inv .3) (c .before .before .high .ensures) (c .low .ensures))
 
 same-length : tie.Need-same-length Inv-loop μ-loop
 same-length c = omega arith
 
 returns : tie.Need-returns Inv-loop μ-loop
-returns c = hex-all _ _ (c .before .loop .i) (omega arith) (c .before .loop .inv .2) (c .before .loop .inv .3)
+returns c = hex-all lower _ _ (c .before .loop .i) (omega arith) (c .before .loop .inv .2) (c .before .loop .inv .3)
 
 pub put-hex-spec : {M : Type 1} → statement M
 put-hex-spec =
