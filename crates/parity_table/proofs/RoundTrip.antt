@@ -149,7 +149,11 @@ module _ (d : ℕ) (tbl : List (List (List ℕ))) (o : TableOk d tbl) (t : depth
   pub table-bytes-say : tableOf (wordsOf (bytesOf (tableWords tbl))) ≡ tbl
   table-bytes-say = ap tableOf (words-bytes (tableWords tbl) table-word) ∙ tableOf-words d tbl o (depth-is d t .1)
 
--- the house table is accepted as bytes, at every depth
+-- the house table goes to bytes and back, at every depth
+pub house-bytes-words : (d : ℕ) → d ≤ maxDepth → wordsOf (bytesOf (houseWords d)) ≡ houseWords d
+house-bytes-words d h = let n = house-small d h in words-bytes (houseWords d) (house-word d h (omega (arith, n)))
+
+-- and is accepted as bytes
 pub house-bytes-accepted : (d : ℕ) → depthFits d ≡ true → readBytesOf d (bytesOf (houseWords d)) ≡ Whole
 unfolding houseWords
 house-bytes-accepted d t = table-bytes-accepted d (houseTable d) (house-rules d) t (omega (arith, house-small d (depth-is d t .1)))
