@@ -7,25 +7,21 @@ use native.Mathlib.Omega.{arith}
 use native.Mathlib.Decide.{decLt}
 use lib.ListN.{length, getD, List·getD-append}
 use lib.Seq.{getD-append-add}
-use Rattle.octets.specs.BigEndian.{wordAt, words, bytesOf}
+use Rattle.octets.specs.BigEndian.{wordAt, words}
 use Rattle.octets.proofs.Bytes.{length-words}
 use Rattle.parity_table.specs.Shape.{kOf}
 use Rattle.parity_table.specs.Table.{layerOf, equationOf}
 use Rattle.parity_table.specs.Bytes.{wordsOf}
 use Rattle.parity_table.specs.House.{dataOne, dataTwo, houseEquation, houseTable, houseWords}
-use Rattle.parity_table.proofs.Accepts.{depth-is}
 use Rattle.parity_table.proofs.ByteForm.{wordsOf-length}
 use Rattle.parity_table.proofs.HouseRules.{house-rules, house-members}
-use Rattle.parity_table.proofs.HouseParts.{house-small}
-use Rattle.parity_table.proofs.RoundTrip.{table-bytes-say, house-bytes-accepted}
+use Rattle.parity_table.proofs.RoundTrip.{house-bytes-words}
 use Rattle.guarantees.specs.Layouts.{dataSymbols, wordNo}
-use Rattle.guarantees.specs.Tables.{listed, IsMember}
+use Rattle.guarantees.specs.Tables.{IsMember}
 use Rattle.guarantees.specs.Trees.{members}
 use Rattle.guarantees.specs.House.{WordsOf, HouseMember, HouseTable}
 use Rattle.guarantees.proofs.Layouts.{word-at}
 use Rattle.guarantees.proofs.Tables.{ok-rules, listed-words}
-use Rattle.guarantees.proofs.Refusals.{depth-fits}
-use Rattle.guarantees.proofs.Demand2.{words-listed}
 
 -- ---- words
 
@@ -99,8 +95,5 @@ house-table =
           let same = house-members d j e hj he in
           (λ m. member-said (kOf j) e x (subst (IsMember x) same m), λ h. subst (IsMember x) (sym same) (said-member (kOf j) e x h));
       words-are = λ d. sym (listed-words (houseTable d));
-      bytes-are = λ d some few.
-          let t = depth-fits d (some, few) in
-          words-listed d (bytesOf (houseWords d)) (house-bytes-accepted d t)
-          ∙ ap listed (table-bytes-say d (houseTable d) (house-rules d) t (omega (arith, house-small d few)));
+      bytes-are = λ d few. house-bytes-words d few ∙ sym (listed-words (houseTable d));
     }

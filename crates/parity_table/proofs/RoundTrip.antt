@@ -151,7 +151,9 @@ module _ (d : ℕ) (tbl : List (List (List ℕ))) (o : TableOk d tbl) (t : depth
 
 -- the house table goes to bytes and back, at every depth
 pub house-bytes-words : (d : ℕ) → d ≤ maxDepth → wordsOf (bytesOf (houseWords d)) ≡ houseWords d
-house-bytes-words d h = let n = house-small d h in words-bytes (houseWords d) (house-word d h (omega (arith, n)))
+unfolding houseWords
+house-bytes-words d h =
+    words-bytes (tableWords (houseTable d)) (table-words d (houseTable d) (house-rules d) h (omega (arith, house-small d h)))
 
 -- and is accepted as bytes
 pub house-bytes-accepted : (d : ℕ) → depthFits d ≡ true → readBytesOf d (bytesOf (houseWords d)) ≡ Whole
