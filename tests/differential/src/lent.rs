@@ -1,7 +1,7 @@
 //! Buffers as a caller lends them: each inside a larger array of known bytes,
 //! so that a write beside the buffer shows, and at a chosen alignment.
 
-use crate::difference::Difference;
+use crate::difference::{same_bytes, Difference};
 use std::ops::Range;
 
 /// Known bytes on each side of a lent buffer, at the least.
@@ -45,12 +45,7 @@ impl Lent {
         assert_eq!(expected.len(), self.len);
         let end = self.start + self.len;
         self.check_guard(0..self.start)?;
-        let found = &self.array[self.start..end];
-        if found != expected {
-            let mut pairs = expected.iter().zip(found).enumerate();
-            let (at, (&expected, &found)) = pairs.find(|(_, (e, f))| e != f).expect("a byte");
-            return Err(Difference::Inside { buffer: self.name, at, expected, found });
-        }
+        same_bytes(self.name, expected, &self.array[self.start..end])?;
         self.check_guard(end..self.array.len())
     }
 
@@ -94,7 +89,7 @@ mod tests {
             match lent.check(&content).unwrap_err() {
                 Difference::Inside { at: found, .. } => assert_eq!(found as isize, at),
                 Difference::Outside { at: found, .. } => assert_eq!(found, at),
-                Difference::Result { .. } => unreachable!(),
+                Difference::Result { .. } | Difference::Length { .. } => unreachable!(),
             }
         }
     }

@@ -33,19 +33,6 @@ fn place_of_a_hash() {
     assert_eq!(symbol_at(&w.tree, 3)[224..], hash);
 }
 
-/// What the program `listing` prints.
-#[test]
-fn listing() {
-    let w = Written::new(1, &house(1), &cases_block());
-    let mut lines = vec![format!("tree 1 {}", w.marks.len())];
-    for number in 0..w.marks.len() {
-        lines.push(format!("{number} {:02X}", symbol_at(&w.tree, number)[0]));
-    }
-    let expected = "tree 1 16,0 01,1 02,2 04,3 08,4 03,5 05,6 09,7 00,8 05,9 0F,10 0A,11 00,\
-        12 09,13 0A,14 0C,15 00";
-    assert_eq!(lines.join(","), expected);
-}
-
 /// Every equation holds, every hash stands in its place, and the block comes
 /// back.
 #[test]
