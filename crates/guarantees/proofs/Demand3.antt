@@ -45,12 +45,11 @@ use Rattle.guarantees.specs.Trees.{members, EquationHolds}
 use Rattle.guarantees.specs.Terms.{equationsOf}
 use Rattle.guarantees.specs.Demand3.{howMany, meets, inLayers, Gap, NotTaken, Took, LastOfFailing, Checker, AsTheSteps, EveryEnd, EndsWhole, EndsFault, EndsUnavailable, EndsTwins, Repair, Demand3}
 use Rattle.guarantees.proofs.Layouts.{tree-symbols, symbol-at, mark-at, hash-for, xor-one, xor-of}
-use Rattle.guarantees.proofs.Membership.{every-member-of, counted-member, member-other, two-passing, member-apart, last-apart}
+use Rattle.guarantees.proofs.Membership.{every-member-of, counted-member, member-other, two-passing, member-apart, last-apart, others-apart}
 use Rattle.guarantees.proofs.Marks.{held-marked, all-right}
 use Rattle.guarantees.proofs.Tables.{ok-rules}
 use Rattle.guarantees.proofs.Trees.{symbols-are, agrees-with, with-agrees, twins-of}
 use Rattle.guarantees.proofs.Refusals.{absent-said, absent-seen}
-use Rattle.guarantees.proofs.ProofHeads.{others-apart}
 use Rattle.guarantees.proofs.FaultProofs.{fault-proofs}
 use Rattle.guarantees.proofs.Demand2.{rules}
 
@@ -366,7 +365,7 @@ module _ (depth : ℕ) (root table t m o : List ℕ) (e : repairTested depth roo
       }
 
   ends-fault : (j q w n : ℕ) → st .end ≡ fault j q w n → FaultEnd tree symbolHash root tbl o j q w n st → EndsFault depth root table t m o
-  unfolding kOf nOf
+  unfolding kOf nOf layerOf equationOf
   ends-fault j q w n z x =
       let k = x .taken in
       let (front, back, s) = member-apart w (equationOf tbl j q) (is-member j q w k (x .last)) in

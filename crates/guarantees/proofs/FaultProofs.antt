@@ -13,7 +13,7 @@ use Rattle.octets.specs.ByteLists.{same}
 use Rattle.octets.proofs.Choice.{by-test, pick-no, pick-ind, and-yes, yes-and, both, not-yes, not-no}
 use Rattle.sha256.specs.Hash.{sha256}
 use Rattle.parity_table.specs.Shape.{maxDepth, depthFits}
-use Rattle.parity_table.specs.Table.{TableOk, WellFormed}
+use Rattle.parity_table.specs.Table.{layerOf, equationOf, TableOk, WellFormed}
 use Rattle.parity_table.specs.Bytes.{wordsOf, lengthFits, readBytesOf}
 use Rattle.parity_table.specs.Reader.{readOf}
 use Rattle.parity_table.specs.Right.{Right}
@@ -112,7 +112,7 @@ module _ (depth : ℕ) (tbl : List (List (List ℕ))) (b : List ℕ) (shallow : 
 
     module _ (x : Exact h) where
       xor-is : XorOf (λ p. givenSymbol b j p 0) g (givenXor j (given h) (drop 12 b))
-      unfolding givenSymbol
+      unfolding givenSymbol layerOf equationOf
       xor-is =
           given-xor-of b j (given h) 12 (λ p. givenSymbol b j p 0)
           (omega (arith, ap (λ (n : ℕ). n * (j + 1)) (named-fitting depth tbl b shallow o h .given-count)))
@@ -250,15 +250,14 @@ module _ (depth : ℕ) (root table b : List ℕ) where
       let lr : ProofLengths root table b =
       record {
         root-full = eqb-true (length root) 512 r;
-        table-short = leb-true (length table) 16384 m;
-        table-whole = eqb-true (length table % 4) 0 q;
+        table-length = record { not-over = leb-true (length table) 16384 m; in-words = eqb-true (length table % 4) 0 q };
         head-there = leb-true 12 (length b) s;
       } in
       pass _ 2 _ from3 lr (subst (λ (a : Read). By from3 (byTable a ruled)) (bytes-words depth table t u) (at-3 dr t lr (readOf depth ws) (read-right depth ws))))
       (λ u.
       subst (λ (a : Read). By (test 2 (unless (ProofLengths root table b)) from3) (byTable a ruled)) (bytes-length depth table t u)
       (stop Length 1 _ from3 refl refl
-      (λ lr. both (yes-and (le-leb (length table) 16384 (lr .table-short)) (eq-eqb (length table % 4) 0 (lr .table-whole))) u))))
+      (λ lr. both (yes-and (le-leb (length table) 16384 (lr .table-length .not-over)) (eq-eqb (length table % 4) 0 (lr .table-length .in-words))) u))))
       (λ l.
       stop Length 1 _ from3 refl refl (λ lr. both (yes-and (eq-eqb (length root) 512 (lr .root-full)) (le-leb 12 (length b) (lr .head-there))) l))
 
@@ -275,7 +274,7 @@ module _ (depth : ℕ) (root table b : List ℕ) where
       let t : depthFits depth ≡ true = depth-fits depth (r .depth-right) in
       let lr = r .lengths-right in
       let whole : readBytesOf depth table ≡ read.Whole =
-      sym (bytes-words depth table t (yes-and (le-leb (length table) 16384 (lr .table-short)) (eq-eqb (length table % 4) 0 (lr .table-whole))))
+      sym (bytes-words depth table t (yes-and (le-leb (length table) 16384 (lr .table-length .not-over)) (eq-eqb (length table % 4) 0 (lr .table-length .in-words))))
       ∙ formed-accepted depth ws t (right-formed depth ws (r .table-right)) in
       let o : TableOk depth tbl = formed-rules depth ws (right-formed depth ws (r .table-right)) (r .depth-right .1) in
       let h = r .named in

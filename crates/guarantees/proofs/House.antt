@@ -15,13 +15,15 @@ use Rattle.parity_table.specs.Bytes.{wordsOf}
 use Rattle.parity_table.specs.House.{dataOne, dataTwo, houseEquation, houseTable, houseWords}
 use Rattle.parity_table.proofs.ByteForm.{wordsOf-length}
 use Rattle.parity_table.proofs.HouseRules.{house-rules, house-members}
+use Rattle.parity_table.proofs.Parse.{formed-rules, formed-words}
 use Rattle.parity_table.proofs.RoundTrip.{house-bytes-words}
 use Rattle.guarantees.specs.Layouts.{dataSymbols, wordNo}
 use Rattle.guarantees.specs.Tables.{IsMember}
 use Rattle.guarantees.specs.Trees.{members}
+use Rattle.guarantees.specs.Terms.{equationsOf}
 use Rattle.guarantees.specs.House.{WordsOf, HouseMember, HouseTable}
 use Rattle.guarantees.proofs.Layouts.{word-at}
-use Rattle.guarantees.proofs.Tables.{ok-rules, listed-words}
+use Rattle.guarantees.proofs.Tables.{ok-rules, listed-words, right-formed}
 
 -- ---- words
 
@@ -90,6 +92,11 @@ unfolding houseWords layerOf equationOf kOf
 house-table =
     record {
       words-of = words-of;
+      equations-of = λ d table (some, few) r.
+          let f = right-formed d (wordsOf table) r in (
+            ok-rules d (equationsOf table) (formed-rules d (wordsOf table) f few),
+            formed-words d (wordsOf table) f few ∙ sym (listed-words (equationsOf table)),
+          );
       by-rules = λ d. ok-rules d (houseTable d) (house-rules d);
       members-are = λ d j e x hj he.
           let same = house-members d j e hj he in

@@ -1,18 +1,17 @@
 -- Members of an equation, by their places in its list.
-use mathlib.Core.Path.{_≡_, refl, sym, ap, _∙_, subst}
+use mathlib.Core.Path.{_≡_, refl, sym, ap, _∙_}
 use mathlib.Core.Logic.{_≢_}
-use mathlib.Core.Bool.{Bool, true, false, _&&_}
+use mathlib.Core.Bool.{Bool, true, _&&_}
 use mathlib.Core.List.{List, [], _∷_, _++_}
 use Prim.Native.Nat.{ℕ, zero, suc, _+_, _≤_, _<_}
 use native.Mathlib.Omega.{arith}
 use lib.ListN.{length, getD}
 use lib.Dec.{ltb, eqb}
-use borrow.Author.Tests.{ltb-true, eqb-true, eqb-false, eq-eqb, ne-eqb}
-use Rattle.octets.specs.Choice.{pick}
-use Rattle.octets.proofs.Choice.{by-test, pick-ind, and-yes}
+use borrow.Author.Tests.{ltb-true, eqb-true, eq-eqb}
+use Rattle.octets.proofs.Choice.{by-test, pick-ind, pick-yes, pick-no, and-yes}
 use Rattle.parity_table.specs.Members.{every, ascending, lastOf}
 use Rattle.model.specs.Symbols.{bit, count, others}
-use Rattle.model.proofs.Counts.{isIt}
+use Rattle.model.proofs.Counts.{isIt, others-none}
 use Rattle.guarantees.specs.Tables.{IsMember}
 
 member-first : (x : ℕ) (xs : List ℕ) → IsMember x (x ∷ xs)
@@ -88,3 +87,20 @@ unfolding lastOf
 last-apart [] z h = absurd (omega arith)
 last-apart (x ∷ []) z h = ([], refl)
 last-apart (x ∷ y ∷ ys) z h = let (front, s) = last-apart (y ∷ ys) x (omega arith) in (x ∷ front, ap (λ (l : List ℕ). x ∷ l) s)
+
+-- ---- members, one of them set apart
+
+module _ (x : ℕ) where
+  pub count-apart : (front back : List ℕ) → 1 ≤ count (isIt x) (front ++ (x ∷ back))
+  unfolding count
+  count-apart [] back = omega (arith, ap bit (eq-eqb x x refl))
+  count-apart (y ∷ front) back = omega (arith, count-apart front back)
+
+  -- it stands there only
+  pub others-apart : (front back : List ℕ) → count (isIt x) (front ++ (x ∷ back)) ≤ 1 → others x (front ++ (x ∷ back)) ≡ front ++ back
+  unfolding count others
+  others-apart [] back h =
+      pick-yes (eqb x x) _ _ (eq-eqb x x refl) ∙ others-none x back (omega (arith, ap bit (eq-eqb x x refl)))
+  others-apart (y ∷ front) back h =
+      by-test (eqb y x) (λ t. absurd (omega (arith, ap bit t, count-apart front back)))
+      (λ t. pick-no (eqb y x) _ _ t ∙ ap {B = List ℕ} (λ l. y ∷ l) (others-apart front back (omega (arith, ap bit t))))

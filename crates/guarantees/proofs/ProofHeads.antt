@@ -20,39 +20,10 @@ use Rattle.model.proofs.Counts.{isIt, ascending-once, others-none, every-member
 use Rattle.model.proofs.Tables.{TableLaws, table-laws}
 use Rattle.model.proofs.Sound.{head-names}
 use Rattle.guarantees.specs.Layouts.{dataSymbols, wordNo, kindValue}
+use Rattle.guarantees.specs.Trees.{members}
 use Rattle.guarantees.specs.FaultProofs.{Named, given}
 use Rattle.guarantees.proofs.Layouts.{word-at, data-symbols}
-
--- ---- members, one of them set apart
-
-module _ (x : ℕ) where
-  pub count-apart : (front back : List ℕ) → 1 ≤ count (isIt x) (front ++ (x ∷ back))
-  unfolding count
-  count-apart [] back = omega (arith, ap bit (eq-eqb x x refl))
-  count-apart (y ∷ front) back = omega (arith, count-apart front back)
-
-  -- it stands there only
-  pub others-apart : (front back : List ℕ) → count (isIt x) (front ++ (x ∷ back)) ≤ 1 → others x (front ++ (x ∷ back)) ≡ front ++ back
-  unfolding count others
-  others-apart [] back h =
-      pick-yes (eqb x x) _ _ (eq-eqb x x refl) ∙ others-none x back (omega (arith, ap bit (eq-eqb x x refl)))
-  others-apart (y ∷ front) back h =
-      by-test (eqb y x) (λ t. absurd (omega (arith, ap bit t, count-apart front back)))
-      (λ t. pick-no (eqb y x) _ _ t ∙ ap {B = List ℕ} (λ l. y ∷ l) (others-apart front back (omega (arith, ap bit t))))
-
-  record Apart (ms : List ℕ) : Type 0 where
-    front : List ℕ
-    back : List ℕ
-    apart : ms ≡ front ++ (x ∷ back)
-
-  member-apart : (ms : List ℕ) → 1 ≤ count (isIt x) ms → Apart ms
-  unfolding count
-  member-apart [] h = absurd (omega arith)
-  member-apart (y ∷ ms) h =
-      by-test (eqb y x) (λ t. record { front = []; back = ms; apart = ap {B = List ℕ} (λ z. z ∷ ms) (eqb-true y x t) })
-      (λ t.
-      let r = member-apart ms (omega (arith, ap bit t)) in
-      record { front = y ∷ r .front; back = r .back; apart = ap {B = List ℕ} (λ l. y ∷ l) (r .apart) })
+use Rattle.guarantees.proofs.Membership.{counted-member, member-apart, count-apart, others-apart}
 
 -- ---- words of the head
 
@@ -111,9 +82,10 @@ module _ (depth : ℕ) (tbl : List (List (List ℕ))) (b : List ℕ) (shallow : 
 
   module _ (h : Named depth tbl b) where
     abbrev ms : List ℕ
-    ms = equationOf tbl (h .layer) (h .equation)
+    ms = members tbl (h .layer) (h .equation)
 
     pub named-fitting : Fitting tbl (h .layer) (h .equation) (h .withheld) (h .front) (h .back)
+    unfolding layerOf equationOf
     named-fitting =
         fitting tbl (h .layer) (h .equation) (h .withheld) (h .front) (h .back) depth shallow o (h .has-layer) (h .has-equation) (h .has-member)
 
@@ -132,11 +104,11 @@ module _ (depth : ℕ) (tbl : List (List (List ℕ))) (b : List ℕ) (shallow : 
     is-withheld = read-value b 2 3 (h .withheld) (h .head .withheld-word) (named-fitting .small-member)
 
     pub is-members : proofMembers tbl b ≡ ms
-    unfolding proofMembers
+    unfolding proofMembers layerOf equationOf
     is-members = ap₂ (equationOf tbl) is-layer is-equation
 
     pub is-given : proofGiven tbl b ≡ given h
-    unfolding proofGiven
+    unfolding proofGiven layerOf equationOf
     is-given = ap₂ others is-withheld is-members ∙ named-fitting .given-are
 
     -- what is so of the parts that are read is so of those that are named, and the other way round
@@ -158,7 +130,7 @@ module _ (depth : ℕ) (tbl : List (List (List ℕ))) (b : List ℕ) (shallow : 
 
     -- the head passes
     pub named-ok : headOk tbl b ≡ true
-    unfolding headOk layerOk equationOk memberOk
+    unfolding headOk layerOk equationOk memberOk layerOf equationOf
     named-ok =
         yes-and
         (yes-and (eq-eqb _ 1 (read-kind b 0 1 (h .layer) (h .head .layer-word) (named-fitting .small-layer))) (lt-ltb _ (length tbl) (omega (arith, is-layer, named-fitting .in-table))))
@@ -171,19 +143,20 @@ module _ (depth : ℕ) (tbl : List (List (List ℕ))) (b : List ℕ) (shallow : 
   -- ---- a head that passes names them
 
   pub ok-named : headOk tbl b ≡ true → Named depth tbl b
-  unfolding headOk layerOk equationOk memberOk proofLayer proofEquation proofWithheld proofMembers
+  unfolding headOk layerOk equationOk memberOk proofLayer proofEquation proofWithheld proofMembers layerOf equationOf
   ok-named t =
       let (t₁, t′) = and-yes (layerOk tbl b) (equationOk tbl b && memberOk tbl b) t in
       let (t₂, t₃) = and-yes (equationOk tbl b) (memberOk tbl b) t′ in
       let n = head-names tbl b t in
-      let a = member-apart (proofWithheld b) (proofMembers tbl b) (n .member-ok) in
+      let (front, back, apart) =
+      member-apart (proofWithheld b) (proofMembers tbl b) (counted-member (proofWithheld b) (proofMembers tbl b) (n .member-ok)) in
       let in-depth : proofLayer b < depth = omega (arith, n .layer-ok, o .depth) in
       record {
         layer = proofLayer b;
         equation = proofEquation b;
         withheld = proofWithheld b;
-        front = a .front;
-        back = a .back;
+        front = front;
+        back = back;
         head = record {
           layer-word = word-read b 0 1 (eqb-true (kindAt b 0) 1 (and-yes (eqb (kindAt b 0) 1) _ t₁ .0));
           equation-word = word-read b 1 2 (eqb-true (kindAt b 1) 2 (and-yes (eqb (kindAt b 1) 2) _ t₂ .0));
@@ -191,5 +164,5 @@ module _ (depth : ℕ) (tbl : List (List (List ℕ))) (b : List ℕ) (shallow : 
         };
         has-layer = in-depth;
         has-equation = omega (arith, n .equation-ok, o .equations (proofLayer b) in-depth, data-symbols (proofLayer b));
-        has-member = a .apart;
+        has-member = apart;
       }

@@ -12,7 +12,7 @@ use Rattle.octets.specs.BigEndian.{be, wordAt}
 use Rattle.octets.proofs.Choice.{and-yes}
 use Rattle.parity_table.specs.Shape.{nOf}
 use Rattle.parity_table.specs.Members.{every}
-use Rattle.parity_table.specs.Table.{word, equationOf}
+use Rattle.parity_table.specs.Table.{layerOf, word, equationOf}
 use Rattle.model.specs.Shape.{tree}
 use Rattle.model.specs.Symbols.{symbolIn, others}
 use Rattle.model.specs.Fault.{reached, wayBytes, givenBytes, pathBytes, proofBytes, next, afterGiven}
@@ -131,6 +131,7 @@ module _ (f : ℕ → ℕ → List ℕ) (j : ℕ) (sized : (l i : ℕ) → l ≤
         ∙ ap (f (j - suc u)) (sym (up-from j x (suc u) k))
 
 pub writes-layout : WritesLayout
+unfolding layerOf equationOf
 writes-layout depth tbl shallow r f sized j e x front back hj he em =
     let o = rules-ok depth tbl r in
     let fit = fitting tbl j e x front back depth shallow o hj he em in

@@ -1,11 +1,10 @@
 -- Fault proofs by their bytes: 01, "Sample and fault proof". Statements only.
 use mathlib.Core.Path.{_≡_}
-use mathlib.Core.Logic.{_⊎_, _↔_, _≢_}
+use mathlib.Core.Logic.{_⊎_, _↔_}
 use mathlib.Core.List.{List, _∷_, _++_}
-use Prim.Native.Nat.{ℕ, suc, _+_, _-_, _*_, _%_, _≤_, _<_}
+use Prim.Native.Nat.{ℕ, _+_, _-_, _*_, _≤_, _<_}
 use lib.ListN.{length, getD}
 use Rattle.sha256.specs.Hash.{sha256}
-use Rattle.parity_table.specs.Table.{equationOf}
 use Rattle.parity_table.specs.Bytes.{wordsOf}
 use Rattle.model.specs.Shape.{tree}
 use Rattle.model.specs.Fault.{proofBytes, ProofHolds}
@@ -14,6 +13,8 @@ use Rattle.cedunmi.specs.Stops.{numberOf, valueOf}
 use Rattle.cedunmi.specs.Proof.{proofChecked}
 use Rattle.guarantees.specs.Layouts.{bytesFrom, dataSymbols, allSymbols, hashFor, XorOf, upFrom, wordNo, kindValue}
 use Rattle.guarantees.specs.Tables.{TableRules, TableRight, FirstWrongWord}
+use Rattle.guarantees.specs.Trees.{members}
+use Rattle.guarantees.specs.Refusals.{DepthRight, TableLength}
 use Rattle.guarantees.specs.Answers.{Answered, done, test, unless, JustWhen}
 use Rattle.guarantees.specs.Terms.{equationsOf}
 
@@ -46,7 +47,7 @@ pub record Named (depth : ℕ) (tbl : List (List (List ℕ))) (b : List ℕ) : T
   pub head : Head b layer equation withheld
   pub has-layer : layer < depth
   pub has-equation : equation < 3 * dataSymbols layer
-  pub has-member : equationOf tbl layer equation ≡ front ++ (withheld ∷ back)
+  pub has-member : members tbl layer equation ≡ front ++ (withheld ∷ back)
 
 module _ {depth : ℕ} {tbl : List (List (List ℕ))} {b : List ℕ} (h : Named depth tbl b) where
   abbrev pub given : List ℕ
@@ -54,7 +55,7 @@ module _ {depth : ℕ} {tbl : List (List (List ℕ))} {b : List ℕ} (h : Named 
 
   -- "For d members the length is 12+256·((d−1)(j+1)+j)."
   abbrev pub Exact : Type 0
-  Exact = length b ≡ 12 + 256 * ((length (equationOf tbl (h .layer) (h .equation)) - 1) * (h .layer + 1) + h .layer)
+  Exact = length b ≡ 12 + 256 * ((length (members tbl (h .layer) (h .equation)) - 1) * (h .layer + 1) + h .layer)
 
 module _ {depth : ℕ} {tbl : List (List (List ℕ))} {b : List ℕ} (root : List ℕ) (h : Named depth tbl b) where
   -- "every hash leads to the root": each symbol has the hash that the next symbol up, or the root, has for it; on the way up from given member
@@ -85,17 +86,16 @@ module _ {depth : ℕ} {tbl : List (List (List ℕ))} {b : List ℕ} (root : Lis
 
 -- ---- the checker
 
--- what the first tests ask: "depth not 1 to 5", "a buffer's length wrong [..] proof under 12 bytes", "table breaks a rule"
+-- 2: "a buffer's length wrong, [..] proof under 12 bytes"
 pub record ProofLengths (root table b : List ℕ) : Type 0 where
   pub root-full : length root ≡ 512
-  pub table-short : length table ≤ 16384
-  pub table-whole : length table % 4 ≡ 0
+  pub table-length : TableLength table
   pub head-there : 12 ≤ length b
 
 -- "It is accepted when every hash leads to the root and the hash of the exclusive-or of the given members differs from the hash committed for
 -- the withheld one."
 pub record ProofRight (depth : ℕ) (root table b : List ℕ) : Type 0 where
-  pub depth-right : (1 ≤ depth) × (depth ≤ 5)
+  pub depth-right : DepthRight depth
   pub lengths-right : ProofLengths root table b
   pub table-right : TableRight depth (wordsOf table)
   pub named : Named depth (equationsOf table) b
@@ -109,7 +109,7 @@ AcceptsProofJustWhen = (depth : ℕ) (root table b : List ℕ) → (proofChecked
 -- "A proof is tested 1, 2, 3, 6, then 2 again for the length its head demands, 7, 8."
 abbrev pub proofTests : ℕ → List ℕ → List ℕ → List ℕ → Answered
 proofTests depth root table b =
-    test 1 (unless ((1 ≤ depth) × (depth ≤ 5)))
+    test 1 (unless (DepthRight depth))
     (test 2 (unless (ProofLengths root table b))
     (test 3 (FirstWrongWord depth (wordsOf table))
     (test 6 (unless (Named depth (equationsOf table) b))
@@ -175,8 +175,8 @@ abbrev pub WritesLayout : Type 0
 WritesLayout =
     (depth : ℕ) (tbl : List (List (List ℕ))) → depth ≤ 5 → TableRules depth tbl
     → (f : ℕ → ℕ → List ℕ) → ((l m : ℕ) → l < depth → m < allSymbols l → length (f l m) ≡ 256)
-    → (j e x : ℕ) (front back : List ℕ) → j < depth → e < 3 * dataSymbols j → equationOf tbl j e ≡ front ++ (x ∷ back)
-    → Written depth tbl f j e x (proofBytes tree f j e x (equationOf tbl j e))
+    → (j e x : ℕ) (front back : List ℕ) → j < depth → e < 3 * dataSymbols j → members tbl j e ≡ front ++ (x ∷ back)
+    → Written depth tbl f j e x (proofBytes tree f j e x (members tbl j e))
 
 -- ---- all of it
 

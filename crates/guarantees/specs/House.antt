@@ -8,8 +8,10 @@ use Rattle.octets.specs.BigEndian.{bytesOf}
 use Rattle.parity_table.specs.Bytes.{wordsOf}
 use Rattle.parity_table.specs.House.{houseTable, houseWords}
 use Rattle.guarantees.specs.Layouts.{dataSymbols, wordNo}
-use Rattle.guarantees.specs.Tables.{TableRules, listed, IsMember}
+use Rattle.guarantees.specs.Tables.{TableRules, listed, TableRight, IsMember}
 use Rattle.guarantees.specs.Trees.{members}
+use Rattle.guarantees.specs.Refusals.{DepthRight}
+use Rattle.guarantees.specs.Terms.{equationsOf}
 
 -- "big-endian bytes, four to a word": the words of the bytes b
 pub record WordsOf (b : List ℕ) : Type 0 where
@@ -22,7 +24,10 @@ HouseMember k e x = (x ≡ e % k) ⊎ ((x ≡ (e + 1 + e / k) % k) ⊎ (((0 < e)
 
 pub record HouseTable : Type 0 where
   pub words-of : (b : List ℕ) → WordsOf b
-  -- by the rules, so that members are ascending; and these are its members
+  -- of a well-formed table: its equations are by the rules, and theirs are its words
+  pub equations-of : (d : ℕ) (table : List ℕ) → DepthRight d → TableRight d (wordsOf table)
+      → TableRules d (equationsOf table) × (wordsOf table ≡ listed (equationsOf table))
+  -- the house table is by the rules, so that members are ascending; and these are its members
   pub by-rules : (d : ℕ) → TableRules d (houseTable d)
   pub members-are : (d j e x : ℕ) → j < d → e < 3 * dataSymbols j → IsMember x (members (houseTable d) j e) ↔ HouseMember (dataSymbols j) e x
   -- what the calls write, as words and as bytes

@@ -1,5 +1,5 @@
--- 01's layouts in its own numbers, by bytes and places alone: what the statements of this crate are said in. No definition of another crate but
--- SHA-256 stands behind them, so a wrong number in one of those can't also be wrong here. Definitions only.
+-- 01's layouts in its own numbers, by bytes and places alone: what the statements of this crate are said in. Of other crates only the choice by a
+-- test stands behind them, so a number that is wrong elsewhere isn't also wrong here. Definitions only.
 use mathlib.Core.Path.{_≡_}
 use mathlib.Core.List.{List}
 use Prim.Native.Nat.{ℕ, zero, suc, _+_, _-_, _*_, _/_, _%_, _^_, _<_}
