@@ -17,7 +17,7 @@ use Rattle.octets.specs.ByteLists.{same}
 use Rattle.model.specs.Symbols.{count, lowest, zeros, committed, symAt, putAt}
 use Rattle.model.specs.Coded.{Digests, Agrees}
 use Rattle.model.specs.Repair.{End, working, whole, fault, unavailable, twins, going, St, fresh, endAs, absentAt, eraseSym, fitsAt, sweepAt, sweep, takeable, peel, gapsLeft, settle, enter, layer, layers, finish, repair}
-use Rattle.model.specs.Ends.{Stopping, Largest, Sized, gapAt, filledIn, filled, Complete, Drained, Always, EndOk, Ended, FourEnds}
+use Rattle.model.specs.Ends.{Stopping, Largest, Sized, gapAt, filledIn, filled, Complete, Drained, Always, EndOk, Ended, FourEnds, Peels, none-stored}
 use Rattle.model.proofs.Bytes.{same-yes, length-zeros}
 use Rattle.model.proofs.Counts.{and-no, isIt, every-none, count-le, lowest-is}
 use Rattle.model.proofs.Shapes.{places-mono}
@@ -26,7 +26,8 @@ use Rattle.model.proofs.Flat.{put-there, put-length, symAt-length}
 use Rattle.model.proofs.Binding.{root-is}
 use Rattle.model.proofs.Frame.{drop-more, sym-below, mark-below, room, mark-room, put-keep, put-after, mark-after, byte-keep, as-absent, mark-keep, mark-there, tally-none, Keeps, KeepsMarks, committed-keep, hash-keep, complete-keep, gap-keep, filled-keep, drained-keep}
 use Rattle.model.proofs.Peel.{Inv, inv-start, peeled, settled}
-use Rattle.model.proofs.Peeling.{Mid, Stop, Stage, StageSt, mid-of, always-at, stage-peel}
+use Rattle.model.proofs.Peeling.{Mid, Stop, Stage, StageSt, mid-of, always-at, stage-peel, passed-lower}
+use Rattle.model.proofs.Replay.{peels-keep}
 
 and-not : (b : Bool) → (b && not b) ≡ false
 and-not true = refl
@@ -239,6 +240,12 @@ module _ (S : Shape) (sh : ShapeOk S) (H : ℕ → ℕ → List ℕ → List ℕ
             counted = omega (arith, swept .same-stored, b .always .counted, none-filled, filled-keep S sh H root tbl ok t₀ m₀ (st .tree) (en .tree) (st .marks) (en .marks) j keeps keeps-marks);
             above = λ l h. complete-keep S sh H root tbl ok (st .tree) (en .tree) (st .marks) (en .marks) l (omega arith) (keeps l (omega arith)) (keeps-marks l (omega arith)) (b .complete l (omega arith));
             drained = λ l h. drained-keep S sh H root tbl ok t₀ m₀ (st .tree) (en .tree) l (λ k y q hy. swept .frame k y (omega arith) hy (λ z. omega arith)) (b .drained l (omega arith));
+            peels = λ l h. by-test (eqb l j)
+                (λ u. subst (λ (z : ℕ). Peels S tbl (en .tree) z (gapAt S H root t₀ m₀ (en .tree) z) (absentAt S (en .marks) z)) (sym (eqb-true l j u)) (none-stored gap-same))
+                (λ u. let hl : l < j = omega (arith, eqb-false l j u) in
+                peels-keep S tbl ok l (omega arith) (st .tree) (en .tree) (b .always .peels l hl)
+                (λ y hy. gap-keep S sh H root tbl ok t₀ m₀ (st .tree) (en .tree) l y (λ k z e w. swept .frame k z (omega arith) w (λ r. omega arith)))
+                (λ y hy. keeps-marks l hl y hy) (λ y hy q. swept .frame l y (omega arith) hy (λ r. omega arith)));
             held = λ l y h hy ab. by-test (eqb l j)
                 (λ u. subst (λ (z : ℕ). y < S .n z → absentAt S (en .marks) z y ≡ false → H z y (symAt S (en .tree) z y) ≡ committed S root (symAt S (en .tree)) z y) (sym (eqb-true l j u)) (held-here y) hy ab)
                 (λ u. let hl : l < j = omega (arith, eqb-false l j u) in
@@ -357,6 +364,9 @@ module _ (S : Shape) (sh : ShapeOk S) (H : ℕ → ℕ → List ℕ → List ℕ
                 last = mid-r .last;
                 missing = (i, h, ab);
                 largest = largest-r;
+                passed = λ e he.
+                    passed-lower S sh H root tbl ok t₀ m₀ o₀ ho j hj (en .marks) r mid-r e he
+                    (settled S H root tbl ok j hj (absentAt S (en .marks) j) (length (layerOf tbl j)) en start enough g e he);
                 out-kept = mid-r .out-kept;
               };
             }
@@ -486,6 +496,7 @@ module _ (S : Shape) (sh : ShapeOk S) (H : ℕ → ℕ → List ℕ → List ℕ
           counted = refl;
           above = λ l h. absurd (omega arith);
           drained = λ l h. absurd (omega arith);
+          peels = λ l h. absurd (omega arith);
           held = λ l i h. absurd (omega arith);
           kept = λ l i h. absurd (omega arith);
           cleared = λ l i h. absurd (omega arith);

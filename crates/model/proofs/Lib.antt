@@ -18,6 +18,7 @@ pub mod FaultWriter
 pub mod Steps
 pub mod Peel
 pub mod Frame
+pub mod Replay
 pub mod Peeling
 pub mod FourEnds
 pub mod Outcomes

@@ -18,7 +18,7 @@ use Rattle.octets.specs.ByteLists.{xors}
 use Rattle.model.specs.Symbols.{symbolIn, xorOf, zeros, others, count, firstOf, committed, symAt, putAt}
 use Rattle.model.specs.Fault.{proofBytes, verdict, proofLayer, proofEquation, proofWithheld}
 use Rattle.model.specs.Repair.{End, working, whole, fault, unavailable, twins, going, St, useEq, writeFault, writeTwins, absentAt, storeSym, fitsAt, takeable, restOf, step, peel}
-use Rattle.model.specs.Ends.{gapAt, filledIn, filled, Always, Passed, Taken, EndOk}
+use Rattle.model.specs.Ends.{gapAt, filledIn, filled, Always, Passed, Peels, stores, Taken, EndOk}
 use Rattle.model.proofs.Bytes.{same-yes, same-no, sym-self}
 use Rattle.model.proofs.Members.{length-xorOf, xorOf-cong}
 use Rattle.model.proofs.Counts.{and-no, isIt, firstOf-passes, every-at, every-others, every-member, ascending-once, xorOf-others, others-differ, none-absent, others-held, every-both, last-member, first-member}
@@ -27,7 +27,12 @@ use Rattle.model.proofs.Flat.{put-length, put-there, symAt-length}
 use Rattle.model.proofs.FaultWriter.{GoodProof, proof-good}
 use Rattle.model.proofs.Steps.{act-ind, form-ind, refute-ind, step-ind}
 use Rattle.model.proofs.Peel.{Inv, inv-use, inv-store}
+use Rattle.model.proofs.Replay.{Alike, passed-keep, peels-keep}
 use Rattle.model.proofs.Frame.{room, put-keep, put-after, mark-after, byte-keep, mark-keep, mark-there, tally-one-more, Keeps, committed-keep, hash-keep, complete-keep, gap-keep, filled-keep, drained-keep}
+
+and-true : (b : Bool) → (b && true) ≡ b
+and-true true = refl
+and-true false = refl
 
 -- a stop: what always holds, and the end's own promise
 pub record Stop (S : Shape) (H : ℕ → ℕ → List ℕ → List ℕ) (root : List ℕ) (tbl : List (List (List ℕ))) (t₀ m₀ o₀ : List ℕ) (st : St) (en : End) : Type 0 where
@@ -147,13 +152,41 @@ module _ (S : Shape) (sh : ShapeOk S) (H : ℕ → ℕ → List ℕ → List ℕ
         (yes-and (same-gap x ∙ is-gap) (ap not held-now))
         (λ y h n. ap₂ (λ (b d : Bool). b && not d) (same-gap y) (kept-mark j y h (inr n)))
 
-    module _ (fit : H j x v ≡ committed S root (symAt S (st .tree)) j x) where
+    -- symbols that are held stay as they are
+    alike : Alike S tbl ok j hj (st .tree) t′ a
+    alike y l q = keep j y l (inr (λ r. both (ap a r ∙ x-absent) q))
+
+    module _ (fit : H j x v ≡ committed S root (symAt S (st .tree)) j x) (low : (q : ℕ) → q < e → Passed S tbl (st .tree) j a q) where
       held-here : (y : ℕ) → y < S .n j → absentAt S m′ j y ≡ false → H j y (symAt S t′ j y) ≡ committed S root (symAt S t′) j y
       held-here y hy ab =
           by-test (eqb y x)
           (λ u. subst (λ (z : ℕ). H j z (symAt S t′ j z) ≡ committed S root (symAt S t′) j z) (sym (eqb-true y x u)) (ap (H j x) here ∙ fit ∙ sym (same-committed x)))
           (λ u. let n : (j ≢ j) ⊎ (y ≢ x) = inr (eqb-false y x u) in
           ap (H j y) (keep j y hy n) ∙ i .always .held j y (omega arith) hy (sym (kept-mark j y hy n) ∙ ab) ∙ sym (same-committed y))
+
+      -- the equation now holds
+      now-holds : xorOf (symAt S t′ j) ms ≡ zeros
+      now-holds =
+          let within : every (λ y. ltb y (S .n j)) ms ≡ true = ok .within j e hj he in
+          let once : count (isIt x) ms ≡ 1 = omega (arith, ascending-once x ms (ok .ascend j e hj he), first-member a ms (omega arith)) in
+          let rest : xorOf (symAt S t′ j) (others x ms) ≡ v =
+          xorOf-cong (symAt S t′ j) (symAt S (st .tree) j) (λ y. not (eqb y x) && ltb y (S .n j))
+          (λ y b. let (b₁, b₂) = and-yes (not (eqb y x)) (ltb y (S .n j)) b in
+          keep j y (ltb-true y (S .n j) b₂) (inr (eqb-false y x (not-yes (eqb y x) b₁))))
+          (others x ms) (every-both (λ y. not (eqb y x)) (λ y. ltb y (S .n j)) (others x ms) (others-differ x ms) (every-others (λ y. ltb y (S .n j)) x ms within)) in
+          xorOf-others (symAt S t′ j) x ms once ∙ ap₂ xors here rest ∙ sym-self v v-full
+
+      -- how the layer was peeled, with this symbol
+      left-now : (y : ℕ) → y < S .n j → absentAt S m′ j y ≡ (a y && not (eqb y x))
+      left-now y l =
+          by-test (eqb y x)
+          (λ u. ap (absentAt S m′ j) (eqb-true y x u) ∙ held-now ∙ sym (ap₂ (λ (p q : Bool). p && not q) (ap a (eqb-true y x u) ∙ x-absent) u))
+          (λ u. kept-mark j y l (inr (eqb-false y x u)) ∙ sym (ap (λ (q : Bool). a y && not q) u ∙ and-true (a y)))
+
+      peels-store : Peels S tbl t′ j (gapAt S H root t₀ m₀ t′ j) (absentAt S m′ j)
+      peels-store =
+          stores (peels-keep S tbl ok j hj (st .tree) t′ (i .always .peels j (omega arith)) (λ y l. same-gap y) (λ y l. refl) alike) e x he c refl now-holds
+          (λ q l. passed-keep S tbl ok j hj (st .tree) t′ a alike q (omega arith) (low q l)) left-now
 
       always-store : Always S H root tbl t₀ m₀ t′ m′ (suc (st .stored)) (suc j)
       unfolding filled
@@ -169,6 +202,12 @@ module _ (S : Shape) (sh : ShapeOk S) (H : ℕ → ℕ → List ℕ → List ℕ
             counted = omega (arith, i .always .counted, one-more, filled-keep S sh H root tbl ok t₀ m₀ (st .tree) t′ (st .marks) m′ j (λ l h. keeps-above l h) (λ l h y hy. kept-mark l y hy (inl (λ q. omega arith))));
             above = λ l h. complete-keep S sh H root tbl ok (st .tree) t′ (st .marks) m′ l (omega arith) (keeps-above l (omega arith)) (λ y hy. kept-mark l y hy (inl (λ q. omega arith))) (i .always .above l h);
             drained = λ l h. drained-keep S sh H root tbl ok t₀ m₀ (st .tree) t′ l (λ k y q hy. keep k y hy (inl (λ z. omega arith))) (i .always .drained l h);
+            peels = λ l h. by-test (eqb l j)
+                (λ u. subst (λ (z : ℕ). Peels S tbl t′ z (gapAt S H root t₀ m₀ t′ z) (absentAt S m′ z)) (sym (eqb-true l j u)) peels-store)
+                (λ u. let hl : l < j = omega (arith, eqb-false l j u) in
+                peels-keep S tbl ok l (omega arith) (st .tree) t′ (i .always .peels l h)
+                (λ y hy. gap-keep S sh H root tbl ok t₀ m₀ (st .tree) t′ l y (λ k z q w. keep k z w (inl (λ r. omega arith))))
+                (λ y hy. kept-mark l y hy (inl (λ q. omega arith))) (λ y hy q. keep l y hy (inl (λ r. omega arith))));
             held = λ l y h hy ab. by-test (eqb l j)
                 (λ u. subst (λ (z : ℕ). y < S .n z → absentAt S m′ z y ≡ false → H z y (symAt S t′ z y) ≡ committed S root (symAt S t′) z y) (sym (eqb-true l j u)) (held-here y) hy ab)
                 (λ u. let hl : l < j = omega (arith, eqb-false l j u) in
@@ -193,18 +232,6 @@ module _ (S : Shape) (sh : ShapeOk S) (H : ℕ → ℕ → List ℕ → List ℕ
                 let (p, q) = i .always .cleared l y h hy (sym (kept-mark l y hy nl) ∙ n) in
                 (byte-keep S (length tbl) (st .tree) (st .marks) tl ml j x hj x-below 1 l y hy nl ∙ p, keep l y hy nl ∙ q));
           }
-
-      -- the equation now holds
-      now-holds : xorOf (symAt S t′ j) ms ≡ zeros
-      now-holds =
-          let within : every (λ y. ltb y (S .n j)) ms ≡ true = ok .within j e hj he in
-          let once : count (isIt x) ms ≡ 1 = omega (arith, ascending-once x ms (ok .ascend j e hj he), first-member a ms (omega arith)) in
-          let rest : xorOf (symAt S t′ j) (others x ms) ≡ v =
-          xorOf-cong (symAt S t′ j) (symAt S (st .tree) j) (λ y. not (eqb y x) && ltb y (S .n j))
-          (λ y b. let (b₁, b₂) = and-yes (not (eqb y x)) (ltb y (S .n j)) b in
-          keep j y (ltb-true y (S .n j) b₂) (inr (eqb-false y x (not-yes (eqb y x) b₁))))
-          (others x ms) (every-both (λ y. not (eqb y x)) (λ y. ltb y (S .n j)) (others x ms) (others-differ x ms) (every-others (λ y. ltb y (S .n j)) x ms within)) in
-          xorOf-others (symAt S t′ j) x ms once ∙ ap₂ xors here rest ∙ sym-self v v-full
 
       -- an equation used before holds still
       still-holds : (q : ℕ) → q < length (layerOf tbl j) → eqb (getD (st .used) q 0) 0 ≡ false → xorOf (symAt S t′ j) (equationOf tbl j q) ≡ zeros
@@ -239,7 +266,7 @@ module _ (S : Shape) (sh : ShapeOk S) (H : ℕ → ℕ → List ℕ → List ℕ
       symAt-length S (st .tree) l y (room S (length tbl) (st .tree) (st .marks) (i .always .sized .tree-length) (i .always .sized .marks-length) l y (omega arith) hy)
 
   -- no equation below the one that is taken could be taken
-  passed-lower : (st : St) → Mid st → (q : ℕ) → q < length (layerOf tbl j) → takeable S tbl j st q ≡ false → Passed S H root tbl (st .tree) (st .marks) j q
+  pub passed-lower : (st : St) → Mid st → (q : ℕ) → q < length (layerOf tbl j) → takeable S tbl j st q ≡ false → Passed S tbl (st .tree) j (absentAt S (st .marks) j) q
   unfolding takeable
   passed-lower st i q h t =
       let a : ℕ → Bool = absentAt S (st .marks) j in
@@ -329,7 +356,7 @@ module _ (S : Shape) (sh : ShapeOk S) (H : ℕ → ℕ → List ℕ → List ℕ
       step-ind S H root tbl StageSt j st (λ t. s)
       (λ e he tk lo g.
       let i : Mid st = mid-of st (st .end) g s in
-      let low : (q : ℕ) → q < e → Passed S H root tbl (st .tree) (st .marks) j q = λ q l. passed-lower st i q (omega arith) (lo q l) in
+      let low : (q : ℕ) → q < e → Passed S tbl (st .tree) j (absentAt S (st .marks) j) q = λ q l. passed-lower st i q (omega arith) (lo q l) in
       let a : ℕ → Bool = absentAt S (st .marks) j in
       let ms : List ℕ = equationOf tbl j e in
       let few : count a ms ≤ 1 = leb-true (count a ms) 1 (and-yes (eqb (getD (st .used) e 0) 0) (leb (count a ms) 1) tk .1) in
@@ -346,7 +373,7 @@ module _ (S : Shape) (sh : ShapeOk S) (H : ℕ → ℕ → List ℕ → List ℕ
       let x : ℕ = firstOf a ms in
       let one : count a ms ≡ 1 = omega arith in
       form-ind S H root tbl StageSt j e ms x (restOf S j ms x st) st
-      (λ t. mid-store st i e he one (same-yes _ _ t))
+      (λ t. mid-store st i e he one (same-yes _ _ t) low)
       (λ t.
       stop-fault st i e x (record { in-table = he; lower = low; withheld = inl (one, refl) }) (first-member a ms pos) (others-held a x ms one refl) (same-no t))))
 

@@ -5,6 +5,7 @@ use mathlib.Core.Bool.{Bool, true, false, not, _&&_, _||_}
 use mathlib.Core.List.{List}
 use Prim.Native.Nat.{ℕ, zero, suc, _+_, _-_, _*_, _≤_, _<_}
 use lib.ListN.{length, getD, take, drop}
+use lib.Dec.{eqb}
 use Rattle.parity_table.specs.Members.{lastOf}
 use Rattle.parity_table.specs.Table.{layerOf, equationOf}
 use Rattle.model.specs.Shape.{Shape, place, places}
@@ -54,6 +55,19 @@ module _ (S : Shape) (H : ℕ → ℕ → List ℕ → List ℕ) (root : List �
   filled t₀ m₀ t m zero = 0
   filled t₀ m₀ t m (suc l) = filledIn t₀ m₀ t m l + filled t₀ m₀ t m l
 
+module _ (S : Shape) (tbl : List (List (List ℕ))) (t : List ℕ) (j : ℕ) where
+  -- equation e is used, or can't be taken, where the symbols a are absent: it is complete and holds, or has more than one absent member
+  abbrev pub Passed : (ℕ → Bool) → ℕ → Type 0
+  Passed a e = ((count a (equationOf tbl j e) ≡ 0) × (xorOf (symAt S t j) (equationOf tbl j e) ≡ zeros)) ⊎ (2 ≤ count a (equationOf tbl j e))
+
+-- (b) as it went: from the gaps g to the symbols that are absent now, one stored after the other, each given by "the lowest unused equation with at most
+-- one absent member". A symbol that is held doesn't change any more, so t is the tree as it is now.
+pub data Peels (S : Shape) (tbl : List (List (List ℕ))) (t : List ℕ) (j : ℕ) (g : ℕ → Bool) : (ℕ → Bool) → Type 0 where
+  none-stored : {a : ℕ → Bool} → ((x : ℕ) → x < S .n j → a x ≡ g x) → Peels S tbl t j g a
+  stores : {a b : ℕ → Bool} → Peels S tbl t j g a → (e x : ℕ) → e < length (layerOf tbl j) → count a (equationOf tbl j e) ≡ 1
+      → x ≡ firstOf a (equationOf tbl j e) → xorOf (symAt S t j) (equationOf tbl j e) ≡ zeros → ((q : ℕ) → q < e → Passed S tbl t j a q)
+      → ((y : ℕ) → y < S .n j → b y ≡ (a y && not (eqb y x))) → Peels S tbl t j g b
+
 module _ (S : Shape) (H : ℕ → ℕ → List ℕ → List ℕ) (root : List ℕ) (tbl : List (List (List ℕ))) where
   -- layer l is complete, "all its equations holding"
   pub record Complete (t m : List ℕ) (l : ℕ) : Type 0 where
@@ -77,6 +91,7 @@ module _ (S : Shape) (H : ℕ → ℕ → List ℕ → List ℕ) (root : List �
     -- "every layer above the last one entered is complete"
     pub above : (l : ℕ) → suc l < d → Complete t m l
     pub drained : (l : ℕ) → suc l < d → Drained t₀ m₀ t l
+    pub peels : (l : ℕ) → l < d → Peels S tbl t l (gapAt S H root t₀ m₀ t l) (absentAt S m l)
     -- "each symbol then marked held in an entered layer has the committed hash"
     pub held : (l i : ℕ) → l < d → i < S .n l → absentAt S m l i ≡ false → H l i (symAt S t l i) ≡ committed S root (symAt S t) l i
     -- what is no gap stays, and what is absent is zero
@@ -91,17 +106,11 @@ module _ (S : Shape) (H : ℕ → ℕ → List ℕ → List ℕ) (root : List �
     pub drained : (l : ℕ) → l < length tbl → Drained t₀ m₀ (st .tree) l
     pub out-kept : st .out ≡ o₀
 
-  -- an equation that is used, or can't be taken: it is complete and holds, or has more than one absent member
-  abbrev pub Passed : List ℕ → List ℕ → ℕ → ℕ → Type 0
-  Passed t m j e =
-      ((count (absentAt S m j) (equationOf tbl j e) ≡ 0) × (xorOf (symAt S t j) (equationOf tbl j e) ≡ zeros))
-      ⊎ (2 ≤ count (absentAt S m j) (equationOf tbl j e))
-
   -- "the lowest unused equation with at most one absent member", and the member that is withheld: "One absent: form it from the others"; "None absent
   -- and the equation fails: withhold the last member"
   pub record Taken (t m : List ℕ) (j e x : ℕ) : Type 0 where
     pub in-table : e < length (layerOf tbl j)
-    pub lower : (q : ℕ) → q < e → Passed t m j q
+    pub lower : (q : ℕ) → q < e → Passed S tbl t j (absentAt S m j) q
     pub withheld : ((count (absentAt S m j) (equationOf tbl j e) ≡ 1) × (x ≡ firstOf (absentAt S m j) (equationOf tbl j e)))
         ⊎ ((count (absentAt S m j) (equationOf tbl j e) ≡ 0) × (x ≡ lastOf (equationOf tbl j e) 0) × (xorOf (symAt S t j) (equationOf tbl j e) ≢ zeros))
 
@@ -121,6 +130,7 @@ module _ (S : Shape) (H : ℕ → ℕ → List ℕ → List ℕ) (root : List �
     pub last : st .entered ≡ suc j
     pub missing : (i : ℕ) × (i < S .n j) × (absentAt S (st .marks) j i ≡ true)
     pub largest : Largest S tbl j (gapAt S H root t₀ m₀ (st .tree) j) (absentAt S (st .marks) j)
+    pub passed : (e : ℕ) → e < length (layerOf tbl j) → Passed S tbl (st .tree) j (absentAt S (st .marks) j) e
     pub out-kept : st .out ≡ o₀
 
   -- "The two symbols of twins differ, and both have the committed hash": of symbol x of layer j, in the first 512 bytes of the output buffer
