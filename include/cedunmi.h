@@ -284,7 +284,8 @@ uint64_t cmt_proof_check(uint64_t depth, const uint8_t *root, size_t root_len,
  * CMT_FAULT         the output begins with a fault proof that
  *                   cmt_proof_check() accepts, of cmt_repair_proof_bytes().
  * CMT_UNAVAILABLE   no equation has just one of the places of cmt_repair_layer()
- *                   that are now marked 0, so none gives any of them.
+ *                   that are now marked 0, so none gives any of them; those that
+ *                   have none of these places hold.
  * CMT_TWINS         the output begins with two different symbols of equal
  *                   SHA-256, CMT_TWINS_BYTES in all.
  *

@@ -6,8 +6,8 @@ use mathlib.Core.List.{List, [], _∷_, _++_, append-nil}
 use Prim.Native.Nat.{ℕ, zero, suc, _+_, _*_, _≤_, _<_}
 use native.Mathlib.Omega.{arith}
 use lib.ListN.{length, getD}
-use lib.Dec.{ltb}
-use borrow.Author.Tests.{ltb-true, ltb-false, eq-eqb, ne-eqb}
+use lib.Dec.{ltb, eqb}
+use borrow.Author.Tests.{ltb-true, ltb-false, eqb-false, eq-eqb, ne-eqb}
 use Rattle.octets.specs.Choice.{pick}
 use Rattle.octets.specs.ByteLists.{same}
 use Rattle.octets.proofs.Choice.{by-test, pick-ind, and-yes, yes-and, both, not-yes}
@@ -24,7 +24,8 @@ use Rattle.symbol_hash.specs.SymbolHash.{symbolHash}
 use Rattle.model.specs.Shape.{tree, place, places}
 use Rattle.model.specs.Symbols.{bit, count, others, symbolIn, xorOf, zeros, committed, symAt}
 use Rattle.model.specs.Repair.{End, working, whole, fault, unavailable, twins, St, absentAt}
-use Rattle.model.specs.Ends.{Stopping, tally, gapAt, filledIn, filled, Taken, WholeEnd, FaultEnd, UnavailableEnd, TwinsEnd, EndOk, Ended}
+use Rattle.model.specs.Ends as model
+use Rattle.model.specs.Ends.{Stopping, tally, gapAt, filledIn, filled, Passed, Peels, Taken, WholeEnd, FaultEnd, UnavailableEnd, TwinsEnd, EndOk, Ended}
 use Rattle.model.proofs.Bytes.{yes-same, no-same}
 use Rattle.model.proofs.Members.{every-below}
 use Rattle.model.proofs.Counts.{isIt, firstOf-passes, every-others, ascending-once, none-absent, others-held, last-member, first-member}
@@ -43,7 +44,7 @@ use Rattle.guarantees.specs.Layouts.{bytesFrom, symbolNo, dataSymbols, a
 use Rattle.guarantees.specs.Tables.{IsMember}
 use Rattle.guarantees.specs.Trees.{members, EquationHolds}
 use Rattle.guarantees.specs.Terms.{equationsOf}
-use Rattle.guarantees.specs.Demand3.{howMany, meets, inLayers, Gap, NotTaken, Took, LastOfFailing, Checker, AsTheSteps, EveryEnd, EndsWhole, EndsFault, EndsUnavailable, EndsTwins, Repair, Demand3}
+use Rattle.guarantees.specs.Demand3.{howMany, meets, inLayers, NotTaken, Peeled, none-stored, stores, Gap, Tells, Took, LastOfFailing, Checker, AsTheSteps, EveryEnd, EndsWhole, EndsFault, EndsUnavailable, EndsTwins, Repair, Demand3}
 use Rattle.guarantees.proofs.Layouts.{tree-symbols, symbol-at, mark-at, hash-for, xor-one, xor-of}
 use Rattle.guarantees.proofs.Membership.{every-member-of, counted-member, member-other, two-passing, member-apart, last-apart, others-apart}
 use Rattle.guarantees.proofs.Marks.{held-marked, all-right}
@@ -135,12 +136,6 @@ or-yes : (a b : Bool) → b ≡ true → (a || b) ≡ true
 or-yes true b h = refl
 or-yes false b h = h
 
--- two tests that say the same are the same
-same-test : (p q : Bool) → (p ≡ true → q ≡ true) → (q ≡ true → p ≡ true) → p ≡ q
-same-test true q f g = sym (f refl)
-same-test false true f g = g refl
-same-test false false f g = refl
-
 bit-pick : (b : Bool) → pick b 1 0 ≡ bit b
 unfolding pick
 bit-pick true = refl
@@ -152,12 +147,10 @@ how-many p q zero h = refl
 how-many p q (suc n) h =
     ap₂ (λ (a b : ℕ). a + b) (bit-pick (p n) ∙ ap bit (h n (omega arith))) (how-many p q n (λ i l. h i (omega arith)))
 
-meets-count : (p q : ℕ → Bool) (xs : List ℕ) → ((x : ℕ) → IsMember x xs → p x ≡ q x) → meets p xs ≡ count q xs
+meets-count : (p : ℕ → Bool) (xs : List ℕ) → meets p xs ≡ count p xs
 unfolding meets count
-meets-count p q [] h = refl
-meets-count p q (x ∷ xs) h =
-    ap₂ (λ (a b : ℕ). a + b) (bit-pick (p x) ∙ ap bit (h x (0, omega arith, refl)))
-    (meets-count p q xs (λ y m. h y (suc (m .0), omega (arith, m .1), m .2)))
+meets-count p [] = refl
+meets-count p (x ∷ xs) = ap₂ (λ (a b : ℕ). a + b) (bit-pick (p x)) (meets-count p xs)
 
 -- ---- the four ways
 
@@ -231,25 +224,14 @@ module _ (depth : ℕ) (root table t m o : List ℕ) (e : repairTested depth roo
 
   -- ---- what holds at every end
 
-  module _ (p : ℕ → ℕ → Bool)
-      (says : (j i : ℕ) → j < st .entered → i < allSymbols j
-      → (p j i ≡ true) ↔ (Gap depth root table t m o j i × (markAt (st .marks) j i ≡ 1))) where
-    layer-count : (j : ℕ) → j < st .entered → howMany (p j) (allSymbols j) ≡ filledIn tree symbolHash root t m (st .tree) (st .marks) j
-    unfolding filledIn kOf nOf
-    layer-count j hj =
-        how-many (p j) (λ i. gapAt tree symbolHash root t m (st .tree) j i && not (absent j i)) (allSymbols j)
-        (λ i hi.
-        let lj : j < depth = omega (arith, in-depth) in
-        same-test (p j i) _
-        (λ q. let (g, h) = says j i hj hi .0 q in yes-and (is-gap j i lj hi g) (ap not (is-held (st .marks) j i h)))
-        (λ q.
-        let (g, h) = and-yes (gapAt tree symbolHash root t m (st .tree) j i) (not (absent j i)) q in
-        says j i hj hi .1 (gap-is j i lj hi g, marked-1 (st .marks) j i (not-yes (absent j i) h))))
+  -- a gap that is now held
+  abbrev stored-at : ℕ → ℕ → Bool
+  stored-at j i = gapAt tree symbolHash root t m (st .tree) j i && not (absent j i)
 
-    layers-count : (d : ℕ) → d ≤ st .entered → inLayers p d ≡ filled tree symbolHash root t m (st .tree) (st .marks) d
-    unfolding inLayers filled
-    layers-count zero h = refl
-    layers-count (suc d) h = ap₂ (λ (a b : ℕ). a + b) (layer-count d (omega arith)) (layers-count d (omega arith))
+  layers-count : (d : ℕ) → inLayers stored-at d ≡ filled tree symbolHash root t m (st .tree) (st .marks) d
+  unfolding inLayers filled filledIn kOf nOf
+  layers-count zero = refl
+  layers-count (suc d) = ap₂ (λ (a b : ℕ). a + b) (how-many (stored-at d) (stored-at d) (allSymbols d) (λ i h. refl)) (layers-count d)
 
   -- an equation whose exclusive-or is zeros holds, and only such a one
   module _ (j q : ℕ) (hj : j < depth) (hq : q < 3 * kOf j) where
@@ -270,6 +252,44 @@ module _ (depth : ℕ) (root table t m o : List ℕ) (e : repairTested depth roo
         xor-one (λ i. symAt tree (st .tree) j (getD (members tbl j q) i 0)) (length (members tbl j q)) (xorOf (symAt tree (st .tree) j) (members tbl j q)) zeros
         (xor-of (symAt tree (st .tree) j) (members tbl j q) inside)
         (subst (λ (f : ℕ → ℕ → List ℕ). EquationHolds (f j) (members tbl j q)) (symbols-are (st .tree)) x)
+
+  -- ---- (b), in a layer that was entered
+
+  -- an equation that isn't taken where the symbols a are absent
+  not-taken : (j q : ℕ) → j < depth → q < 3 * kOf j → (a : ℕ → Bool) → Passed tree tbl (st .tree) j a q
+      → NotTaken (symbolAt (st .tree) j) (members tbl j) a q
+  unfolding layerOf equationOf
+  not-taken j q hj hq a (inl (c, z)) =
+      inl (λ y mem. not-yes (a y) (every-member-of (λ x. not (a x)) (members tbl j q) (none-absent a (members tbl j q) c) y mem), holds-so j q hj hq z)
+  not-taken j q hj hq a (inr two) = inr (two-passing a (members tbl j q) (ok .members j q hj hq .ascend) two)
+
+  -- which symbols are absent
+  told : (j : ℕ) → j < st .entered → Tells depth root table t m o j (absent j)
+  unfolding kOf nOf
+  told j hj i hi = (
+    λ h. mark-at (st .marks) j i ∙ so .always .cleared j i hj hi h .0,
+    λ z. is-absent (st .marks) j i (λ h. omega arith),
+  )
+
+  -- one symbol less
+  one-less : (a b : ℕ → Bool) (x y : ℕ) → b y ≡ (a y && not (eqb y x)) → (b y ≡ true) ↔ ((a y ≡ true) × (y ≢ x))
+  one-less a b x y e = (
+    λ h. let (p, q) = and-yes (a y) (not (eqb y x)) (sym e ∙ h) in (p, eqb-false y x (not-yes (eqb y x) q)),
+    λ (p, n). e ∙ yes-and p (ap not (ne-eqb y x n)),
+  )
+
+  peeled-so : (j : ℕ) → j < depth → {a : ℕ → Bool} → Peels tree tbl (st .tree) j (gapAt tree symbolHash root t m (st .tree) j) a
+      → Peeled (allSymbols j) (3 * dataSymbols j) (Gap depth root table t m o j) (symbolAt (st .tree) j) (members tbl j) a
+  unfolding kOf nOf layerOf equationOf
+  peeled-so j hj (model.none-stored h) =
+      none-stored (λ x l. (λ p. gap-is j x hj l (sym (h x l) ∙ p), λ g. h x l ∙ is-gap j x hj l g))
+  peeled-so j hj (model.stores {a} {b} p e x he c ex z low eb) =
+      let ms : List ℕ = members tbl j e in
+      let le : e < 3 * kOf j = omega (arith, ok .equations j hj) in
+      let mem : IsMember x ms = counted-member x ms (rw ex (first-member a ms (omega arith))) in
+      stores (peeled-so j hj p) e x le mem (rw ex (firstOf-passes a ms (omega arith)))
+      (λ y my n. not-yes (a y) (every-member-of (λ v. not (a v)) (others x ms) (others-held a x ms c ex) y (member-other x y ms my n)))
+      (holds-so j e hj le z) (λ q l. not-taken j q hj (omega arith) a (low q l)) (λ y l. one-less a b x y (eb y l))
 
   every-end : EveryEnd depth root table t m o
   unfolding kOf nOf symbolHash zeros
@@ -292,7 +312,18 @@ module _ (depth : ℕ) (root table t m o : List ℕ) (e : repairTested depth roo
         above-complete = λ j i hj hi. marked-1 (st .marks) j i (a .above j hj .full i hi);
         above-holds = λ j q hj hq.
             holds-so j q (omega (arith, in-depth)) hq (a .above j hj .holds q (omega (arith, ok .equations j (omega (arith, in-depth)))));
-        counted = λ p says. a .counted ∙ sym (layers-count p says (st .entered) (omega arith));
+        was-stored = stored-at;
+        tells-stored = λ j i hj hi.
+            let lj : j < depth = omega (arith, in-depth) in (
+              λ q.
+                  let (g, h) = and-yes (gapAt tree symbolHash root t m (st .tree) j i) (not (absent j i)) q in
+                  (gap-is j i lj hi g, marked-1 (st .marks) j i (not-yes (absent j i) h)),
+              λ (g, h). yes-and (is-gap j i lj hi g) (ap not (is-held (st .marks) j i h)),
+            );
+        counted = a .counted ∙ sym (layers-count (st .entered));
+        absent = absent;
+        tells-absent = told;
+        peeled = λ j hj. peeled-so j (omega (arith, in-depth)) (a .peels j hj);
       }
 
   -- ---- the equation that was taken
@@ -326,19 +357,18 @@ module _ (depth : ℕ) (root table t m o : List ℕ) (e : repairTested depth roo
         ⊎-elim (λ w. one-mark (others x ms) (others-held (absent j) x ms (w .0) (w .1)) y (member-other x y ms mem n))
         (λ w. one-mark ms (none-absent (absent j) ms (w .0)) y mem) (k .withheld)
 
-    not-taken : (p : ℕ) → p < q → NotTaken depth root table t m o j p
-    unfolding layerOf equationOf
-    not-taken p h =
-        let hp : p < 3 * kOf j = omega (arith, hq) in
-        ⊎-elim (λ w. inl (one-mark (equationOf tbl j p) (none-absent (absent j) (equationOf tbl j p) (w .0)), holds-so j p hj hp (w .1)))
-        (λ w.
-        let (y, z, my, mz, l, ay, az) = two-passing (absent j) (equationOf tbl j p) (ok .members j p hj hp .ascend) w in
-        inr (y, z, my, mz, l, zero-mark p hp y my ay, zero-mark p hp z mz az))
-        (k .lower p h)
-
     took : Took depth root table t m o j q x
     unfolding layerOf equationOf kOf
-    took = record { last = en; in-table = (hj, hq); member = is-member; others-held = held-others; lowest = not-taken }
+    took =
+        record {
+          last = en;
+          in-table = (hj, hq);
+          member = is-member;
+          others-held = held-others;
+          absent = absent j;
+          tells = told j (omega (arith, en));
+          lowest = λ p h. not-taken j p hj (omega (arith, hq)) (absent j) (k .lower p h);
+        }
 
     failing : (count (absent j) ms ≡ 0) × (x ≡ lastOf ms 0) × (xorOf (symAt tree (st .tree) j) ms ≢ zeros) → LastOfFailing depth root table t m o j q x
     unfolding kOf
@@ -397,24 +427,21 @@ module _ (depth : ℕ) (root table t m o : List ℕ) (e : repairTested depth roo
       λ i hi h. mark-at (st .marks) j i ∙ a .cleared j i (omega (arith, x .last)) hi h .0 in
       let lost : (i : ℕ) → markAt (st .marks) j i ≡ 0 → absent j i ≡ true = λ i z. is-absent (st .marks) j i (λ h. omega arith) in
       let in-table : (p : ℕ) → p < 3 * dataSymbols j → p < length (layerOf tbl j) = λ p h. omega (arith, ok .equations j lj) in
-      let low : (p : ℕ) → p < 3 * dataSymbols j → (y : ℕ) → IsMember y (members tbl j p) → y < allSymbols j =
-      λ p hp y mem. ltb-true y (nOf j) (every-member-of (λ z. ltb z (nOf j)) (members tbl j p) (members-below depth tbl ok j p lj hp) y mem) in
       record {
         layer = j;
         is-end = q;
         last = x .last;
         incomplete = let (i, h, b) = x .missing in (i, h, gone i h b);
         first = λ l i h hi. marked-1 (st .marks) l i (a .above l (omega (arith, x .last)) .full i hi);
+        absent = absent j;
+        tells = told j (omega (arith, x .last));
         within-gaps = λ i hi z. gap-is j i lj hi (x .largest .inside i hi (lost i z));
-        never-once = λ p says r hr c.
-            x .largest .stopping r (in-table r hr)
-            (sym (meets-count p (absent j) (members tbl j r)
-            (λ y mem. same-test (p y) (absent j y) (λ b. lost y (says y (low r hr y mem) .0 b)) (λ b. says y (low r hr y mem) .1 (gone y (low r hr y mem) b))))
-            ∙ c);
+        never-once = λ r hr c. x .largest .stopping r (in-table r hr) (sym (meets-count (absent j) (members tbl j r)) ∙ c);
         largest = λ s w n i hi b.
             gone i hi
             (x .largest .contains s (λ y hy c. is-gap j y lj hy (w y hy c))
-            (λ r hr c. n r (omega (arith, ok .equations j lj)) (meets-count s s (members tbl j r) (λ y mem. refl) ∙ c)) i hi b);
+            (λ r hr c. n r (omega (arith, ok .equations j lj)) (meets-count s (members tbl j r) ∙ c)) i hi b);
+        none-taken = λ r hr. not-taken j r lj hr (absent j) (x .passed r (in-table r hr));
         out-untouched = x .out-kept;
       }
 

@@ -13,6 +13,7 @@ use Rattle.octets.specs.Choice.{pick}
 use Rattle.octets.proofs.Choice.{by-test, pick-ind, and-yes, yes-and, both, not-yes, not-no}
 use Rattle.sha256.specs.Call.{longest, fits, answer, number}
 use Rattle.sha256.specs.declared.Answer.{Answer as Hashed}
+use Rattle.sha256.specs.declared.Answer.the-variants as hashed
 use Rattle.parity_table.specs.Shape.{depthFits, kOf, nOf}
 use Rattle.parity_table.specs.declared.Answer.{Answer as Read}
 use Rattle.parity_table.specs.declared.Answer.the-variants as read
@@ -39,7 +40,7 @@ use Rattle.sampling.specs.declared.Found.the-variants.{At, Nothing}
 use Rattle.sampling.specs.Absent.{absent, foundBelow, firstAbsent}
 use Rattle.sampling.specs.Lent.{BaseSymbol}
 use Rattle.sampling.proofs.SymbolLaws.{sample-place-lt}
-use Rattle.cedunmi.specs.declared.Stop.the-variants.{Depth, Length, Mark, Number, Hash, Absent}
+use Rattle.cedunmi.specs.declared.Stop.the-variants.{Depth, Length, Table, Mark, Number, Head, Hash, NoFault, Absent}
 use Rattle.cedunmi.specs.declared.Answer.{Answer}
 use Rattle.cedunmi.specs.declared.Answer.the-variants.{Done, Stopped}
 use Rattle.cedunmi.specs.Stops.{numberOf, valueOf}
@@ -450,11 +451,38 @@ module _ (d : ℕ) (root table t m o : List ℕ) where
       passes-unless k (passes-right d (wordsOf table) r (by-marks d m (k .tree-lengths .mark-bytes) Done (λ low. all-done)))))
       (λ q. stops-unless (λ r. true≢false (sym (own-repair r) ∙ q))))
 
+-- ---- the number 0
+
+done-only : (a : Answer) → numberOf a ≡ 0 → a ≡ Done
+done-only Done e = refl
+done-only (Stopped Depth) e = absurd (omega arith)
+done-only (Stopped Length) e = absurd (omega arith)
+done-only (Stopped (Table i)) e = absurd (omega arith)
+done-only (Stopped (Mark p)) e = absurd (omega arith)
+done-only (Stopped Number) e = absurd (omega arith)
+done-only (Stopped Head) e = absurd (omega arith)
+done-only (Stopped Hash) e = absurd (omega arith)
+done-only (Stopped NoFault) e = absurd (omega arith)
+done-only (Stopped (Absent x)) e = absurd (omega arith)
+
+whole-only : (a : Read) → reader.numberOf a ≡ 0 → a ≡ read.Whole
+whole-only read.Depth e = absurd (omega arith)
+whole-only read.Length e = absurd (omega arith)
+whole-only (read.Wrong i) e = absurd (omega arith)
+whole-only read.Whole e = refl
+
+hashed-only : (a : Hashed) → number a ≡ 0 → a ≡ hashed.Done
+hashed-only hashed.Done e = refl
+hashed-only hashed.Length e = absurd (omega arith)
+
 -- ---- all of them
 
 pub refusals : Refusals
 refusals =
     record {
+      done-call = λ a. (done-only a, λ e. ap numberOf e);
+      done-read = λ a. (whole-only a, λ e. ap reader.numberOf e);
+      done-hash = λ a. (hashed-only a, λ e. ap number e);
       hasher = hasher;
       table-words = table-words;
       table-bytes = table-bytes;

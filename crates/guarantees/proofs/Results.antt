@@ -152,6 +152,7 @@ pub results : Results
 unfolding repaired
 results =
     record {
+      ends = λ j e x n i. (refl, refl, refl, refl);
       of-hash = λ m d. of-hash (answer m d);
       of-table = of-table;
       of-call = of-call;

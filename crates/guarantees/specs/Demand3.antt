@@ -1,7 +1,7 @@
 -- Demand 3. Statements only. The tree is 01's (Trees.antt), with `sha256`; the equations are those that the table's words say.
 use mathlib.Core.Path.{_≡_}
 use mathlib.Core.Logic.{_⊎_, _↔_, _≢_}
-use mathlib.Core.Bool.{Bool, true}
+use mathlib.Core.Bool.{Bool, true, false}
 use mathlib.Core.List.{List, [], _∷_, _++_}
 use Prim.Native.Nat.{ℕ, zero, suc, _+_, _-_, _*_, _≤_, _<_}
 use lib.ListN.{length, getD, take, drop, replicate}
@@ -51,6 +51,24 @@ unfoldable pub inLayers : (ℕ → ℕ → Bool) → ℕ → ℕ
 inLayers p zero = 0
 inLayers p (suc l) = howMany (p l) (allSymbols l) + inLayers p l
 
+-- ---- 01 (b), by the members of a layer's equations and its symbols as they are left; a symbol that is held doesn't change any more
+
+module _ (symbol : ℕ → List ℕ) (equation : ℕ → List ℕ) where
+  -- Where the symbols of a set are absent, equation q isn't taken: it is complete and was used, so that it holds, or has two absent members.
+  abbrev pub NotTaken : (ℕ → Bool) → ℕ → Type 0
+  NotTaken absent q =
+      (((x : ℕ) → IsMember x (equation q) → absent x ≡ false) × EquationHolds symbol (equation q))
+      ⊎ ((x : ℕ) × (y : ℕ) × IsMember x (equation q) × IsMember y (equation q) × (x < y) × (absent x ≡ true) × (absent y ≡ true))
+
+-- "Take the lowest unused equation with at most one absent member. One absent: form it from the others; if its hash fits, store and mark it": from the
+-- gaps to the symbols that are absent at last, one stored after the other
+pub data Peeled (symbols equations : ℕ) (Gap : ℕ → Type 0) (symbol : ℕ → List ℕ) (equation : ℕ → List ℕ) : (ℕ → Bool) → Type 0 where
+  none-stored : {absent : ℕ → Bool} → ((x : ℕ) → x < symbols → (absent x ≡ true) ↔ Gap x) → Peeled symbols equations Gap symbol equation absent
+  stores : {before after : ℕ → Bool} → Peeled symbols equations Gap symbol equation before → (e x : ℕ) → e < equations
+      → IsMember x (equation e) → before x ≡ true → ((y : ℕ) → IsMember y (equation e) → y ≢ x → before y ≡ false) → EquationHolds symbol (equation e)
+      → ((q : ℕ) → q < e → NotTaken symbol equation before q)
+      → ((y : ℕ) → y < symbols → (after y ≡ true) ↔ ((before y ≡ true) × (y ≢ x))) → Peeled symbols equations Gap symbol equation after
+
 module _ (depth : ℕ) (root table t m o : List ℕ) where
   -- what 01's steps of repair make of the tree t, the marks m and the output o
   abbrev pub steps : St
@@ -81,6 +99,14 @@ module _ (depth : ℕ) (root table t m o : List ℕ) where
   abbrev pub Gap : ℕ → ℕ → Type 0
   Gap j i = (markAt m j i ≡ 0) ⊎ (sha256 (symbolAt t j i) ≢ committed j i)
 
+  -- "no equation meets [the set] exactly once"
+  abbrev pub NeverOnce : ℕ → (ℕ → Bool) → Type 0
+  NeverOnce j s = (e : ℕ) → e < 3 * dataSymbols j → meets s (equation j e) ≢ 1
+
+  -- a test tells which symbols of layer j are now marked 0
+  abbrev pub Tells : ℕ → (ℕ → Bool) → Type 0
+  Tells j absent = (i : ℕ) → i < allSymbols j → (absent i ≡ true) ↔ (mark j i ≡ 0)
+
   -- ---- 01, "Repair", of every end; `steps .entered` layers were entered
 
   pub record EveryEnd : Type 0 where
@@ -98,10 +124,14 @@ module _ (depth : ℕ) (root table t m o : List ℕ) where
     -- "every layer above the last one entered is complete, all its equations holding"
     pub above-complete : (j i : ℕ) → suc j < steps .entered → i < allSymbols j → mark j i ≡ 1
     pub above-holds : (j e : ℕ) → suc j < steps .entered → e < 3 * dataSymbols j → EquationHolds (symbol j) (equation j e)
-    -- the number stored "equals the gaps of entered layers now marked 1", by whichever test tells these
-    pub counted : (p : ℕ → ℕ → Bool)
-        → ((j i : ℕ) → j < steps .entered → i < allSymbols j → (p j i ≡ true) ↔ (Gap j i × (mark j i ≡ 1)))
-        → steps .stored ≡ inLayers p (steps .entered)
+    -- the number stored "equals the gaps of entered layers now marked 1", which this test tells
+    pub was-stored : ℕ → ℕ → Bool
+    pub tells-stored : (j i : ℕ) → j < steps .entered → i < allSymbols j → (was-stored j i ≡ true) ↔ (Gap j i × (mark j i ≡ 1))
+    pub counted : steps .stored ≡ inLayers was-stored (steps .entered)
+    -- (b), in every entered layer
+    pub absent : ℕ → ℕ → Bool
+    pub tells-absent : (j : ℕ) → j < steps .entered → Tells j (absent j)
+    pub peeled : (j : ℕ) → j < steps .entered → Peeled (allSymbols j) (3 * dataSymbols j) (Gap j) (symbol j) (equation j) (absent j)
 
   -- ---- ".. and ends in one of these four ways: with every symbol marked held in a correctly coded tree that agrees with that root and table; .."
 
@@ -114,18 +144,14 @@ module _ (depth : ℕ) (root table t m o : List ℕ) where
 
   -- 01 (b), "Take the lowest unused equation with at most one absent member": at layer j equation e was taken, x being the member that is withheld
 
-  -- a lower equation was used, so that it is complete and holds, or has two absent members
-  abbrev pub NotTaken : ℕ → ℕ → Type 0
-  NotTaken j q =
-      (((x : ℕ) → IsMember x (equation j q) → mark j x ≡ 1) × EquationHolds (symbol j) (equation j q))
-      ⊎ ((x : ℕ) × (y : ℕ) × IsMember x (equation j q) × IsMember y (equation j q) × (x < y) × (mark j x ≡ 0) × (mark j y ≡ 0))
-
   pub record Took (j e x : ℕ) : Type 0 where
     pub last : steps .entered ≡ suc j
     pub in-table : (j < depth) × (e < 3 * dataSymbols j)
     pub member : IsMember x (equation j e)
     pub others-held : (y : ℕ) → IsMember y (equation j e) → y ≢ x → mark j y ≡ 1
-    pub lowest : (q : ℕ) → q < e → NotTaken j q
+    pub absent : ℕ → Bool
+    pub tells : Tells j absent
+    pub lowest : (q : ℕ) → q < e → NotTaken (symbol j) (equation j) absent q
 
   -- "One absent: form it from the others; [..] None absent and the equation fails: withhold the last member"
   abbrev pub LastOfFailing : ℕ → ℕ → ℕ → Type 0
@@ -157,14 +183,16 @@ module _ (depth : ℕ) (root table t m o : List ℕ) where
     -- the topmost with a mark 0
     pub incomplete : (i : ℕ) × (i < allSymbols layer) × (mark layer i ≡ 0)
     pub first : (j i : ℕ) → j < layer → i < allSymbols j → mark j i ≡ 1
-    -- the missing symbols are a set within the layer's gaps that no equation meets exactly once, by whichever test tells them
+    -- the missing symbols, which this test tells, are a set within the layer's gaps that no equation meets exactly once
+    pub absent : ℕ → Bool
+    pub tells : Tells layer absent
     pub within-gaps : (i : ℕ) → i < allSymbols layer → mark layer i ≡ 0 → Gap layer i
-    pub never-once : (p : ℕ → Bool) → ((i : ℕ) → i < allSymbols layer → (p i ≡ true) ↔ (mark layer i ≡ 0))
-        → (e : ℕ) → e < 3 * dataSymbols layer → meets p (equation layer e) ≢ 1
+    pub never-once : NeverOnce layer absent
     -- and every other such set lies inside them
-    pub largest : (s : ℕ → Bool) → ((i : ℕ) → i < allSymbols layer → s i ≡ true → Gap layer i)
-        → ((e : ℕ) → e < 3 * dataSymbols layer → meets s (equation layer e) ≢ 1)
+    pub largest : (s : ℕ → Bool) → ((i : ℕ) → i < allSymbols layer → s i ≡ true → Gap layer i) → NeverOnce layer s
         → (i : ℕ) → i < allSymbols layer → s i ≡ true → mark layer i ≡ 0
+    -- "When none can be taken": every equation is complete and holds, or has two absent members
+    pub none-taken : (e : ℕ) → e < 3 * dataSymbols layer → NotTaken (symbol layer) (equation layer) absent e
     pub out-untouched : steps .out ≡ o
 
   -- ---- ".. or with two different symbols of equal SHA-256, shown."

@@ -1,16 +1,22 @@
 -- "What stops a call", of every call but the check of a fault proof (FaultProofs.antt): which number and value, and just when. Each test stands in 01's
 -- words, and a call makes its tests in this order. Statements only.
 use mathlib.Core.Path.{_≡_}
-use mathlib.Core.Logic.{_≢_}
+use mathlib.Core.Logic.{_↔_, _≢_}
 use mathlib.Core.List.{List}
 use Prim.Native.Nat.{ℕ, suc, _+_, _-_, _*_, _%_, _^_, _≤_, _<_}
 use lib.ListN.{length, getD}
 use Rattle.sha256.specs.Hash.{sha256}
 use Rattle.sha256.specs.Call.{answer, number}
+use Rattle.sha256.specs.declared.Answer.{Answer as Hashed}
+use Rattle.sha256.specs.declared.Answer.the-variants as hashed
+use Rattle.parity_table.specs.declared.Answer.{Answer as Read}
+use Rattle.parity_table.specs.declared.Answer.the-variants.{Whole}
 use Rattle.parity_table.specs.Right as reader
 use Rattle.parity_table.specs.Reader.{readOf}
 use Rattle.parity_table.specs.Bytes.{wordsOf, readBytesOf}
 use Rattle.parity_table.specs.House.{houseWords, houseAnswer}
+use Rattle.cedunmi.specs.declared.Answer.{Answer}
+use Rattle.cedunmi.specs.declared.Answer.the-variants.{Done}
 use Rattle.cedunmi.specs.Stops.{numberOf, valueOf}
 use Rattle.cedunmi.specs.Volume.{treeWritten, blockRead}
 use Rattle.cedunmi.specs.Sample.{sampleTaken, sampleChecked}
@@ -139,6 +145,10 @@ module _ (d : ℕ) (root table t m o : List ℕ) where
 -- ---- each call answers as its tests say, and not otherwise
 
 pub record Refusals : Type 0 where
+  -- 0 is done, or accepted, and nothing else is
+  pub done-call : (a : Answer) → (numberOf a ≡ 0) ↔ (a ≡ Done)
+  pub done-read : (a : Read) → (reader.numberOf a ≡ 0) ↔ (a ≡ Whole)
+  pub done-hash : (a : Hashed) → (number a ≡ 0) ↔ (a ≡ hashed.Done)
   pub hasher : (m d : List ℕ) → JustWhen (number (answer m d)) 0 (hashTests m d)
   pub table-words : (d : ℕ) (ws : List ℕ) → JustWhen (reader.numberOf (readOf d ws)) (reader.valueOf (readOf d ws)) (wordsTests d ws)
   pub table-bytes : (d : ℕ) (b : List ℕ) → JustWhen (reader.numberOf (readBytesOf d b)) (reader.valueOf (readBytesOf d b)) (tableTests d b)

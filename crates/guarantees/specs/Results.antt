@@ -9,6 +9,8 @@ use Rattle.sha256.specs.Call.{answer, number}
 use Rattle.parity_table.specs.declared.Answer.{Answer as Read}
 use Rattle.parity_table.specs.Right as reader
 use Rattle.model.specs.Repair.{End, working, whole, fault, unavailable, twins}
+use Rattle.repair.specs.declared.End.the-variants as report
+use Rattle.repair.specs.Reports.{endOf}
 use Rattle.cedunmi.specs.declared.Answer.{Answer}
 use Rattle.cedunmi.specs.declared.Answer.the-variants.{Done}
 use Rattle.cedunmi.specs.Stops.{numberOf, valueOf}
@@ -56,6 +58,10 @@ EndSaid r working = ⊥
 
 -- of every answer to every call; the contract of each says that it returns this number
 pub record Results : Type 0 where
+  -- the ends that `repair_tree` answers with, each with its numbers
+  pub ends : (layer equation withheld size number : ℕ)
+      → (endOf report.Whole ≡ whole) × (endOf (report.Fault layer equation withheld size) ≡ fault layer equation withheld size)
+      × (endOf (report.Unavailable layer) ≡ unavailable layer) × (endOf (report.Twins layer number) ≡ twins layer number)
   pub of-hash : (m d : List ℕ) → Says (number (answer m d)) (number (answer m d)) 0
   pub of-table : (a : Read) → Says (tableResult a) (reader.numberOf a) (reader.valueOf a)
   pub of-call : (a : Answer) → Says (callResult a) (numberOf a) (valueOf a)
