@@ -1,5 +1,6 @@
 pub mod Answers
 pub mod Layouts
+pub mod Padding
 pub mod Tables
 pub mod Trees
 pub mod Membership

@@ -1,4 +1,5 @@
 pub mod Layouts
+pub mod Padding
 pub mod Terms
 pub mod Tables
 pub mod Trees
