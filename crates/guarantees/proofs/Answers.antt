@@ -1,7 +1,7 @@
 -- A call that stops at a test, and one that passes it.
 use mathlib.Core.Path.{_≡_, refl, sym, _∙_, subst}
 use Prim.Native.Nat.{ℕ}
-use Rattle.guarantees.specs.Answers.{Answered, done, test, fails, holds, unless, JustWhen}
+use Rattle.guarantees.specs.Answers.{done, test, fails, holds, unless, JustWhen}
 
 -- no test is left
 pub all-done : JustWhen 0 0 done

@@ -18,7 +18,7 @@ use Rattle.parity_table.proofs.ByteForm.{bytes-accepted}
 use Rattle.parity_table.proofs.RoundTrip.{house-bytes-accepted}
 use Rattle.symbol_hash.specs.SymbolHash.{symbolHash}
 use Rattle.model.specs.Shape.{tree, place, places}
-use Rattle.model.specs.Symbols.{symbolIn, slot, symAt}
+use Rattle.model.specs.Symbols.{symbolIn, symAt}
 use Rattle.model.specs.Fault.{proofLength, proofLayer, proofEquation, proofMembers}
 use Rattle.model.proofs.Sound.{accepted-is}
 use Rattle.cedunmi.proofs.LoadLaws.{table-laws-of}

@@ -42,7 +42,7 @@ use Rattle.cedunmi.specs.declared.Answer.{Answer}
 use Rattle.cedunmi.specs.declared.Answer.the-variants.{Done}
 use Rattle.cedunmi.specs.Stops.{numberOf}
 use Rattle.cedunmi.specs.Marks.{lowestBad}
-use Rattle.cedunmi.specs.Volume.{treeWritten, treeLeft, rootLeft, blockLengths, lowestAbsent, blockRead}
+use Rattle.cedunmi.specs.Volume.{treeWritten, blockLengths, lowestAbsent, blockRead}
 use Rattle.cedunmi.specs.Sample.{led, needed, sampleTaken, sampleChecked}
 use Rattle.cedunmi.proofs.LoadLaws.{table-done}
 use Rattle.cedunmi.proofs.SampleLaws.{at-end, sample-end}

@@ -12,7 +12,7 @@ use Rattle.octets.specs.Choice.{pick}
 use Rattle.octets.specs.ByteLists.{same}
 use Rattle.octets.proofs.Choice.{by-test, pick-no, pick-ind, and-yes, yes-and, both, not-yes, not-no}
 use Rattle.sha256.specs.Hash.{sha256}
-use Rattle.parity_table.specs.Shape.{maxDepth, depthFits}
+use Rattle.parity_table.specs.Shape.{depthFits}
 use Rattle.parity_table.specs.Table.{layerOf, equationOf, TableOk, WellFormed}
 use Rattle.parity_table.specs.Bytes.{wordsOf, lengthFits, readBytesOf}
 use Rattle.parity_table.specs.Reader.{readOf}

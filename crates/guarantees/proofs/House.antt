@@ -1,5 +1,5 @@
 -- The words of a table's bytes, and the house table by its formula.
-use mathlib.Core.Path.{_≡_, refl, sym, ap, _∙_, subst}
+use mathlib.Core.Path.{_≡_, sym, ap, _∙_, subst}
 use mathlib.Core.Logic.{_⊎_, inl, inr, ⊎-elim}
 use mathlib.Core.List.{List, [], _∷_, _++_}
 use Prim.Native.Nat.{ℕ, zero, suc, _+_, _-_, _*_, _/_, _%_, _≤_, _<_, min, max}
@@ -12,12 +12,11 @@ use Rattle.octets.proofs.Bytes.{length-words}
 use Rattle.parity_table.specs.Shape.{kOf}
 use Rattle.parity_table.specs.Table.{layerOf, equationOf}
 use Rattle.parity_table.specs.Bytes.{wordsOf}
-use Rattle.parity_table.specs.House.{dataOne, dataTwo, houseEquation, houseTable, houseWords}
+use Rattle.parity_table.specs.House.{houseEquation, houseTable, houseWords}
 use Rattle.parity_table.proofs.ByteForm.{wordsOf-length}
 use Rattle.parity_table.proofs.HouseRules.{house-rules, house-members}
 use Rattle.parity_table.proofs.Parse.{formed-rules, formed-words}
 use Rattle.parity_table.proofs.RoundTrip.{house-bytes-words}
-use Rattle.guarantees.specs.Layouts.{dataSymbols, wordNo}
 use Rattle.guarantees.specs.Tables.{IsMember}
 use Rattle.guarantees.specs.Trees.{members}
 use Rattle.guarantees.specs.Terms.{equationsOf}

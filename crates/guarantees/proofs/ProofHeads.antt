@@ -1,5 +1,5 @@
 -- What the head of a fault proof names: the layer, the equation, the withheld member and the given ones are those that the checker reads.
-use mathlib.Core.Path.{_≡_, refl, sym, ap, ap₂, _∙_, subst}
+use mathlib.Core.Path.{_≡_, sym, ap, ap₂, _∙_, subst}
 use mathlib.Core.Bool.{true, _&&_}
 use mathlib.Core.List.{List, [], _∷_, _++_}
 use Prim.Native.Nat.{ℕ, suc, _+_, _-_, _*_, _/_, _%_, _^_, _≤_, _<_}
@@ -9,14 +9,14 @@ use lib.ListN.{length, length-append}
 use lib.Dec.{leb, ltb, eqb}
 use borrow.Author.Tests.{ltb-true, eqb-true, lt-ltb, le-leb, eq-eqb}
 use Rattle.octets.specs.BigEndian.{wordAt}
-use Rattle.octets.proofs.Choice.{by-test, pick-yes, pick-no, and-yes, yes-and}
+use Rattle.octets.proofs.Choice.{and-yes, yes-and}
 use Rattle.parity_table.specs.Shape.{nOf}
 use Rattle.parity_table.specs.Members.{every}
 use Rattle.parity_table.specs.Table.{layerOf, equationOf, TableOk}
 use Rattle.model.specs.Shape.{tree}
-use Rattle.model.specs.Symbols.{others, bit, count}
+use Rattle.model.specs.Symbols.{others, count}
 use Rattle.model.specs.Fault.{kindAt, valueAt, proofLayer, proofEquation, proofWithheld, proofLength, proofMembers, proofGiven, layerOk, equationOk, memberOk, headOk}
-use Rattle.model.proofs.Counts.{isIt, ascending-once, others-none, every-member, every-others}
+use Rattle.model.proofs.Counts.{isIt, ascending-once, every-member, every-others}
 use Rattle.model.proofs.Tables.{TableLaws, table-laws}
 use Rattle.model.proofs.Sound.{head-names}
 use Rattle.guarantees.specs.Layouts.{dataSymbols, wordNo, kindValue}

@@ -10,7 +10,7 @@ use lib.ListN.{length, getD}
 use lib.Dec.{leb, ltb, eqb}
 use borrow.Author.Tests.{ltb-true, ltb-false, leb-true, eqb-true, eqb-false, lt-ltb, le-leb, eq-eqb, ne-eqb}
 use Rattle.octets.specs.Choice.{pick}
-use Rattle.octets.proofs.Choice.{by-test, pick-ind, and-yes, yes-and, both, not-yes, not-no}
+use Rattle.octets.proofs.Choice.{by-test, pick-ind, and-yes, yes-and, both, not-yes}
 use Rattle.sha256.specs.Call.{longest, fits, answer, number}
 use Rattle.sha256.specs.declared.Answer.{Answer as Hashed}
 use Rattle.sha256.specs.declared.Answer.the-variants as hashed
@@ -35,7 +35,6 @@ use Rattle.model.proofs.Counts.{lowest-is}
 use Rattle.model.proofs.Shapes.{place-lt}
 use Rattle.model.proofs.Samples.{accepted-leads, leads-accepted}
 use Rattle.symbol_hash.specs.SymbolHash.{symbolHash}
-use Rattle.sampling.specs.declared.Found.{Found}
 use Rattle.sampling.specs.declared.Found.the-variants.{At, Nothing}
 use Rattle.sampling.specs.Absent.{absent, foundBelow, firstAbsent}
 use Rattle.sampling.specs.Lent.{BaseSymbol}
@@ -46,7 +45,7 @@ use Rattle.cedunmi.specs.declared.Answer.the-variants.{Done, Stopped}
 use Rattle.cedunmi.specs.Stops.{numberOf, valueOf}
 use Rattle.cedunmi.specs.Marks.{isBad, lowestBad}
 use Rattle.cedunmi.specs.Tables.{byTable}
-use Rattle.cedunmi.specs.Volume.{treeWritten, blockLengths, lowestAbsent, blockRead}
+use Rattle.cedunmi.specs.Volume.{treeWritten, blockLengths, blockRead}
 use Rattle.cedunmi.specs.Sample.{led, needed, sampleTaken, sampleChecked}
 use Rattle.cedunmi.specs.Repairs.{repairLengths, repairTested}
 use Rattle.guarantees.specs.Layouts.{bytesFrom, dataSymbols, treeSymbols, markAt, sampledLayer, sampledNumber}
@@ -54,7 +53,7 @@ use Rattle.guarantees.specs.Tables.{TableRight, FirstWrongWord}
 use Rattle.guarantees.specs.Answers.{done, test, unless, JustWhen}
 use Rattle.guarantees.specs.Refusals.{LowestOf, DepthRight, TableLength, TreeLengths, BlockLength, RootLength, SampleLength, BadMark, InBase, dataOfSample, AllHashesLead, hashTests, wordsTests, tableTests, houseTests, WriterLengths, writerTests, blockTests, samplerTests, sampleTests, RepairLengths, repairTests, Refusals}
 use Rattle.guarantees.proofs.Answers.{all-done, stops-here, passes-here, stops-unless, passes-unless}
-use Rattle.guarantees.proofs.Layouts.{tree-symbols, place-of, mark-at, hash-for}
+use Rattle.guarantees.proofs.Layouts.{tree-symbols, mark-at, hash-for}
 use Rattle.guarantees.proofs.Marks.{all-right}
 use Rattle.guarantees.proofs.Tables.{first-wrong, wrong-first, formed-right}
 

@@ -1,5 +1,5 @@
 -- What a C program reads from the number that a call returns is what the call answered.
-use mathlib.Core.Path.{_≡_, refl, sym, ap, _∙_, subst}
+use mathlib.Core.Path.{_≡_, refl, sym, _∙_}
 use mathlib.Core.Logic.{_≢_}
 use mathlib.Core.List.{List}
 use Prim.Native.Nat.{ℕ, _+_, _*_, _/_, _%_, _^_, _<_}
@@ -26,7 +26,7 @@ use Rattle.cedunmi.specs.Repairs.{repairTested, repairOf, repaired, ended, resu
 use Rattle.cedunmi.proofs.Ends.{repair-fits, four-ways}
 use Rattle.cedunmi_c.specs.Result.{packed, tableResult, callResult, repairResult}
 use Rattle.guarantees.specs.Terms.{equationsOf}
-use Rattle.guarantees.specs.Results.{cmtNumber, cmtRepairEnd, cmtRepairStored, Says, SaysEnd, EndSaid, Results}
+use Rattle.guarantees.specs.Results.{cmtNumber, cmtRepairEnd, cmtRepairStored, Says, EndSaid, Results}
 use Rattle.guarantees.proofs.Demand1.{stopped-not}
 
 -- a number below 256, with a value above it

@@ -1,5 +1,5 @@
 -- 01's rules of a table, and the definitions of crate `parity_table`: the same.
-use mathlib.Core.Path.{_≡_, refl, sym, ap, ap₂, _∙_, subst}
+use mathlib.Core.Path.{_≡_, refl, sym, _∙_}
 use mathlib.Core.Logic.{_↔_}
 use mathlib.Core.Bool.{true, _&&_}
 use mathlib.Core.List.{List, [], _∷_, _++_}
@@ -11,9 +11,9 @@ use borrow.Author.Tests.{lt-ltb, ltb-true}
 use Rattle.octets.proofs.Choice.{and-yes, yes-and}
 use Rattle.parity_table.specs.Shape.{kOf}
 use Rattle.parity_table.specs.Members.{every, ascending}
-use Rattle.parity_table.specs.Table.{layerOf, equationOf, EquationOk, TableOk, equationsWords, layersWords, tableWords, WellFormed, Begins, FirstWrong}
+use Rattle.parity_table.specs.Table.{layerOf, equationOf, EquationOk, TableOk, equationsWords, layersWords, tableWords, WellFormed, FirstWrong}
 use Rattle.model.proofs.Members.{last-get}
-use Rattle.guarantees.specs.Tables.{EquationRules, TableRules, equationsListed, layersListed, listed, TableRight, BeginsOne, FirstWrongWord}
+use Rattle.guarantees.specs.Tables.{EquationRules, TableRules, equationsListed, layersListed, listed, TableRight, FirstWrongWord}
 
 -- ---- members
 

@@ -1,10 +1,9 @@
 -- Trees by their bytes, and the definitions of crate `model`: the same.
-use mathlib.Core.Path.{_≡_, refl, sym, ap, _∙_, subst, fun-ext}
+use mathlib.Core.Path.{_≡_, sym, ap, _∙_, subst, fun-ext}
 use mathlib.Core.List.{List, []}
 use Prim.Native.Nat.{ℕ, suc, _-_, _*_, _<_}
 use native.Mathlib.Omega.{arith}
 use lib.ListN.{length, getD}
-use Rattle.sha256.specs.Hash.{sha256}
 use Rattle.parity_table.specs.Shape.{kOf, nOf}
 use Rattle.parity_table.specs.Table.{layerOf, equationOf, TableOk}
 use Rattle.parity_table.proofs.Rules.{members-below}
@@ -17,8 +16,8 @@ use Rattle.model.specs.Writer.{BaseOf}
 use Rattle.model.proofs.Members.{every-below}
 use Rattle.model.proofs.Binding.{root-slot, root-length, root-is}
 use Rattle.model.proofs.Shapes.{tree-root}
-use Rattle.guarantees.specs.Layouts.{bytesFrom, symbolNo, symbolAt, XorOf}
-use Rattle.guarantees.specs.Trees.{members, EquationHolds, CorrectlyCoded, RootOf, AgreesWith, HasBlock, Twins}
+use Rattle.guarantees.specs.Layouts.{bytesFrom, symbolAt, XorOf}
+use Rattle.guarantees.specs.Trees.{members, CorrectlyCoded, RootOf, AgreesWith, HasBlock, Twins}
 use Rattle.guarantees.proofs.Layouts.{symbol-at, hash-for, xor-one, xor-of}
 
 -- the tree buffer's symbols

@@ -5,7 +5,7 @@ use mathlib.Core.Path.{_≡_}
 use mathlib.Core.Logic.{_⊎_, _↔_}
 use mathlib.Core.List.{List}
 use Prim.Native.Nat.{ℕ, _-_, _*_, _<_}
-use lib.ListN.{length, getD}
+use lib.ListN.{getD}
 use Rattle.parity_table.specs.Bytes.{wordsOf}
 use Rattle.cedunmi.specs.declared.Answer.the-variants.{Done}
 use Rattle.cedunmi.specs.Volume.{treeWritten, treeLeft, marksLeft, rootLeft, blockRead, blockLeft}
