@@ -12,6 +12,7 @@ use Rattle.model.specs.Shape.{tree}
 use Rattle.model.specs.Symbols.{symbolIn, slot}
 use Rattle.model.specs.Fault.{pathHash}
 use Rattle.symbol_hash.specs.SymbolHash.{symbolHash}
+use Rattle.symbol_hash.specs.declared.Kind.{Kind}
 use Rattle.model.proofs.Shapes.{tree-ok}
 use Rattle.model.proofs.Flat.{take-drop-take}
 use Rattle.model.proofs.Hashes.{column-lt}
@@ -27,19 +28,19 @@ slot-lt (suc u) m k z e h = subst (λ v. m / v < 8) (sym (e ∙ ap kOf (layer-ab
 
 -- ---- h, the hash of s as symbol m of layer j, is compared with the committed one
 
-module _ (root h s : List ℕ) (j m : ℕ) (eh : h ≡ symbolHash j m s) where
+module _ (kind : Kind) (root h s : List ℕ) (j m : ℕ) (eh : h ≡ symbolHash kind j m s) where
   full : length h ≡ 32
-  full = ap length eh ∙ length-symbolHash j m s
+  full = ap length eh ∙ length-symbolHash kind j m s
 
   -- in the root
-  pub fits-root : (c : List ℕ) → j ≡ 0 → same h (take (length h) (drop (32 * m) root)) ≡ same (symbolHash j m s) (pathHash tree root j m c)
+  pub fits-root : (c : List ℕ) → j ≡ 0 → same h (take (length h) (drop (32 * m) root)) ≡ same (symbolHash kind j m s) (pathHash tree root j m c)
   unfolding pathHash slot
   fits-root c z =
       ap (λ n. same h (take n (drop (32 * m) root))) full ∙ ap₂ (λ l u. same u (pathHash tree root l m c)) (sym z) eh
 
   -- in the symbol of the layer above, which stands in b from byte up on
   pub fits-above : (b : List ℕ) (up k : ℕ) → j ≢ 0 → k ≡ kOf (j - 1) → m < tree .n j
-      → same h (take (length h) (drop (up + 32 * (m / k)) b)) ≡ same (symbolHash j m s) (pathHash tree root j m (drop up b))
+      → same h (take (length h) (drop (up + 32 * (m / k)) b)) ≡ same (symbolHash kind j m s) (pathHash tree root j m (drop up b))
   unfolding pathHash slot symbolIn
   fits-above b up k z e lt =
       ap (λ n. same h (take n (drop (up + 32 * (m / k)) b))) full ∙ ap₂ same eh (there j z lt e)

@@ -1,4 +1,4 @@
-// The hash of a symbol at its layer and number, SHA-256 of its bytes, and whether it is the committed one.
+// The hash of a symbol at its layer and number, by the kind of its volume, and whether it is the committed one.
 mod committed; // where the committed hash stands
 
 pub use committed::fits;
@@ -8,6 +8,12 @@ ghost use lib.ListN.{length};
 ghost use Rattle.sha256.specs.Call.{longest};
 ghost use Rattle.symbol_hash.specs.SymbolHash.{symbolHash};
 
+// How a volume's symbols are hashed.
+pub enum Kind {
+    // SHA-256 of the symbol's bytes
+    Plain,
+}
+
 // What the check of symbols on the way up to the root finds.
 pub enum Way {
     // every hash leads to the root
@@ -16,11 +22,15 @@ pub enum Way {
     Breaks(usize),
 }
 
-pub fn hash(layer: usize, number: usize, symbol: &[u8]) -> [u8; 32]
+pub fn hash(kind: Kind, layer: usize, number: usize, symbol: &[u8]) -> [u8; 32]
     requires { ⌜ length (now symbol) ≤ longest ⌝ }
-    ensures { λ r. ⌜ r ≡ symbolHash layer number (now (symbol .entry)) ⌝ }
+    ensures { λ r. ⌜ r ≡ symbolHash kind layer number (now (symbol .entry)) ⌝ }
 {
     let mut digest = [0u8; 32];
-    sha256::digest(symbol, &mut digest);
+    match kind {
+        Kind::Plain => {
+            sha256::digest(symbol, &mut digest);
+        }
+    }
     digest
 }

@@ -2,7 +2,7 @@
 use mathlib.Core.Path.{refl, _∙_}
 use borrow.Author.Needs.{needs}
 use Rattle.sha256.proofs.CallLaws.{written}
-use Rattle.symbol_hash.specs.SymbolHash.{symbolHash}
+use Rattle.symbol_hash.proofs.Laws.{plain-is}
 use Rattle.symbol_hash.proofs.hash.Statement.{statement}
 use Rattle.symbol_hash.proofs.hash.Tie as tie
 
@@ -13,8 +13,9 @@ digest-requires : tie.Need-digest-requires
 digest-requires c κs = search needs
 
 returns : tie.Need-returns
-unfolding symbolHash
-returns c = c .before .digest2 .ensures .1 ∙ written _ _ (c .before .before .before .before .pre) refl
+returns c =
+    let a = c .before .before .before .before .args in
+    c .before .digest2 .ensures .1 ∙ written _ _ (c .before .before .before .before .pre) refl ∙ plain-is (a .kind) (a .layer) (a .number) (a .symbol .now)
 
 pub hash-spec : {M : Type 1} → statement M
 hash-spec = tie.close (tie.spec slice-aggregate-digest digest-requires returns)

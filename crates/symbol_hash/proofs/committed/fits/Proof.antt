@@ -1,11 +1,10 @@
 -- `fits` meets its contract: the hash is compared where the root, or the symbol of the layer above, has it.
-use mathlib.Core.Path.{ap, _∙_}
+use mathlib.Core.Path.{_∙_}
 use Prim.Native.Nat.{_-_}
 use native.Mathlib.Omega.{arith}
 use lib.ListN.{drop}
 use borrow.Author.Needs.{needs}
-use Rattle.model.specs.Shape.{tree}
-use Rattle.model.proofs.Shapes.{tree-ok, tree-root, n-small}
+use Rattle.model.proofs.Shapes.{tree-ok}
 use Rattle.symbol_hash.proofs.CommittedLaws.{slot-lt, fits-root, fits-above}
 use Rattle.symbol_hash.proofs.committed.fits.Statement.{statement}
 use Rattle.symbol_hash.proofs.committed.fits.Tie as tie
@@ -18,20 +17,19 @@ slice-aggregate-equal-at c = search needs
 
 mul-equal-at : tie.Need-mul-equal-at
 mul-equal-at c =
-    let a = c .before .before .before .before .before .before .args in
     let pre = c .before .before .before .before .before .before .pre in
-    omega (arith, pre .1, n-small (a .j) (pre .0))
+    omega (arith, pre .2 (c .before .if1 .taken))
 
 equal-at-requires : tie.Need-equal-at-requires
 equal-at-requires c κs =
     let pre = c .before .before .before .before .before .before .pre in
-    omega (arith, pre .1, ap (tree .n) (c .before .if1 .taken), tree-root)
+    omega (arith, pre .2 (c .before .if1 .taken))
 
 returns : tie.Need-returns
 returns c =
     let a = c .before .before .before .before .before .before .before .args in
     c .equal-at .ensures
-    ∙ fits-root (a .root .now) _ (a .symbol .now) (a .j) (a .m) (c .before .before .before .hash .ensures) (drop (a .up) (a .b .now)) (c .before .before .if1 .taken)
+    ∙ fits-root (a .kind) (a .root .now) _ (a .symbol .now) (a .j) (a .m) (c .before .before .before .hash .ensures) (drop (a .up) (a .b .now)) (c .before .before .if1 .taken)
 
 sub-data-count : tie.Need-sub-data-count
 sub-data-count c = search needs
@@ -51,26 +49,26 @@ mul-equal-at-2 : tie.Need-mul-equal-at-2
 mul-equal-at-2 c =
     let a = c .before .before .before .before .before .before .before .args in
     let pre = c .before .before .before .before .before .before .before .pre in
-    omega (arith, slot-lt (a .j) (a .m) (c .before .data-count .result) (c .before .before .if1 .left) (c .before .data-count .ensures) (pre .1))
+    omega (arith, slot-lt (a .j) (a .m) (c .before .data-count .result) (c .before .before .if1 .left) (c .before .data-count .ensures) (pre .3 (omega (arith, c .before .before .if1 .left)) .0))
 
 add-equal-at : tie.Need-add-equal-at
 add-equal-at c =
     let a = c .before .before .before .before .before .before .before .args in
     let pre = c .before .before .before .before .before .before .before .pre in
-    omega (arith, slot-lt (a .j) (a .m) (c .before .data-count .result) (c .before .before .if1 .left) (c .before .data-count .ensures) (pre .1), pre .4 (omega (arith, c .before .before .if1 .left)))
+    omega (arith, slot-lt (a .j) (a .m) (c .before .data-count .result) (c .before .before .if1 .left) (c .before .data-count .ensures) (pre .3 (omega (arith, c .before .before .if1 .left)) .0), pre .3 (omega (arith, c .before .before .if1 .left)) .1)
 
 equal-at-requires-2 : tie.Need-equal-at-requires-2
 equal-at-requires-2 c κs =
     let a = c .before .before .before .before .before .before .before .args in
     let pre = c .before .before .before .before .before .before .before .pre in
-    omega (arith, slot-lt (a .j) (a .m) (c .before .data-count .result) (c .before .before .if1 .left) (c .before .data-count .ensures) (pre .1), pre .4 (omega (arith, c .before .before .if1 .left)))
+    omega (arith, slot-lt (a .j) (a .m) (c .before .data-count .result) (c .before .before .if1 .left) (c .before .data-count .ensures) (pre .3 (omega (arith, c .before .before .if1 .left)) .0), pre .3 (omega (arith, c .before .before .if1 .left)) .1)
 
 returns-2 : tie.Need-returns-2
 returns-2 c =
     let a = c .before .before .before .before .before .before .before .before .args in
     let pre = c .before .before .before .before .before .before .before .before .pre in
     c .equal-at2 .ensures
-    ∙ fits-above (a .root .now) _ (a .symbol .now) (a .j) (a .m) (c .before .before .before .before .hash .ensures) (a .b .now) (a .up) (c .before .before .data-count .result) (c .before .before .before .if1 .left) (c .before .before .data-count .ensures) (pre .1)
+    ∙ fits-above (a .kind) (a .root .now) _ (a .symbol .now) (a .j) (a .m) (c .before .before .before .before .hash .ensures) (a .b .now) (a .up) (c .before .before .data-count .result) (c .before .before .before .if1 .left) (c .before .before .data-count .ensures) (pre .3 (omega (arith, c .before .before .before .if1 .left)) .0)
 
 pub fits-spec : {M : Type 1} → statement M
 fits-spec =
