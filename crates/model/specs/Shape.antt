@@ -23,6 +23,11 @@ pub record TreeOk (S : Shape) : Type 0 where
 abbrev pub tree : Shape
 tree = record { k = kOf; n = nOf }
 
+-- layer j of S hangs under layers of the tree's numbers: nothing is asked of layer j itself or below
+pub record Hangs (S : Shape) (j : ℕ) : Type 0 where
+  pub k-above : (l : ℕ) → l < j → S .k l ≡ kOf l
+  pub n-above : (l : ℕ) → l < j → S .n l ≡ nOf l
+
 module _ (S : Shape) where
   -- "The tree buffer holds all layers, top first": the symbols of the d topmost layers, which are all those of a tree of depth d
   unfoldable pub places : ℕ → ℕ
