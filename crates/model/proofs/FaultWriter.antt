@@ -4,7 +4,7 @@ use mathlib.Core.Logic.{_≢_}
 use mathlib.Core.Bool.{Bool, true, false, not}
 use mathlib.Core.List.{List, [], _∷_, _++_, append-assoc, append-nil}
 use Prim.Native.Nat.{ℕ, zero, suc, _+_, _-_, _*_, _/_, _%_, _^_, _≤_, _<_}
-use native.Mathlib.Nat.{zero-add, mul-le-mul-right, div-div-eq-div-mul, mod-eq-of-lt, div-add-mod'}
+use native.Mathlib.Nat.{zero-add, div-div-eq-div-mul, mod-eq-of-lt, div-add-mod'}
 use native.Mathlib.Omega.{arith}
 use lib.ListN.{length, take, drop, length-append, length-drop}
 use lib.Seq.{drop-at, take-append-le, drop-append-le}
@@ -25,10 +25,10 @@ use Rattle.model.proofs.Shapes.{up-lt}
 use Rattle.model.proofs.Tables.{TableLaws}
 use Rattle.model.proofs.Ways.{reached-up, reached-lt, committed-same, fits-way}
 
--- p is a proof at equation e of layer j, withholding x, that the checker accepts and the output buffer holds
+-- p is a proof at equation e of layer j, withholding x, that the checker accepts
 pub record GoodProof (S : Shape) (H : ℕ → ℕ → List ℕ → List ℕ) (root : List ℕ) (tbl : List (List (List ℕ))) (j e x : ℕ) (p : List ℕ) : Type 0 where
   pub accepts : verdict S H root tbl p ≡ accepted
-  pub fits : length p ≤ 12 + 256 * (8 * length tbl - 1)
+  pub sized : length p ≡ proofLength j (length (equationOf tbl j e))
   pub layer-is : proofLayer p ≡ j
   pub equation-is : proofEquation p ≡ e
   pub withheld-is : proofWithheld p ≡ x
@@ -78,6 +78,16 @@ module _ (kind v : ℕ) (r : List ℕ) where
   value-2 : valueAt (be 4 (word kind v) ++ r) 2 ≡ valueAt r 1
   unfolding valueAt wordAt be
   value-2 = refl
+
+-- what is read from the head of a proof that is written, whose numbers fit
+module _ (S : Shape) (f : ℕ → ℕ → List ℕ) (j e x : ℕ) (ms : List ℕ) (j-small : j < 2 ^ 30) (e-small : e < 2 ^ 30) (x-small : x < 2 ^ 30) where
+  head-kinds : let b : List ℕ = proofBytes S f j e x ms in (kindAt b 0 ≡ 1) × (kindAt b 1 ≡ 2) × (kindAt b 2 ≡ 3)
+  unfolding proofBytes
+  head-kinds = (kind-0 1 j _ (lit< tt) j-small, kind-1 1 j _ ∙ kind-0 2 e _ (lit< tt) e-small, kind-2 1 j _ ∙ kind-1 2 e _ ∙ kind-0 3 x _ (lit< tt) x-small)
+
+  pub head-values : let b : List ℕ = proofBytes S f j e x ms in (proofLayer b ≡ j) × (proofEquation b ≡ e) × (proofWithheld b ≡ x)
+  unfolding proofBytes proofLayer proofEquation proofWithheld
+  head-values = (value-0 1 j _ (lit< tt) j-small, value-1 1 j _ ∙ value-0 2 e _ (lit< tt) e-small, value-2 1 j _ ∙ value-1 2 e _ ∙ value-0 3 x _ (lit< tt) x-small)
 
 -- ---- what is written
 
@@ -230,24 +240,16 @@ module _ (S : Shape) (sh : ShapeOk S) (f : ℕ → ℕ → List ℕ) (j : ℕ) (
 
       -- what the checker reads from the head
       kinds : (kindAt bytes 0 ≡ 1) × (kindAt bytes 1 ≡ 2) × (kindAt bytes 2 ≡ 3)
-      unfolding proofBytes
-      kinds = (kind-0 1 j _ (lit< tt) j-small, kind-1 1 j _ ∙ kind-0 2 e _ (lit< tt) e-small, kind-2 1 j _ ∙ kind-1 2 e _ ∙ kind-0 3 x _ (lit< tt) x-small)
-
-      values : (valueAt bytes 0 ≡ j) × (valueAt bytes 1 ≡ e) × (valueAt bytes 2 ≡ x)
-      unfolding proofBytes
-      values = (value-0 1 j _ (lit< tt) j-small, value-1 1 j _ ∙ value-0 2 e _ (lit< tt) e-small, value-2 1 j _ ∙ value-1 2 e _ ∙ value-0 3 x _ (lit< tt) x-small)
+      kinds = head-kinds S f j e x ms j-small e-small x-small
 
       is-layer : proofLayer bytes ≡ j
-      unfolding proofLayer
-      is-layer = values .0
+      is-layer = head-values S f j e x ms j-small e-small x-small .0
 
       is-equation : proofEquation bytes ≡ e
-      unfolding proofEquation
-      is-equation = values .1
+      is-equation = head-values S f j e x ms j-small e-small x-small .1
 
       is-withheld : proofWithheld bytes ≡ x
-      unfolding proofWithheld
-      is-withheld = values .2
+      is-withheld = head-values S f j e x ms j-small e-small x-small .2
 
       is-members : proofMembers tbl bytes ≡ ms
       unfolding proofMembers
@@ -282,11 +284,6 @@ module _ (S : Shape) (sh : ShapeOk S) (f : ℕ → ℕ → List ℕ) (j : ℕ) (
             path-length j x (omega arith),
           )
 
-      -- it fits the output buffer
-      bytes-fit : length bytes ≤ 12 + 256 * (8 * length tbl - 1)
-      unfolding proofLength
-      bytes-fit = omega (arith, bytes-length, mul-le-mul-right {m = length ms - 1} {n = 7} (suc j) (omega (arith, ok .few-members j e hj he)))
-
       -- a function of the parts that are read, at what they are
       at-parts : {X : Type 0} (F : ℕ → ℕ → List ℕ → List ℕ → X) → F (proofLayer bytes) (proofWithheld bytes) (proofGiven tbl bytes) (body bytes) ≡ F j x (others x ms) rest
       at-parts F =
@@ -318,4 +315,4 @@ module _ (S : Shape) (sh : ShapeOk S) (f : ℕ → ℕ → List ℕ) (j : ℕ) (
           ∙ pick-no false _ _ refl
 
       pub proof-good : GoodProof S H root tbl j e x bytes
-      proof-good = record { accepts = bytes-accepted; fits = bytes-fit; layer-is = is-layer; equation-is = is-equation; withheld-is = is-withheld }
+      proof-good = record { accepts = bytes-accepted; sized = bytes-length; layer-is = is-layer; equation-is = is-equation; withheld-is = is-withheld }

@@ -16,11 +16,11 @@ use Rattle.model.specs.Shape.{Shape, ShapeOk, place, places}
 use Rattle.octets.specs.ByteLists.{same}
 use Rattle.model.specs.Symbols.{symbolIn, bit, slot, committed, symAt, putAt}
 use Rattle.model.specs.Repair.{absentAt}
-use Rattle.model.specs.Ends.{tally, Complete, gapAt, filledIn, filled, Drained}
+use Rattle.model.specs.Ends.{Sized, tally, Complete, gapAt, filledIn, filled, Drained}
 use Rattle.model.proofs.Members.{xorOf-same}
 use Rattle.model.proofs.Shapes.{places-mono, place-lt, place-differs, up-lt}
 use Rattle.model.proofs.Tables.{TableLaws}
-use Rattle.model.proofs.Flat.{paste-right, put-other}
+use Rattle.model.proofs.Flat.{paste-right, symAt-length, put-other}
 
 -- ---- what two lists have alike from a place on
 
@@ -35,13 +35,17 @@ module _ (S : Shape) (d l i : ℕ) (h : d ≤ l) where
   unfolding symAt symbolIn place
   sym-below t u e = ap (take 256) (drop-more (256 * places S d) (256 * (places S l + i)) t u (omega (arith, places-mono S d l h)) e)
 
-  pub mark-below : (m n : List ℕ) → drop (places S d) m ≡ drop (places S d) n → absentAt S m l i ≡ absentAt S n l i
-  unfolding absentAt place
-  mark-below m n e =
+  pub byte-below : (m n : List ℕ) → drop (places S d) m ≡ drop (places S d) n → getD m (place S l i) 0 ≡ getD n (place S l i) 0
+  unfolding place
+  byte-below m n e =
       let at : places S d + (places S l + i - places S d) ≡ places S l + i = add-sub-of-le (omega (arith, places-mono S d l h)) in
       let read : (x : List ℕ) → getD x (places S l + i) 0 ≡ getD (drop (places S d) x) (places S l + i - places S d) 0 =
       λ x. ap (λ (k : ℕ). getD x k 0) (sym at) ∙ sym (getD-drop (places S d) x (places S l + i - places S d) 0) in
-      ap (λ (v : ℕ). not (eqb v 1)) (read m ∙ ap (λ (x : List ℕ). getD x (places S l + i - places S d) 0) e ∙ sym (read n))
+      read m ∙ ap (λ (x : List ℕ). getD x (places S l + i - places S d) 0) e ∙ sym (read n)
+
+  pub mark-below : (m n : List ℕ) → drop (places S d) m ≡ drop (places S d) n → absentAt S m l i ≡ absentAt S n l i
+  unfolding absentAt
+  mark-below m n e = ap (λ (v : ℕ). not (eqb v 1)) (byte-below m n e)
 
 -- ---- one symbol changed
 
@@ -73,6 +77,10 @@ module _ (S : Shape) (d : ℕ) (t m : List ℕ) (ht : length t ≡ 256 * places 
   pub mark-there : (b : ℕ) → absentAt S (set m (place S j x) b) j x ≡ not (eqb b 1)
   unfolding absentAt
   mark-there b = ap (λ (v : ℕ). not (eqb v 1)) (getD-set-same m (place S j x) b 0 mark-room)
+
+-- every symbol of a tree of the right length has 256 bytes
+pub symbol-sized : (S : Shape) (tbl : List (List (List ℕ))) (t m : List ℕ) → Sized S tbl t m → (l i : ℕ) → l < length tbl → i < S .n l → length (symAt S t l i) ≡ 256
+symbol-sized S tbl t m sz l i hl hi = symAt-length S t l i (room S (length tbl) t m (sz .tree-length) (sz .marks-length) l i hl hi)
 
 -- ---- tallies
 
@@ -106,6 +114,17 @@ tally-one-more p q (suc n) x h px qx k =
     omega (arith, ap bit (ap p e ∙ px), ap bit (ap q e ∙ qx), tally-cong q p n (λ i l. k i (omega arith) (omega arith))))
     (λ t. let ne = eqb-false n x t in
     omega (arith, ap bit (k n (omega arith) ne), tally-one-more p q n x (omega (arith, ne)) px qx (λ i l w. k i (omega arith) w)))
+
+-- counts of filled gaps are the same where each symbol's is
+pub filled-cong : (S : Shape) (H : ℕ → ℕ → List ℕ → List ℕ) (root t₀ m₀ t m t₀′ m₀′ t′ m′ : List ℕ) (d : ℕ)
+    → ((l i : ℕ) → l < d → i < S .n l → (gapAt S H root t₀′ m₀′ t′ l i && not (absentAt S m′ l i)) ≡ (gapAt S H root t₀ m₀ t l i && not (absentAt S m l i)))
+    → filled S H root t₀′ m₀′ t′ m′ d ≡ filled S H root t₀ m₀ t m d
+unfolding filled filledIn
+filled-cong S H root t₀ m₀ t m t₀′ m₀′ t′ m′ zero h = refl
+filled-cong S H root t₀ m₀ t m t₀′ m₀′ t′ m′ (suc d) h =
+    ap₂ (λ (a b : ℕ). a + b)
+    (tally-cong _ _ (S .n d) (λ i k. h d i (omega arith) k))
+    (filled-cong S H root t₀ m₀ t m t₀′ m₀′ t′ m′ d (λ l i k. h l i (omega arith)))
 
 module _ (S : Shape) (sh : ShapeOk S) (H : ℕ → ℕ → List ℕ → List ℕ) (root : List ℕ) (tbl : List (List (List ℕ))) (ok : TableLaws S tbl) where
   -- the symbols of layer l and above are the same

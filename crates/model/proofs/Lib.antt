@@ -18,7 +18,14 @@ pub mod FaultWriter
 pub mod Steps
 pub mod Peel
 pub mod Frame
+pub mod Hung
+pub mod Agreement
+pub mod Confluence
 pub mod Replay
+pub mod Storing
 pub mod Peeling
+pub mod Sweeping
+pub mod Closing
+pub mod Entering
 pub mod FourEnds
 pub mod Outcomes

@@ -1,12 +1,15 @@
--- What an accepted fault proof holds has 256 bytes. A repair that ends with one shows a collision with every tree that agrees; one that ends whole
--- gives back the block that was written, or shows a collision.
+-- What an accepted fault proof holds has 256 bytes. The head of a proof that a repair ends with names what was taken, and it shows a collision with every
+-- tree that agrees. A repair that ends whole gives back the block that was written, or shows a collision.
 use mathlib.Core.Path.{_≡_, ap, _∙_, subst}
 use mathlib.Core.Logic.{_⊎_, ⊎-elim}
 use mathlib.Core.List.{List, [], _∷_}
-use Prim.Native.Nat.{ℕ, zero, suc, _+_, _-_, _*_, _%_, _≤_}
+use Prim.Native.Nat.{ℕ, zero, suc, _+_, _-_, _*_, _%_, _≤_, _<_}
 use native.Mathlib.Omega.{arith}
 use lib.ListN.{length, take, drop, length-drop}
 use lib.Seq.{length-take-le}
+use lib.Dec.{ltb}
+use borrow.Author.Tests.{ltb-true}
+use Rattle.parity_table.specs.Table.{layerOf, equationOf}
 use Rattle.model.specs.Shape.{Shape, ShapeOk}
 use Rattle.model.specs.Symbols.{symbolIn, others, count, symAt}
 use Rattle.model.specs.Coded.{Digests, Agrees, Collision, CollisionWith}
@@ -14,10 +17,12 @@ use Rattle.model.specs.Writer.{blockOf, writtenRoot, Written}
 use Rattle.model.specs.Fault.{proofLayer, proofEquation, proofWithheld, proofLength, body, next, afterGiven, proofMembers, proofGiven, accepted, verdict, InWay, InGiven, InPath, ProofHolds}
 use Rattle.model.specs.Repair.{St, whole}
 use Rattle.model.specs.Ends.{WholeEnd, FaultEnd, EndOk, Ended}
-use Rattle.model.proofs.Counts.{isIt, ascending-once, length-others}
+use Rattle.model.proofs.Counts.{isIt, every-member, ascending-once, length-others}
 use Rattle.model.proofs.Tables.{TableLaws}
 use Rattle.model.proofs.Binding.{original-block}
 use Rattle.model.proofs.Sound.{accepted-is, sound}
+use Rattle.model.proofs.FaultWriter.{head-values}
+use Rattle.model.proofs.Peeling.{taken-member}
 
 module _ (S : Shape) where
   way-sized : (j i : ℕ) (c : List ℕ) (l m : ℕ) (s : List ℕ) → 256 * suc j ≤ length c → InWay S j i c l m s → length s ≡ 256
@@ -54,6 +59,18 @@ module _ (S : Shape) (H : ℕ → ℕ → List ℕ → List ℕ) (root : List �
       let room : length (body b) ≡ 256 * (length (others x ms) * suc j) + 256 * j = omega (arith, length-drop 12 b, a .exact, product) in
       ⊎-elim (given-sized S j (others x ms) (body b) l m s (omega (arith, room)))
       (path-sized S j x (afterGiven j (others x ms) (body b)) l m s (omega (arith, room, after-length j (others x ms) (body b)))) p
+
+-- the head of a fault's proof names its layer, its equation and the member that is withheld
+pub fault-head : (S : Shape) (H : ℕ → ℕ → List ℕ → List ℕ) (root : List ℕ) (tbl : List (List (List ℕ))) → TableLaws S tbl → (o₀ : List ℕ) (j e x n : ℕ) (st : St) → j < length tbl
+    → FaultEnd S H root tbl o₀ j e x n st → (proofLayer (take n (st .out)) ≡ j) × (proofEquation (take n (st .out)) ≡ e) × (proofWithheld (take n (st .out)) ≡ x)
+fault-head S H root tbl ok o₀ j e x n st hj end =
+    let ms : List ℕ = equationOf tbl j e in
+    let he : e < length (layerOf tbl j) = end .taken .in-table in
+    let below : x < S .n j =
+    ltb-true x (S .n j) (every-member (λ y. ltb y (S .n j)) x ms (ok .within j e hj he) (taken-member S H root tbl ok (st .tree) (st .marks) j e x hj (end .taken))) in
+    let (l, q, w) =
+    head-values S (symAt S (st .tree)) j e x ms (omega (arith, ok .shallow)) (omega (arith, ok .sizes j hj, ok .narrow j hj)) (omega (arith, ok .narrow j hj)) in
+    (ap proofLayer (end .proof) ∙ l, ap proofEquation (end .proof) ∙ q, ap proofWithheld (end .proof) ∙ w)
 
 -- a fault end and a tree that agrees
 pub fault-collision : (S : Shape) → ShapeOk S → (H : ℕ → ℕ → List ℕ → List ℕ) → Digests H → (tbl : List (List (List ℕ))) → TableLaws S tbl → (root o₀ : List ℕ) (j e x n : ℕ) (st : St)

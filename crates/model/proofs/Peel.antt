@@ -14,7 +14,7 @@ use Rattle.parity_table.specs.Table.{layerOf, equationOf}
 use Rattle.octets.proofs.Choice.{by-test, and-yes, yes-and, both}
 use Rattle.model.specs.Shape.{Shape, place}
 use Rattle.model.specs.Symbols.{bit, count, firstOf}
-use Rattle.model.specs.Ends.{Stopping, Largest}
+use Rattle.model.specs.Ends.{Within, Stopping, Largest}
 use Rattle.model.specs.Repair.{going, St, useEq, writeFault, writeTwins, absentAt, storeSym, takeable, lowestEq, restOf, act, step, peel}
 use Rattle.model.proofs.Counts.{and-no, isIt, count-mono, count-same, count-less, firstOf-counts, every-at}
 use Rattle.model.proofs.Tables.{TableLaws}
@@ -43,7 +43,7 @@ unfolding place
 place-ne S j x y n e = n (omega arith)
 
 -- a stored symbol is held, and the others are as they were
-absent-same : (S : Shape) (m : List ℕ) (j x : ℕ) → place S j x < length m → absentAt S (set m (place S j x) 1) j x ≡ false
+pub absent-same : (S : Shape) (m : List ℕ) (j x : ℕ) → place S j x < length m → absentAt S (set m (place S j x) 1) j x ≡ false
 unfolding absentAt
 absent-same S m j x h = ap (λ (v : ℕ). not (eqb v 1)) (getD-set-same m (place S j x) 1 0 h)
 
@@ -51,20 +51,38 @@ pub absent-other : (S : Shape) (m : List ℕ) (j x y : ℕ) → y ≢ x → abse
 unfolding absentAt
 absent-other S m j x y n = ap (λ (v : ℕ). not (eqb v 1)) (getD-set-other m (place S j x) (place S j y) 1 0 (place-ne S j x y n))
 
-absent-fewer : (S : Shape) (m : List ℕ) (j x : ℕ) → place S j x < length m → (y : ℕ) → absentAt S (set m (place S j x) 1) j y ≡ true → absentAt S m j y ≡ true
+pub absent-fewer : (S : Shape) (m : List ℕ) (j x : ℕ) → place S j x < length m → (y : ℕ) → absentAt S (set m (place S j x) 1) j y ≡ true → absentAt S m j y ≡ true
 absent-fewer S m j x h y t =
     by-test (eqb y x)
     (λ u. both (sym (ap (absentAt S (set m (place S j x) 1) j) (eqb-true y x u)) ∙ t) (absent-same S m j x h))
     (λ u. sym (absent-other S m j x y (eqb-false y x u)) ∙ t)
 
 module _ (S : Shape) (H : ℕ → ℕ → List ℕ → List ℕ) (root : List ℕ) (tbl : List (List (List ℕ))) (ok : TableLaws S tbl) (j : ℕ) (hj : j < length tbl) where
+  -- no used equation meets s exactly once
+  abbrev pub NotOnce : List ℕ → (ℕ → Bool) → Type 0
+  NotOnce us s = (e : ℕ) → e < length (layerOf tbl j) → eqb (getD us e 0) 0 ≡ false → count s (equationOf tbl j e) ≢ 1
+
+  not-once-before : (us : List ℕ) (q : ℕ) (s : ℕ → Bool) → q < length us → NotOnce (set us q 1) s → NotOnce us s
+  not-once-before us q s h n e k t =
+      n e k (by-test (eqb e q)
+      (λ u. subst (λ (z : ℕ). eqb (getD (set us q 1) z 0) 0 ≡ false) (sym (eqb-true e q u)) (ap (λ (v : ℕ). eqb v 0) (getD-set-same us q 1 0 h)))
+      (λ u. ap (λ (v : ℕ). eqb v 0) (getD-set-other us q e 1 0 (eqb-false e q u)) ∙ t))
+
   -- g are the gaps
   pub record Inv (g : ℕ → Bool) (m us : List ℕ) : Type 0 where
     pub roomy : (x : ℕ) → x < S .n j → place S j x < length m
     pub listed : length us ≡ length (layerOf tbl j)
     pub done : (e : ℕ) → e < length (layerOf tbl j) → eqb (getD us e 0) 0 ≡ false → count (absentAt S m j) (equationOf tbl j e) ≡ 0
     pub inside : Inside (absentAt S m j) g
-    pub largest : (s : ℕ → Bool) → Inside s g → Stopping S tbl j s → Inside s (absentAt S m j)
+    -- a set of gaps that no used equation meets exactly once is absent still
+    pub largest : (s : ℕ → Bool) → Inside s g → NotOnce us s → Inside s (absentAt S m j)
+
+  -- the same of a set of symbols of the layer
+  pub largest-within : (g : ℕ → Bool) (m us : List ℕ) → Inv g m us → (s : ℕ → Bool) → Within (S .n j) s g → NotOnce us s → Within (S .n j) s (absentAt S m j)
+  largest-within g m us i s w n x h t =
+      i .largest (λ y. ltb y (S .n j) && s y)
+      (λ y q. let (l, v) = and-yes (ltb y (S .n j)) (s y) q in w y (ltb-true y (S .n j) l) v)
+      (λ e k u c. n e k u (count-same (λ y. ltb y (S .n j)) s (equationOf tbl j e) (ok .within j e hj k) ∙ c)) x (yes-and (lt-ltb x (S .n j) h) t)
 
   -- an equation with no absent member is marked used
   pub inv-use : (g : ℕ → Bool) (m us : List ℕ) (e : ℕ) → e < length (layerOf tbl j) → count (absentAt S m j) (equationOf tbl j e) ≡ 0 → Inv g m us → Inv g m (set us e 1)
@@ -76,13 +94,12 @@ module _ (S : Shape) (H : ℕ → ℕ → List ℕ → List ℕ) (root : List �
             (λ u. subst (λ (z : ℕ). count (absentAt S m j) (equationOf tbl j z) ≡ 0) (sym (eqb-true q e u)) c)
             (λ u. i .done q k (sym (ap (λ (v : ℕ). eqb v 0) (getD-set-other us e q 1 0 (eqb-false q e u))) ∙ t));
         inside = i .inside;
-        largest = i .largest;
+        largest = λ s sg sn. i .largest s sg (not-once-before us e s (omega (arith, i .listed)) sn);
       }
 
   -- the one absent member x of an equation is stored
   pub inv-store : (g : ℕ → Bool) (m us : List ℕ) (e : ℕ) → e < length (layerOf tbl j)
       → count (absentAt S m j) (equationOf tbl j e) ≡ 1 → Inv g m us → Inv g (set m (place S j (firstOf (absentAt S m j) (equationOf tbl j e))) 1) (set us e 1)
-  unfolding Stopping
   inv-store g m us e h c i =
       let a : ℕ → Bool = absentAt S m j in
       let ms : List ℕ = equationOf tbl j e in
@@ -105,9 +122,10 @@ module _ (S : Shape) (H : ℕ → ℕ → List ℕ → List ℕ) (root : List �
             ));
         inside = λ y t. i .inside y (fewer y t);
         largest = λ s sg sn y t.
-            let sa : (z : ℕ) → s z ≡ true → a z ≡ true = i .largest s sg sn in
+            let used : e < length us = omega (arith, i .listed) in
+            let sa : (z : ℕ) → s z ≡ true → a z ≡ true = i .largest s sg (not-once-before us e s used sn) in
             by-test (eqb y x)
-            (λ u. absurd (sn e h (omega (arith, c, count-mono s a sa ms, firstOf-counts s a ms pos (sym (ap s (eqb-true y x u)) ∙ t)))))
+            (λ u. absurd (sn e h (ap (λ (w : ℕ). eqb w 0) (getD-set-same us e 1 0 used)) (omega (arith, c, count-mono s a sa ms, firstOf-counts s a ms pos (sym (ap s (eqb-true y x u)) ∙ t)))))
             (λ u. absent-other S m j x y (eqb-false y x u) ∙ sa y t);
       }
 
@@ -127,11 +145,6 @@ module _ (S : Shape) (H : ℕ → ℕ → List ℕ → List ℕ) (root : List �
       (λ c z. refute-ind S H root tbl (InvSt g) j e ms (lastOf ms 0) (restOf S j ms (lastOf ms 0) st) st (λ t. i) (λ t. i))
       (λ c. form-ind S H root tbl (InvSt g) j e ms (firstOf a ms) (restOf S j ms (firstOf a ms) st) st
       (λ t. inv-store g (st .marks) (st .used) e h (omega (arith, leb-true (count a ms) 1 tc)) i) (λ t. i)))
-
-  inv-peel : (g : ℕ → Bool) (f : ℕ) (st : St) → InvSt g st → InvSt g (peel S H root tbl j f st)
-  unfolding peel
-  inv-peel g zero st i = i
-  inv-peel g (suc f) st i = inv-peel g f (step S H root tbl j st) (inv-step g st i)
 
   -- ---- enough turns
 
@@ -177,20 +190,15 @@ module _ (S : Shape) (H : ℕ → ℕ → List ℕ → List ℕ) (root : List �
       (uses st e (equationOf tbl j e) (omega (arith, i .listed)) (and-yes (eqb (getD (st .used) e 0) 0) (leb (count (absentAt S (st .marks) j) (equationOf tbl j e)) 1) tk .0)))
       (inv-step g st i) ge
 
-  -- Where the peeling of a layer ends with nothing to be taken, what is absent is the largest stopping set within the gaps.
-  pub peeled : (g : ℕ → Bool) (f : ℕ) (st : St) → InvSt g st → unused st ≤ f → going (peel S H root tbl j f st .end) ≡ true
-      → Largest S tbl j g (absentAt S (peel S H root tbl j f st .marks) j)
+  -- Where nothing can be taken, what is absent is the largest stopping set within the gaps.
+  pub largest-of : (g : ℕ → Bool) (st : St) → InvSt g st → NoTake st → Largest S tbl j g (absentAt S (st .marks) j)
   unfolding Stopping takeable
-  peeled g f st i u ge =
-      let r : St = peel S H root tbl j f st in
-      let i′ : InvSt g r = inv-peel g f st i in
+  largest-of g st i nt =
       record {
-        inside = λ x h t. i′ .inside x t;
-        stopping = λ e h c. ⊎-elim (λ n. omega (arith, i′ .done e h n)) (λ n. omega (arith, leb-false (count (absentAt S (r .marks) j) (equationOf tbl j e)) 1 n))
-            (and-no (eqb (getD (r .used) e 0) 0) (leb (count (absentAt S (r .marks) j) (equationOf tbl j e)) 1) (settled g f st i u ge e h));
-        contains = λ s w n x h t. i′ .largest (λ y. ltb y (S .n j) && s y)
-            (λ y q. let (l, v) = and-yes (ltb y (S .n j)) (s y) q in w y (ltb-true y (S .n j) l) v)
-            (λ e k c. n e k (count-same (λ y. ltb y (S .n j)) s (equationOf tbl j e) (ok .within j e hj k) ∙ c)) x (yes-and (lt-ltb x (S .n j) h) t);
+        inside = λ x h t. i .inside x t;
+        stopping = λ e h c. ⊎-elim (λ n. omega (arith, i .done e h n)) (λ n. omega (arith, leb-false (count (absentAt S (st .marks) j) (equationOf tbl j e)) 1 n))
+            (and-no (eqb (getD (st .used) e 0) 0) (leb (count (absentAt S (st .marks) j) (equationOf tbl j e)) 1) (nt e h));
+        contains = λ s w n. largest-within g (st .marks) (st .used) i s w (λ e k _. n e k);
       }
 
   -- the gaps of the layer satisfy the invariant when its peeling begins

@@ -1,285 +1,121 @@
 -- The peeling of a layer keeps what is promised of each end.
 use mathlib.Core.Path.{_≡_, refl, sym, ap, ap₂, _∙_, subst}
-use mathlib.Core.Logic.{_⊎_, inl, inr, ⊎-elim, _≢_}
-use mathlib.Core.Bool.{Bool, true, false, not, _&&_, false≢true}
+use mathlib.Core.Logic.{inl, inr, ⊎-elim, _≢_}
+use mathlib.Core.Bool.{Bool, true, false, not, _&&_, false≢true, true≢false}
 use mathlib.Core.List.{List, _++_, append-assoc}
-use Prim.Native.Nat.{ℕ, zero, suc, _+_, _-_, _*_, _≤_, _<_}
+use Prim.Native.Nat.{ℕ, zero, suc, _≤_, _<_}
 use native.Mathlib.Omega.{arith}
-use lib.ListN.{length, getD, take, drop, set, length-set, length-append}
-use lib.Seq.{getD-set-other, take-append-seam, drop-append-seam, take-at, drop-at}
+use lib.ListN.{length, getD, take, drop, length-append}
+use lib.Seq.{take-append-seam, drop-append-seam, take-at, drop-at}
 use lib.Dec.{leb, ltb, eqb}
-use borrow.Author.Tests.{ltb-true, leb-true, leb-false, eqb-true, eqb-false}
+use borrow.Author.Tests.{ltb-true, leb-true, leb-false}
 use Rattle.parity_table.specs.Members.{every, lastOf}
 use Rattle.parity_table.specs.Table.{layerOf, equationOf}
 use Rattle.parity_table.specs.Parse.{over}
-use Rattle.octets.proofs.Choice.{by-test, and-yes, yes-and, both, not-yes}
-use Rattle.model.specs.Shape.{Shape, ShapeOk, place, places}
+use Rattle.octets.proofs.Choice.{and-yes, not-yes}
+use Rattle.model.specs.Shape.{Shape, ShapeOk}
 use Rattle.octets.specs.ByteLists.{xors}
-use Rattle.model.specs.Symbols.{symbolIn, xorOf, zeros, others, count, firstOf, committed, symAt, putAt}
-use Rattle.model.specs.Fault.{proofBytes, verdict, proofLayer, proofEquation, proofWithheld}
+use Rattle.model.specs.Symbols.{symbolIn, xorOf, zeros, others, count, firstOf, committed, symAt}
+use Rattle.model.specs.Fault.{proofBytes, verdict}
 use Rattle.model.specs.Repair.{End, working, whole, fault, unavailable, twins, going, St, useEq, writeFault, writeTwins, absentAt, storeSym, fitsAt, takeable, restOf, step, peel}
-use Rattle.model.specs.Ends.{gapAt, filledIn, filled, Always, Passed, Peels, stores, Taken, EndOk}
+use Rattle.model.specs.Ends.{Roomy, PeeledAll, Always, Passed, Taken, EndOk}
+use Rattle.model.specs.Alike.{kindOf}
+use Rattle.model.specs.Finals.{Grown, Unfit, LastLayer}
 use Rattle.model.proofs.Bytes.{same-yes, same-no, sym-self}
-use Rattle.model.proofs.Members.{length-xorOf, xorOf-cong}
-use Rattle.model.proofs.Counts.{and-no, isIt, firstOf-passes, every-at, every-others, every-member, ascending-once, xorOf-others, others-differ, none-absent, others-held, every-both, last-member, first-member}
+use Rattle.model.proofs.Members.{length-xorOf}
+use Rattle.model.proofs.Counts.{and-no, isIt, every-others, every-member, ascending-once, xorOf-others, none-absent, others-held, every-both, last-member, first-member}
 use Rattle.model.proofs.Tables.{TableLaws}
-use Rattle.model.proofs.Flat.{put-length, put-there, symAt-length}
 use Rattle.model.proofs.FaultWriter.{GoodProof, proof-good}
 use Rattle.model.proofs.Steps.{act-ind, form-ind, refute-ind, step-ind}
-use Rattle.model.proofs.Peel.{Inv, inv-use, inv-store}
-use Rattle.model.proofs.Replay.{Alike, passed-keep, peels-keep}
-use Rattle.model.proofs.Frame.{room, put-keep, put-after, mark-after, byte-keep, mark-keep, mark-there, tally-one-more, Keeps, committed-keep, hash-keep, complete-keep, gap-keep, filled-keep, drained-keep}
+use Rattle.model.proofs.Storing.{Mid, grown-mid, mid-use, mid-store, peeled-store}
+use Rattle.model.proofs.Frame.{symbol-sized}
 
-and-true : (b : Bool) → (b && true) ≡ b
-and-true true = refl
-and-true false = refl
-
--- a stop: what always holds, and the end's own promise
+-- a stop: what always holds, the end's own promise, and what makes it a final state
 pub record Stop (S : Shape) (H : ℕ → ℕ → List ℕ → List ℕ) (root : List ℕ) (tbl : List (List (List ℕ))) (t₀ m₀ o₀ : List ℕ) (st : St) (en : End) : Type 0 where
   pub always : Always S H root tbl t₀ m₀ (st .tree) (st .marks) (st .stored) (st .entered)
   pub ends : EndOk S H root tbl t₀ m₀ o₀ st en
+  pub grown : (l : ℕ) → suc l ≡ st .entered → Grown S H root tbl t₀ m₀ (st .tree) (st .marks) l
+  pub last : LastLayer S H root tbl st (kindOf en)
 
-module _ (S : Shape) (sh : ShapeOk S) (H : ℕ → ℕ → List ℕ → List ℕ) (root : List ℕ) (tbl : List (List (List ℕ))) (ok : TableLaws S tbl) (t₀ m₀ o₀ : List ℕ) (ho : length o₀ ≡ 12 + 256 * (8 * length tbl - 1))
+-- the member that is withheld is one of its equation
+pub taken-member : (S : Shape) (H : ℕ → ℕ → List ℕ → List ℕ) (root : List ℕ) (tbl : List (List (List ℕ))) → TableLaws S tbl → (t m : List ℕ) (j e x : ℕ) → j < length tbl
+    → Taken S H root tbl t m j e x → 1 ≤ count (isIt x) (equationOf tbl j e)
+taken-member S H root tbl ok t m j e x hj took =
+    let ms : List ℕ = equationOf tbl j e in
+    ⊎-elim (λ one. rw (one .1) (first-member (absentAt S m j) ms (omega (arith, one .0)))) (λ none. rw (none .1) (last-member ms 0 (ok .some-member j e hj (took .in-table)))) (took .withheld)
+
+-- a repair goes on with G, or has stopped with T of its end; it isn't whole before the last layer
+abbrev pub Goes : Type 0 → (End → Type 0) → End → Type 0
+Goes G T working = G
+Goes G T whole = ⊥
+Goes G T (fault l e x n) = T (fault l e x n)
+Goes G T (unavailable l) = T (unavailable l)
+Goes G T (twins l x) = T (twins l x)
+
+module _ (G : Type 0) (T : End → Type 0) where
+  pub goes-on : (z : End) → going z ≡ true → Goes G T z → G
+  unfolding going
+  goes-on working g s = s
+  goes-on whole g s = absurd s
+  goes-on (fault l e x n) g s = absurd (false≢true g)
+  goes-on (unavailable l) g s = absurd (false≢true g)
+  goes-on (twins l x) g s = absurd (false≢true g)
+
+  pub has-stopped : (z : End) → going z ≡ false → Goes G T z → T z
+  unfolding going
+  has-stopped working g s = absurd (true≢false g)
+  has-stopped whole g s = absurd s
+  has-stopped (fault l e x n) g s = s
+  has-stopped (unavailable l) g s = s
+  has-stopped (twins l x) g s = s
+
+  -- a stop is one whatever it would go on with
+  pub stays-stopped : (F : Type 0) (z : End) → going z ≡ false → Goes G T z → Goes F T z
+  unfolding going
+  stays-stopped F working g s = absurd (true≢false g)
+  stays-stopped F whole g s = s
+  stays-stopped F (fault l e x n) g s = s
+  stays-stopped F (unavailable l) g s = s
+  stays-stopped F (twins l x) g s = s
+
+module _ (S : Shape) (sh : ShapeOk S) (H : ℕ → ℕ → List ℕ → List ℕ) (root : List ℕ) (tbl : List (List (List ℕ))) (ok : TableLaws S tbl) (t₀ m₀ o₀ : List ℕ) (ho : Roomy tbl o₀)
     (j : ℕ) (hj : j < length tbl) (m₁ : List ℕ) where
-  -- in the peeling of layer j; m₁ are the marks with which it began
-  pub record Mid (st : St) : Type 0 where
-    pub last : st .entered ≡ suc j
-    pub always : Always S H root tbl t₀ m₀ (st .tree) (st .marks) (st .stored) (suc j)
-    pub inv : Inv S H root tbl ok j hj (absentAt S m₁ j) (st .marks) (st .used)
-    pub gap-is : (i : ℕ) → i < S .n j → absentAt S m₁ j i ≡ gapAt S H root t₀ m₀ (st .tree) j i
-    pub used-holds : (e : ℕ) → e < length (layerOf tbl j) → eqb (getD (st .used) e 0) 0 ≡ false → xorOf (symAt S (st .tree) j) (equationOf tbl j e) ≡ zeros
-    pub out-kept : st .out ≡ o₀
+  abbrev MidSt : St → Type 0
+  MidSt st = Mid S sh H root tbl ok t₀ m₀ o₀ ho j hj m₁ st
 
   abbrev pub Stage : St → End → Type 0
-  Stage st working = Mid st
-  Stage st whole = ⊥
-  Stage st (fault l e x n) = Stop S H root tbl t₀ m₀ o₀ st (fault l e x n)
-  Stage st (unavailable l) = Stop S H root tbl t₀ m₀ o₀ st (unavailable l)
-  Stage st (twins l x) = Stop S H root tbl t₀ m₀ o₀ st (twins l x)
+  Stage st z = Goes (MidSt st) (Stop S H root tbl t₀ m₀ o₀ st) z
 
   abbrev pub StageSt : St → Type 0
   StageSt st = Stage st (st .end)
 
-  pub mid-of : (st : St) (en : End) → going en ≡ true → Stage st en → Mid st
-  unfolding going
-  mid-of st working g s = s
-  mid-of st whole g s = absurd s
-  mid-of st (fault l e x n) g s = absurd (false≢true g)
-  mid-of st (unavailable l) g s = absurd (false≢true g)
-  mid-of st (twins l x) g s = absurd (false≢true g)
-
-  mid-use : (st : St) (e : ℕ) → e < length (layerOf tbl j) → count (absentAt S (st .marks) j) (equationOf tbl j e) ≡ 0 → xorOf (symAt S (st .tree) j) (equationOf tbl j e) ≡ zeros → Mid st → Mid (useEq e st)
-  unfolding useEq
-  mid-use st e h c z i =
-      record {
-        last = i .last;
-        always = i .always;
-        inv = inv-use S H root tbl ok j hj (absentAt S m₁ j) (st .marks) (st .used) e h c (i .inv);
-        gap-is = i .gap-is;
-        used-holds = λ q k t. by-test (eqb q e)
-            (λ u. subst (λ (n : ℕ). xorOf (symAt S (st .tree) j) (equationOf tbl j n) ≡ zeros) (sym (eqb-true q e u)) z)
-            (λ u. i .used-holds q k (sym (ap (λ (v : ℕ). eqb v 0) (getD-set-other (st .used) e q 1 0 (eqb-false q e u))) ∙ t));
-        out-kept = i .out-kept;
-      }
-
-  -- the one absent member of an equation is stored
-  module _ (st : St) (i : Mid st) (e : ℕ) (he : e < length (layerOf tbl j)) (c : count (absentAt S (st .marks) j) (equationOf tbl j e) ≡ 1) where
-    abbrev a : ℕ → Bool
-    a = absentAt S (st .marks) j
-
-    abbrev ms : List ℕ
-    ms = equationOf tbl j e
-
-    abbrev x : ℕ
-    x = firstOf a ms
-
-    abbrev v : List ℕ
-    v = xorOf (symAt S (st .tree) j) (others x ms)
-
-    x-absent : a x ≡ true
-    x-absent = firstOf-passes a ms (omega arith)
-
-    x-below : x < S .n j
-    x-below = ltb-true x (S .n j) (every-at (λ y. ltb y (S .n j)) a ms (ok .within j e hj he) (omega arith))
-
-    tl : length (st .tree) ≡ 256 * places S (length tbl)
-    tl = i .always .sized .tree-length
-
-    ml : length (st .marks) ≡ places S (length tbl)
-    ml = i .always .sized .marks-length
-
-    sym-full : (y : ℕ) → y < S .n j → length (symAt S (st .tree) j y) ≡ 256
-    sym-full y h = symAt-length S (st .tree) j y (room S (length tbl) (st .tree) (st .marks) tl ml j y hj h)
-
-    v-full : length v ≡ 256
-    v-full = length-xorOf (symAt S (st .tree) j) (S .n j) sym-full (others x ms) (every-others (λ y. ltb y (S .n j)) x ms (ok .within j e hj he))
-
-    abbrev t′ : List ℕ
-    t′ = putAt S (st .tree) j x v
-
-    abbrev m′ : List ℕ
-    m′ = set (st .marks) (place S j x) 1
-
-    here : symAt S t′ j x ≡ v
-    here = put-there S (st .tree) j x v (room S (length tbl) (st .tree) (st .marks) tl ml j x hj x-below) v-full
-
-    keep : (l y : ℕ) → y < S .n l → (l ≢ j) ⊎ (y ≢ x) → symAt S t′ l y ≡ symAt S (st .tree) l y
-    keep = put-keep S (length tbl) (st .tree) (st .marks) tl ml j x hj x-below v v-full
-
-    kept-mark : (l y : ℕ) → y < S .n l → (l ≢ j) ⊎ (y ≢ x) → absentAt S m′ l y ≡ absentAt S (st .marks) l y
-    kept-mark = mark-keep S (length tbl) (st .tree) (st .marks) tl ml j x hj x-below 1
-
-    held-now : absentAt S m′ j x ≡ false
-    held-now = mark-there S (length tbl) (st .tree) (st .marks) tl ml j x hj x-below 1
-
-    keeps-above : (l : ℕ) → l < j → Keeps S sh H root tbl ok (st .tree) t′ l
-    keeps-above l h k y b hy = keep k y hy (inl (λ q. omega arith))
-
-    same-committed : (y : ℕ) → committed S root (symAt S t′) j y ≡ committed S root (symAt S (st .tree)) j y
-    same-committed y = committed-keep S sh H root tbl ok (st .tree) t′ j y (λ k z q b. keep k z b (inl (λ r. omega arith)))
-
-    is-gap : gapAt S H root t₀ m₀ (st .tree) j x ≡ true
-    is-gap = sym (i .gap-is x x-below) ∙ i .inv .inside x x-absent
-
-    same-gap : (y : ℕ) → gapAt S H root t₀ m₀ t′ j y ≡ gapAt S H root t₀ m₀ (st .tree) j y
-    same-gap y = gap-keep S sh H root tbl ok t₀ m₀ (st .tree) t′ j y (λ k z q b. keep k z b (inl (λ r. omega arith)))
-
-    one-more : filledIn S H root t₀ m₀ t′ m′ j ≡ suc (filledIn S H root t₀ m₀ (st .tree) (st .marks) j)
-    unfolding filledIn
-    one-more =
-        tally-one-more _ _ (S .n j) x x-below
-        (ap (λ (b : Bool). gapAt S H root t₀ m₀ (st .tree) j x && not b) x-absent ∙ ap (λ (b : Bool). b && false) is-gap)
-        (yes-and (same-gap x ∙ is-gap) (ap not held-now))
-        (λ y h n. ap₂ (λ (b d : Bool). b && not d) (same-gap y) (kept-mark j y h (inr n)))
-
-    -- symbols that are held stay as they are
-    alike : Alike S tbl ok j hj (st .tree) t′ a
-    alike y l q = keep j y l (inr (λ r. both (ap a r ∙ x-absent) q))
-
-    module _ (fit : H j x v ≡ committed S root (symAt S (st .tree)) j x) (low : (q : ℕ) → q < e → Passed S tbl (st .tree) j a q) where
-      held-here : (y : ℕ) → y < S .n j → absentAt S m′ j y ≡ false → H j y (symAt S t′ j y) ≡ committed S root (symAt S t′) j y
-      held-here y hy ab =
-          by-test (eqb y x)
-          (λ u. subst (λ (z : ℕ). H j z (symAt S t′ j z) ≡ committed S root (symAt S t′) j z) (sym (eqb-true y x u)) (ap (H j x) here ∙ fit ∙ sym (same-committed x)))
-          (λ u. let n : (j ≢ j) ⊎ (y ≢ x) = inr (eqb-false y x u) in
-          ap (H j y) (keep j y hy n) ∙ i .always .held j y (omega arith) hy (sym (kept-mark j y hy n) ∙ ab) ∙ sym (same-committed y))
-
-      -- the equation now holds
-      now-holds : xorOf (symAt S t′ j) ms ≡ zeros
-      now-holds =
-          let within : every (λ y. ltb y (S .n j)) ms ≡ true = ok .within j e hj he in
-          let once : count (isIt x) ms ≡ 1 = omega (arith, ascending-once x ms (ok .ascend j e hj he), first-member a ms (omega arith)) in
-          let rest : xorOf (symAt S t′ j) (others x ms) ≡ v =
-          xorOf-cong (symAt S t′ j) (symAt S (st .tree) j) (λ y. not (eqb y x) && ltb y (S .n j))
-          (λ y b. let (b₁, b₂) = and-yes (not (eqb y x)) (ltb y (S .n j)) b in
-          keep j y (ltb-true y (S .n j) b₂) (inr (eqb-false y x (not-yes (eqb y x) b₁))))
-          (others x ms) (every-both (λ y. not (eqb y x)) (λ y. ltb y (S .n j)) (others x ms) (others-differ x ms) (every-others (λ y. ltb y (S .n j)) x ms within)) in
-          xorOf-others (symAt S t′ j) x ms once ∙ ap₂ xors here rest ∙ sym-self v v-full
-
-      -- how the layer was peeled, with this symbol
-      left-now : (y : ℕ) → y < S .n j → absentAt S m′ j y ≡ (a y && not (eqb y x))
-      left-now y l =
-          by-test (eqb y x)
-          (λ u. ap (absentAt S m′ j) (eqb-true y x u) ∙ held-now ∙ sym (ap₂ (λ (p q : Bool). p && not q) (ap a (eqb-true y x u) ∙ x-absent) u))
-          (λ u. kept-mark j y l (inr (eqb-false y x u)) ∙ sym (ap (λ (q : Bool). a y && not q) u ∙ and-true (a y)))
-
-      peels-store : Peels S tbl t′ j (gapAt S H root t₀ m₀ t′ j) (absentAt S m′ j)
-      peels-store =
-          stores (peels-keep S tbl ok j hj (st .tree) t′ (i .always .peels j (omega arith)) (λ y l. same-gap y) (λ y l. refl) alike) e x he c refl now-holds
-          (λ q l. passed-keep S tbl ok j hj (st .tree) t′ a alike q (omega arith) (low q l)) left-now
-
-      always-store : Always S H root tbl t₀ m₀ t′ m′ (suc (st .stored)) (suc j)
-      unfolding filled
-      always-store =
-          record {
-            in-depth = i .always .in-depth;
-            sized = record {
-              tree-length = put-length S (st .tree) j x v (room S (length tbl) (st .tree) (st .marks) tl ml j x hj x-below) v-full ∙ tl;
-              marks-length = length-set (st .marks) (place S j x) 1 ∙ ml;
-            };
-            untouched = put-after S (length tbl) (st .tree) (st .marks) tl ml j x hj x-below v v-full ∙ i .always .untouched;
-            unmarked = mark-after S (length tbl) (st .tree) (st .marks) tl ml j x hj x-below 1 ∙ i .always .unmarked;
-            counted = omega (arith, i .always .counted, one-more, filled-keep S sh H root tbl ok t₀ m₀ (st .tree) t′ (st .marks) m′ j (λ l h. keeps-above l h) (λ l h y hy. kept-mark l y hy (inl (λ q. omega arith))));
-            above = λ l h. complete-keep S sh H root tbl ok (st .tree) t′ (st .marks) m′ l (omega arith) (keeps-above l (omega arith)) (λ y hy. kept-mark l y hy (inl (λ q. omega arith))) (i .always .above l h);
-            drained = λ l h. drained-keep S sh H root tbl ok t₀ m₀ (st .tree) t′ l (λ k y q hy. keep k y hy (inl (λ z. omega arith))) (i .always .drained l h);
-            peels = λ l h. by-test (eqb l j)
-                (λ u. subst (λ (z : ℕ). Peels S tbl t′ z (gapAt S H root t₀ m₀ t′ z) (absentAt S m′ z)) (sym (eqb-true l j u)) peels-store)
-                (λ u. let hl : l < j = omega (arith, eqb-false l j u) in
-                peels-keep S tbl ok l (omega arith) (st .tree) t′ (i .always .peels l h)
-                (λ y hy. gap-keep S sh H root tbl ok t₀ m₀ (st .tree) t′ l y (λ k z q w. keep k z w (inl (λ r. omega arith))))
-                (λ y hy. kept-mark l y hy (inl (λ q. omega arith))) (λ y hy q. keep l y hy (inl (λ r. omega arith))));
-            held = λ l y h hy ab. by-test (eqb l j)
-                (λ u. subst (λ (z : ℕ). y < S .n z → absentAt S m′ z y ≡ false → H z y (symAt S t′ z y) ≡ committed S root (symAt S t′) z y) (sym (eqb-true l j u)) (held-here y) hy ab)
-                (λ u. let hl : l < j = omega (arith, eqb-false l j u) in
-                hash-keep S sh H root tbl ok (st .tree) t′ l y (keeps-above l hl) hy (i .always .held l y h hy (sym (kept-mark l y hy (inl (λ q. omega arith))) ∙ ab)));
-            kept = λ l y h hy g. by-test (eqb l j)
-                (λ u. subst (λ (z : ℕ). y < S .n z → gapAt S H root t₀ m₀ t′ z y ≡ false → (absentAt S m′ z y ≡ false) × (symAt S t′ z y ≡ symAt S t₀ z y)) (sym (eqb-true l j u))
-                (λ hz gz. by-test (eqb y x)
-                (λ w. both (same-gap x ∙ is-gap) (sym (ap (gapAt S H root t₀ m₀ t′ j) (eqb-true y x w)) ∙ gz))
-                (λ w. let ne : (j ≢ j) ⊎ (y ≢ x) = inr (eqb-false y x w) in
-                let (p, q) = i .always .kept j y (omega arith) hz (sym (same-gap y) ∙ gz) in (kept-mark j y hz ne ∙ p, keep j y hz ne ∙ q))) hy g)
-                (λ u. let nl : (l ≢ j) ⊎ (y ≢ x) = inl (eqb-false l j u) in
-                let (p, q) = i .always .kept l y h hy (sym (gap-keep S sh H root tbl ok t₀ m₀ (st .tree) t′ l y (λ k z e w. keep k z w (inl (λ r. omega arith)))) ∙ g) in
-                (kept-mark l y hy nl ∙ p, keep l y hy nl ∙ q));
-            cleared = λ l y h hy n. by-test (eqb l j)
-                (λ u. subst (λ (z : ℕ). y < S .n z → absentAt S m′ z y ≡ true → (getD m′ (place S z y) 0 ≡ 0) × (symAt S t′ z y ≡ zeros)) (sym (eqb-true l j u))
-                (λ hz nz. by-test (eqb y x)
-                (λ w. both nz (ap (absentAt S m′ j) (eqb-true y x w) ∙ held-now))
-                (λ w. let ne : (j ≢ j) ⊎ (y ≢ x) = inr (eqb-false y x w) in
-                let (p, q) = i .always .cleared j y (omega arith) hz (sym (kept-mark j y hz ne) ∙ nz) in
-                (byte-keep S (length tbl) (st .tree) (st .marks) tl ml j x hj x-below 1 j y hz ne ∙ p, keep j y hz ne ∙ q))) hy n)
-                (λ u. let nl : (l ≢ j) ⊎ (y ≢ x) = inl (eqb-false l j u) in
-                let (p, q) = i .always .cleared l y h hy (sym (kept-mark l y hy nl) ∙ n) in
-                (byte-keep S (length tbl) (st .tree) (st .marks) tl ml j x hj x-below 1 l y hy nl ∙ p, keep l y hy nl ∙ q));
-          }
-
-      -- an equation used before holds still
-      still-holds : (q : ℕ) → q < length (layerOf tbl j) → eqb (getD (st .used) q 0) 0 ≡ false → xorOf (symAt S t′ j) (equationOf tbl j q) ≡ zeros
-      still-holds q hq t =
-          xorOf-cong (symAt S t′ j) (symAt S (st .tree) j) (λ y. not (a y) && ltb y (S .n j))
-          (λ y b. let (b₁, b₂) = and-yes (not (a y)) (ltb y (S .n j)) b in
-          keep j y (ltb-true y (S .n j) b₂) (inr (λ r. both (ap a r ∙ x-absent) (not-yes (a y) b₁))))
-          (equationOf tbl j q) (every-both (λ y. not (a y)) (λ y. ltb y (S .n j)) (equationOf tbl j q) (none-absent a (equationOf tbl j q) (i .inv .done q hq t)) (ok .within j q hj hq))
-          ∙ i .used-holds q hq t
-
-      mid-store : Mid (storeSym S j e x v st)
-      unfolding storeSym
-      mid-store =
-          record {
-            last = i .last;
-            always = always-store;
-            inv = inv-store S H root tbl ok j hj (absentAt S m₁ j) (st .marks) (st .used) e he c (i .inv);
-            gap-is = λ y hy. i .gap-is y hy ∙ sym (same-gap y);
-            used-holds = λ q k t. by-test (eqb q e)
-                (λ u. subst (λ (n : ℕ). xorOf (symAt S t′ j) (equationOf tbl j n) ≡ zeros) (sym (eqb-true q e u)) now-holds)
-                (λ u. still-holds q k (sym (ap (λ (w : ℕ). eqb w 0) (getD-set-other (st .used) e q 1 0 (eqb-false q e u))) ∙ t));
-            out-kept = i .out-kept;
-          }
+  pub mid-of : (st : St) (z : End) → going z ≡ true → Stage st z → MidSt st
+  mid-of st = goes-on (MidSt st) (Stop S H root tbl t₀ m₀ o₀ st)
 
   -- ---- stops
 
-  pub always-at : (st : St) → Mid st → Always S H root tbl t₀ m₀ (st .tree) (st .marks) (st .stored) (st .entered)
+  pub always-at : (st : St) → MidSt st → Always S H root tbl t₀ m₀ (st .tree) (st .marks) (st .stored) (st .entered)
   always-at st i = subst (λ (d : ℕ). Always S H root tbl t₀ m₀ (st .tree) (st .marks) (st .stored) d) (sym (i .last)) (i .always)
 
-  full-at : (st : St) → Mid st → (l y : ℕ) → l ≤ j → y < S .n l → length (symAt S (st .tree) l y) ≡ 256
-  full-at st i l y h hy =
-      symAt-length S (st .tree) l y (room S (length tbl) (st .tree) (st .marks) (i .always .sized .tree-length) (i .always .sized .marks-length) l y (omega arith) hy)
+  full-at : (st : St) → MidSt st → (l y : ℕ) → l ≤ j → y < S .n l → length (symAt S (st .tree) l y) ≡ 256
+  full-at st i l y h hy = symbol-sized S tbl (st .tree) (st .marks) (i .always .sized) l y (omega arith) hy
 
   -- no equation below the one that is taken could be taken
-  pub passed-lower : (st : St) → Mid st → (q : ℕ) → q < length (layerOf tbl j) → takeable S tbl j st q ≡ false → Passed S tbl (st .tree) j (absentAt S (st .marks) j) q
+  pub passed-lower : (st : St) → MidSt st → (q : ℕ) → q < length (layerOf tbl j) → takeable S tbl j st q ≡ false → Passed S tbl (st .tree) j (absentAt S (st .marks) j) q
   unfolding takeable
   passed-lower st i q h t =
       let a : ℕ → Bool = absentAt S (st .marks) j in
       ⊎-elim (λ u. inl (i .inv .done q h u, i .used-holds q h u)) (λ u. inr (omega (arith, leb-false (count a (equationOf tbl j q)) 1 u)))
       (and-no (eqb (getD (st .used) q 0) 0) (leb (count a (equationOf tbl j q)) 1) t)
 
-  stop-fault : (st : St) → Mid st → (e x : ℕ) → Taken S H root tbl (st .tree) (st .marks) j e x → 1 ≤ count (isIt x) (equationOf tbl j e)
+  stop-fault : (st : St) → MidSt st → (e x : ℕ) → Taken S H root tbl (st .tree) (st .marks) j e x
       → every (λ y. not (absentAt S (st .marks) j y)) (others x (equationOf tbl j e)) ≡ true
-      → H j x (xorOf (symAt S (st .tree) j) (others x (equationOf tbl j e))) ≢ committed S root (symAt S (st .tree)) j x
+      → Unfit S H root tbl (st .tree) j (equationOf tbl j e) x
       → StageSt (writeFault j e x (proofBytes S (symAt S (st .tree)) j e x (equationOf tbl j e)) st)
   unfolding writeFault
-  stop-fault st i e x took mem good unfit =
+  stop-fault st i e x took good unfit =
       let he : e < length (layerOf tbl j) = took .in-table in
+      let mem : 1 ≤ count (isIt x) (equationOf tbl j e) = taken-member S H root tbl ok (st .tree) (st .marks) j e x hj took in
       let ms : List ℕ = equationOf tbl j e in
       let a : ℕ → Bool = absentAt S (st .marks) j in
       let p : List ℕ = proofBytes S (symAt S (st .tree)) j e x ms in
@@ -297,22 +133,31 @@ module _ (S : Shape) (sh : ShapeOk S) (H : ℕ → ℕ → List ℕ → List ℕ
           last = i .last;
           taken = took;
           proof = front;
-          room = omega (arith, g .fits);
+          room = omega (arith, g .sized, ho .proofs j e hj he);
           sized = ap length front;
           accepts = ap (verdict S H root tbl) front ∙ g .accepts;
-          head = (ap proofLayer front ∙ g .layer-is, ap proofEquation front ∙ g .equation-is, ap proofWithheld front ∙ g .withheld-is);
           out-rest = drop-append-seam p (drop (length p) (st .out)) ∙ ap (drop (length p)) (i .out-kept);
         };
+        grown = grown-mid S sh H root tbl ok t₀ m₀ o₀ ho j hj m₁ st i;
+        last = (
+          i .last,
+          record {
+            equation = e;
+            in-table = he;
+            fails = ⊎-elim (λ one. inr (one .0, subst (Unfit S H root tbl (st .tree) j ms) (one .1) unfit)) (λ none. inl (none .0, none .2)) (took .withheld);
+          },
+        );
       }
 
-  stop-twins : (st : St) → Mid st → (e x : ℕ) → Taken S H root tbl (st .tree) (st .marks) j e x → 1 ≤ count (isIt x) (equationOf tbl j e)
+  stop-twins : (st : St) → MidSt st → (e x : ℕ) → Taken S H root tbl (st .tree) (st .marks) j e x
       → count (absentAt S (st .marks) j) (equationOf tbl j e) ≡ 0
       → xorOf (symAt S (st .tree) j) (equationOf tbl j e) ≢ zeros
       → H j x (xorOf (symAt S (st .tree) j) (others x (equationOf tbl j e))) ≡ committed S root (symAt S (st .tree)) j x
       → StageSt (writeTwins j x (symAt S (st .tree) j x) (xorOf (symAt S (st .tree) j) (others x (equationOf tbl j e))) st)
   unfolding writeTwins symbolIn
-  stop-twins st i e x took mem c bad fit =
+  stop-twins st i e x took c bad fit =
       let he : e < length (layerOf tbl j) = took .in-table in
+      let mem : 1 ≤ count (isIt x) (equationOf tbl j e) = taken-member S H root tbl ok (st .tree) (st .marks) j e x hj took in
       let ms : List ℕ = equationOf tbl j e in
       let a : ℕ → Bool = absentAt S (st .marks) j in
       let s : List ℕ = symAt S (st .tree) j x in
@@ -337,7 +182,7 @@ module _ (S : Shape) (sh : ShapeOk S) (H : ℕ → ℕ → List ℕ → List ℕ
           complete = c;
           in-layer = below;
           marked = is-held;
-          room = omega (arith, ok .deep);
+          room = ho .twins;
           sized = (ap length first ∙ ls, ap length second ∙ lv);
           first-is = first;
           second-is = second;
@@ -346,6 +191,8 @@ module _ (S : Shape) (sh : ShapeOk S) (H : ℕ → ℕ → List ℕ → List ℕ
           hash-second = ap (H j x) second ∙ fit;
           out-rest = drop-at (s ++ v) rest 512 both-length ∙ ap₂ (λ (n : ℕ) (o : List ℕ). drop n o) both-length (i .out-kept);
         };
+        grown = grown-mid S sh H root tbl ok t₀ m₀ o₀ ho j hj m₁ st i;
+        last = (i .last, record { equation = e; in-table = he; fails = inl (c, bad) });
       }
 
   -- ---- a turn, and all turns
@@ -355,29 +202,55 @@ module _ (S : Shape) (sh : ShapeOk S) (H : ℕ → ℕ → List ℕ → List ℕ
   stage-step st s =
       step-ind S H root tbl StageSt j st (λ t. s)
       (λ e he tk lo g.
-      let i : Mid st = mid-of st (st .end) g s in
+      let i : MidSt st = mid-of st (st .end) g s in
       let low : (q : ℕ) → q < e → Passed S tbl (st .tree) j (absentAt S (st .marks) j) q = λ q l. passed-lower st i q (omega arith) (lo q l) in
       let a : ℕ → Bool = absentAt S (st .marks) j in
       let ms : List ℕ = equationOf tbl j e in
       let few : count a ms ≤ 1 = leb-true (count a ms) 1 (and-yes (eqb (getD (st .used) e 0) 0) (leb (count a ms) 1) tk .1) in
       act-ind S H root tbl StageSt j e ms st
-      (λ c z. mid-use st e he c z i)
+      (λ c z. mid-use S sh H root tbl ok t₀ m₀ o₀ ho j hj m₁ st e he c z i)
       (λ c bad.
       let x : ℕ = lastOf ms 0 in
-      let mem : 1 ≤ count (isIt x) ms = last-member ms 0 (ok .some-member j e hj he) in
       let took : Taken S H root tbl (st .tree) (st .marks) j e x = record { in-table = he; lower = low; withheld = inr (c, refl, bad) } in
       refute-ind S H root tbl StageSt j e ms x (restOf S j ms x st) st
-      (λ t. stop-twins st i e x took mem c bad (same-yes _ _ t))
-      (λ t. stop-fault st i e x took mem (every-others (λ y. not (a y)) x ms (none-absent a ms c)) (same-no t)))
+      (λ t. stop-twins st i e x took c bad (same-yes _ _ t))
+      (λ t. stop-fault st i e x took (every-others (λ y. not (a y)) x ms (none-absent a ms c)) (same-no t)))
       (λ pos.
       let x : ℕ = firstOf a ms in
       let one : count a ms ≡ 1 = omega arith in
       form-ind S H root tbl StageSt j e ms x (restOf S j ms x st) st
-      (λ t. mid-store st i e he one (same-yes _ _ t) low)
+      (λ t. mid-store S sh H root tbl ok t₀ m₀ o₀ ho j hj m₁ st i e he one (same-yes _ _ t))
       (λ t.
-      stop-fault st i e x (record { in-table = he; lower = low; withheld = inl (one, refl) }) (first-member a ms pos) (others-held a x ms one refl) (same-no t))))
+      stop-fault st i e x (record { in-table = he; lower = low; withheld = inl (one, refl) }) (others-held a x ms one refl) (same-no t))))
 
   pub stage-peel : (f : ℕ) (st : St) → StageSt st → StageSt (peel S H root tbl j f st)
   unfolding peel
   stage-peel zero st s = s
   stage-peel (suc f) st s = stage-peel f (step S H root tbl j st) (stage-step st s)
+
+  -- ---- how the layers were peeled
+
+  abbrev PeeledSt : St → Type 0
+  PeeledSt st = PeeledAll S H root tbl t₀ m₀ st
+
+  peeled-step : (st : St) → StageSt st → PeeledSt st → PeeledSt (step S H root tbl j st)
+  unfolding takeable fitsAt restOf useEq storeSym writeFault writeTwins
+  peeled-step st s p =
+      step-ind S H root tbl PeeledSt j st (λ t. p)
+      (λ e he tk lo g.
+      let i : MidSt st = mid-of st (st .end) g s in
+      let a : ℕ → Bool = absentAt S (st .marks) j in
+      let ms : List ℕ = equationOf tbl j e in
+      let few : count a ms ≤ 1 = leb-true (count a ms) 1 (and-yes (eqb (getD (st .used) e 0) 0) (leb (count a ms) 1) tk .1) in
+      act-ind S H root tbl PeeledSt j e ms st (λ c z. p)
+      (λ c bad. refute-ind S H root tbl PeeledSt j e ms (lastOf ms 0) (restOf S j ms (lastOf ms 0) st) st (λ t. p) (λ t. p))
+      (λ pos.
+      let x : ℕ = firstOf a ms in
+      form-ind S H root tbl PeeledSt j e ms x (restOf S j ms x st) st
+      (λ t. peeled-store S sh H root tbl ok t₀ m₀ o₀ ho j hj m₁ st i e he (omega arith) (same-yes _ _ t) (λ q l. passed-lower st i q (omega arith) (lo q l)) p)
+      (λ t. p)))
+
+  pub peeled-peel : (f : ℕ) (st : St) → StageSt st → PeeledSt st → PeeledSt (peel S H root tbl j f st)
+  unfolding peel
+  peeled-peel zero st s p = p
+  peeled-peel (suc f) st s p = peeled-peel f (step S H root tbl j st) (stage-step st s) (peeled-step st s p)

@@ -7,7 +7,7 @@ use native.Mathlib.Omega.{arith}
 use native.Mathlib.Decide.{decLt}
 use lib.Pow.{pow-pos}
 use Rattle.parity_table.specs.Shape.{kOf, nOf, maxDepth}
-use Rattle.parity_table.proofs.Parse.{k-small}
+use Rattle.parity_table.proofs.Shape.{k-small}
 use Rattle.model.specs.Shape.{Shape, ShapeOk, TreeOk, tree, places, place}
 
 -- ---- places

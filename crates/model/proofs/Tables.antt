@@ -2,7 +2,8 @@
 use mathlib.Core.Path.{_≡_}
 use mathlib.Core.Bool.{true}
 use mathlib.Core.List.{List}
-use Prim.Native.Nat.{ℕ, _+_, _*_, _^_, _≤_, _<_}
+use Prim.Native.Nat.{ℕ, suc, _+_, _-_, _*_, _^_, _≤_, _<_}
+use native.Mathlib.Nat.{mul-le-mul-right}
 use native.Mathlib.Omega.{arith}
 use lib.ListN.{length}
 use lib.Dec.{ltb}
@@ -10,8 +11,10 @@ use Rattle.parity_table.specs.Shape.{kOf, nOf, maxDepth}
 use Rattle.parity_table.specs.Members.{every, ascending}
 use Rattle.parity_table.specs.Table.{layerOf, equationOf, TableOk}
 use Rattle.parity_table.proofs.Rules.{members-split, members-below}
-use Rattle.parity_table.proofs.Parse.{k-small}
+use Rattle.parity_table.proofs.Shape.{k-small}
 use Rattle.model.specs.Shape.{Shape, tree}
+use Rattle.model.specs.Fault.{proofLength}
+use Rattle.model.specs.Ends.{Roomy}
 use Rattle.model.proofs.Members.{Last, last-is}
 
 -- one equation for each parity symbol, which is its last member
@@ -58,4 +61,13 @@ table-laws d tbl h g o =
       within = λ j e k l. members-below d tbl o j e (omega arith) (equation j e k l);
       some-member = λ j e k l. omega (arith, o .members j e (omega arith) (equation j e k l) .some);
       few-members = λ j e k l. o .members j e (omega arith) (equation j e k l) .few;
+    }
+
+-- "The output buffer has 12+256·(8D−1) bytes", which is room enough.
+pub table-roomy : (S : Shape) (tbl : List (List (List ℕ))) → TableLaws S tbl → (o : List ℕ) → length o ≡ 12 + 256 * (8 * length tbl - 1) → Roomy tbl o
+unfolding proofLength
+table-roomy S tbl ok o h =
+    record {
+      proofs = λ j e hj he. omega (arith, mul-le-mul-right {m = length (equationOf tbl j e) - 1} {n = 7} (suc j) (omega (arith, ok .few-members j e hj he)));
+      twins = omega (arith, ok .deep);
     }

@@ -3,7 +3,7 @@ use mathlib.Core.Path.{_≡_}
 use mathlib.Core.Logic.{_⊎_, _≢_}
 use mathlib.Core.Bool.{Bool, true, false, not, _&&_, _||_}
 use mathlib.Core.List.{List}
-use Prim.Native.Nat.{ℕ, zero, suc, _+_, _-_, _*_, _≤_, _<_}
+use Prim.Native.Nat.{ℕ, zero, suc, _+_, _*_, _≤_, _<_}
 use lib.ListN.{length, getD, take, drop}
 use lib.Dec.{eqb}
 use Rattle.parity_table.specs.Members.{lastOf}
@@ -12,7 +12,7 @@ use Rattle.model.specs.Shape.{Shape, place, places}
 use Rattle.octets.specs.ByteLists.{same}
 use Rattle.model.specs.Symbols.{bit, count, firstOf, others, xorOf, zeros, symbolIn, committed, symAt}
 use Rattle.model.specs.Coded.{Agrees}
-use Rattle.model.specs.Fault.{proofBytes, accepted, verdict, proofLayer, proofEquation, proofWithheld}
+use Rattle.model.specs.Fault.{proofBytes, proofLength, accepted, verdict}
 use Rattle.model.specs.Repair.{End, working, whole, fault, unavailable, twins, St, absentAt, repair}
 
 -- ---- sets of symbols of a layer with n symbols, as tests of the numbers below n
@@ -60,6 +60,10 @@ module _ (S : Shape) (tbl : List (List (List ℕ))) (t : List ℕ) (j : ℕ) whe
   abbrev pub Passed : (ℕ → Bool) → ℕ → Type 0
   Passed a e = ((count a (equationOf tbl j e) ≡ 0) × (xorOf (symAt S t j) (equationOf tbl j e) ≡ zeros)) ⊎ (2 ≤ count a (equationOf tbl j e))
 
+  -- layer j is closed: none of its equations can be taken any more
+  abbrev pub Closed : (ℕ → Bool) → Type 0
+  Closed a = (e : ℕ) → e < length (layerOf tbl j) → Passed a e
+
 -- (b) as it went: from the gaps g to the symbols that are absent now, one stored after the other, each given by "the lowest unused equation with at most
 -- one absent member". A symbol that is held doesn't change any more, so t is the tree as it is now.
 pub data Peels (S : Shape) (tbl : List (List (List ℕ))) (t : List ℕ) (j : ℕ) (g : ℕ → Bool) : (ℕ → Bool) → Type 0 where
@@ -67,6 +71,11 @@ pub data Peels (S : Shape) (tbl : List (List (List ℕ))) (t : List ℕ) (j : �
   stores : {a b : ℕ → Bool} → Peels S tbl t j g a → (e x : ℕ) → e < length (layerOf tbl j) → count a (equationOf tbl j e) ≡ 1
       → x ≡ firstOf a (equationOf tbl j e) → xorOf (symAt S t j) (equationOf tbl j e) ≡ zeros → ((q : ℕ) → q < e → Passed S tbl t j a q)
       → ((y : ℕ) → y < S .n j → b y ≡ (a y && not (eqb y x))) → Peels S tbl t j g b
+
+-- the output buffer o has room for every fault proof that an equation of the table can demand, and for twins
+pub record Roomy (tbl : List (List (List ℕ))) (o : List ℕ) : Type 0 where
+  pub proofs : (j e : ℕ) → j < length tbl → e < length (layerOf tbl j) → proofLength j (length (equationOf tbl j e)) ≤ length o
+  pub twins : 512 ≤ length o
 
 module _ (S : Shape) (H : ℕ → ℕ → List ℕ → List ℕ) (root : List ℕ) (tbl : List (List (List ℕ))) where
   -- layer l is complete, "all its equations holding"
@@ -78,6 +87,10 @@ module _ (S : Shape) (H : ℕ → ℕ → List ℕ → List ℕ) (root : List �
   -- only the empty set is a stopping set within the gaps of layer l
   abbrev pub Drained : List ℕ → List ℕ → List ℕ → ℕ → Type 0
   Drained t₀ m₀ t l = Largest S tbl l (gapAt S H root t₀ m₀ t l) (λ i. false)
+
+  -- how each layer that was entered was peeled
+  abbrev pub PeeledAll : List ℕ → List ℕ → St → Type 0
+  PeeledAll t₀ m₀ st = (l : ℕ) → l < st .entered → Peels S tbl (st .tree) l (gapAt S H root t₀ m₀ (st .tree) l) (absentAt S (st .marks) l)
 
   -- what holds at every end, with d layers entered and n symbols stored
   pub record Always (t₀ m₀ t m : List ℕ) (n d : ℕ) : Type 0 where
@@ -91,7 +104,6 @@ module _ (S : Shape) (H : ℕ → ℕ → List ℕ → List ℕ) (root : List �
     -- "every layer above the last one entered is complete"
     pub above : (l : ℕ) → suc l < d → Complete t m l
     pub drained : (l : ℕ) → suc l < d → Drained t₀ m₀ t l
-    pub peels : (l : ℕ) → l < d → Peels S tbl t l (gapAt S H root t₀ m₀ t l) (absentAt S m l)
     -- "each symbol then marked held in an entered layer has the committed hash"
     pub held : (l i : ℕ) → l < d → i < S .n l → absentAt S m l i ≡ false → H l i (symAt S t l i) ≡ committed S root (symAt S t) l i
     -- what is no gap stays, and what is absent is zero
@@ -122,7 +134,6 @@ module _ (S : Shape) (H : ℕ → ℕ → List ℕ → List ℕ) (root : List �
     pub room : n ≤ length o₀
     pub sized : length (take n (st .out)) ≡ n
     pub accepts : verdict S H root tbl (take n (st .out)) ≡ accepted
-    pub head : (proofLayer (take n (st .out)) ≡ j) × (proofEquation (take n (st .out)) ≡ e) × (proofWithheld (take n (st .out)) ≡ x)
     pub out-rest : drop n (st .out) ≡ drop n o₀
 
   -- "the missing symbols of the first incomplete layer, which are the largest set within its gaps that no equation meets exactly once"
@@ -130,7 +141,7 @@ module _ (S : Shape) (H : ℕ → ℕ → List ℕ → List ℕ) (root : List �
     pub last : st .entered ≡ suc j
     pub missing : (i : ℕ) × (i < S .n j) × (absentAt S (st .marks) j i ≡ true)
     pub largest : Largest S tbl j (gapAt S H root t₀ m₀ (st .tree) j) (absentAt S (st .marks) j)
-    pub passed : (e : ℕ) → e < length (layerOf tbl j) → Passed S tbl (st .tree) j (absentAt S (st .marks) j) e
+    pub passed : Closed S tbl (st .tree) j (absentAt S (st .marks) j)
     pub out-kept : st .out ≡ o₀
 
   -- "The two symbols of twins differ, and both have the committed hash": of symbol x of layer j, in the first 512 bytes of the output buffer
@@ -159,10 +170,11 @@ module _ (S : Shape) (H : ℕ → ℕ → List ℕ → List ℕ) (root : List �
 
   pub record Ended (t₀ m₀ o₀ : List ℕ) (st : St) : Type 0 where
     pub always : Always t₀ m₀ (st .tree) (st .marks) (st .stored) (st .entered)
+    pub peels : PeeledAll t₀ m₀ st
     pub ends : EndOk t₀ m₀ o₀ st (st .end)
 
-  -- the four ends, for every lent tree and marks; the output buffer "has 12+256·(8D−1) bytes", the root 32 for each symbol of layer 0
+  -- the four ends, for every lent tree and marks and every output buffer that is roomy; the root has 32 bytes for each symbol of layer 0
   abbrev pub FourEnds : Type 0
   FourEnds =
-      (t₀ m₀ o₀ : List ℕ) → Sized S tbl t₀ m₀ → length o₀ ≡ 12 + 256 * (8 * length tbl - 1) → length root ≡ 32 * S .n 0
+      (t₀ m₀ o₀ : List ℕ) → Sized S tbl t₀ m₀ → Roomy tbl o₀ → length root ≡ 32 * S .n 0
       → Ended t₀ m₀ o₀ (repair S H root tbl t₀ m₀ o₀)

@@ -8,3 +8,5 @@ pub mod SampleCheck
 pub mod Fault
 pub mod Repair
 pub mod Ends
+pub mod Alike
+pub mod Finals
