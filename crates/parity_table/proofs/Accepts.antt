@@ -1,15 +1,15 @@
 -- The reader's answer is right, and no other is: it accepts exactly the well-formed lists, and refuses at the first wrong word.
 -- What those above cite of an accepted list.
 use mathlib.Core.Path.{_≡_, refl, sym, ap, _∙_, subst}
-use mathlib.Core.Bool.{Bool, true, false, _&&_}
+use mathlib.Core.Bool.{true, false}
 use mathlib.Core.List.{List}
 use Prim.Native.Nat.{ℕ, suc, _+_, _-_, _*_, _^_, _≤_, _<_}
 use native.Mathlib.Nat.{zero-add}
 use native.Mathlib.Omega.{arith}
 use lib.ListN.{length, getD, take, drop, length-take}
 use lib.Seq.{getD-take}
-use lib.Dec.{leb, ltb}
-use borrow.Author.Tests.{ltb-true, ltb-false, leb-true, le-leb, lt-leb}
+use lib.Dec.{ltb}
+use borrow.Author.Tests.{ltb-true, ltb-false}
 use Rattle.parity_table.specs.declared.Answer.{Answer}
 use Rattle.parity_table.specs.declared.Answer.the-variants.{Depth, Length, Wrong, Whole}
 use Rattle.parity_table.specs.Shape.{maxDepth, depthFits, kOf}
@@ -18,23 +18,10 @@ use Rattle.parity_table.specs.Reader.{layered, run, readOf}
 use Rattle.parity_table.specs.Right.{Right}
 use Rattle.parity_table.specs.Parse.{tableOf, membersOf, indexOf, equationsAbove, numberIn, HasEquation, Located}
 use Rattle.octets.proofs.ListLaws.{part-ends}
-use Rattle.octets.proofs.Choice.{by-test, pick-ind, pick-yes, pick-no, and-yes, both}
+use Rattle.octets.proofs.Choice.{by-test, pick-ind, pick-yes, pick-no, both}
 use Rattle.parity_table.proofs.Run.{taken-formed, refused-first, run-ends}
-use Rattle.parity_table.proofs.Parse.{formed-rules, members-at, members-take, start-fits, number-lt, starts-count, k-grows, k-small}
-
--- ---- the depth
-
-pub depth-low : (d : ℕ) → d < 1 → false ≡ depthFits d
-unfolding depthFits
-depth-low d h = sym (ap (λ (b : Bool). b && leb d maxDepth) (lt-leb 1 d h))
-
-pub depth-mid : (d : ℕ) → 1 ≤ d → leb d maxDepth ≡ depthFits d
-unfolding depthFits
-depth-mid d h = sym (ap (λ (b : Bool). b && leb d maxDepth) (le-leb 1 d h))
-
-pub depth-is : (d : ℕ) → depthFits d ≡ true → (1 ≤ d) × (d ≤ maxDepth)
-unfolding depthFits
-depth-is d t = let (a, b) = and-yes (leb 1 d) (leb d maxDepth) t in (leb-true 1 d a, leb-true d maxDepth b)
+use Rattle.parity_table.proofs.Shape.{depth-is, k-grows, k-small}
+use Rattle.parity_table.proofs.Parse.{formed-rules, members-at, members-take, start-fits, number-lt, starts-count}
 
 -- ---- the reader is right
 

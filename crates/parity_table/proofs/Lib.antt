@@ -1,12 +1,7 @@
+pub mod Shape
 pub mod Chain
 pub mod Rules
 pub mod Run
-pub mod Steps
 pub mod Parse
 pub mod Accepts
-pub mod HouseRules
 pub mod Starts
-pub mod Writes
-pub mod HouseParts
-pub mod ByteForm
-pub mod RoundTrip

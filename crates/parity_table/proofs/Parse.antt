@@ -7,20 +7,15 @@ use native.Mathlib.Nat.{add-zero, zero-add}
 use native.Mathlib.Omega.{arith}
 use lib.ListN.{length, getD, take, drop}
 use lib.Dec.{leb, ltb}
-use lib.Pow.{pow-mono}
 use borrow.Author.Tests.{ltb-true, lt-ltb, le-ltb, le-leb, lt-leb}
 use Rattle.parity_table.specs.Shape.{maxDepth, kOf}
 use Rattle.parity_table.specs.Members.{every}
 use Rattle.parity_table.specs.Table.{layerOf, equationOf, word, EquationOk, TableOk, equationsWords, layersWords, tableWords, WellFormed}
 use Rattle.octets.proofs.Choice.{pick-yes, pick-no, pick-ind, and-yes, yes-and}
 use Rattle.parity_table.specs.Parse.{Parts, parts, addWord, partsOf, tableOf, membersOf, opensEquation, startsFrom, indexOf, equationsAbove, numberIn}
+use Rattle.parity_table.proofs.Shape.{k-small, k-grows, k-double}
 use Rattle.parity_table.proofs.Chain.{equation-chain, chain-within}
 use Rattle.parity_table.proofs.Rules.{EquationsOk, LayersOk, table-layers}
-
--- numbers of symbols are far below the openers
-pub k-small : (j : ℕ) → j < maxDepth → kOf j ≤ 4 * 2 ^ maxDepth
-unfolding kOf
-k-small j h = let p : 2 ^ j ≤ 2 ^ maxDepth = pow-mono {i = j} {j = maxDepth} (omega arith) in omega arith
 
 -- ---- a word of each kind
 
@@ -217,14 +212,6 @@ spot-past j e (ms ∷ es) X hj o h q us r =
     (subst (λ (l : List ℕ). Spots (word 2 e ∷ l) (suc (length es + q)) us) (sym (append-assoc ms (equationsWords (suc e) es) X))
     (spot-pass (word 2 e) (ms ++ (equationsWords (suc e) es ++ X)) (length es + q) us (equation-opens e (omega (arith, k-small j hj)))
     (spot-members ms (equationsWords (suc e) es ++ X) (length es + q) us s (spot-past j (suc e) es X hj (o .1) (omega arith) q us r))))
-
-pub k-grows : (j t : ℕ) → kOf j ≤ kOf (j + t)
-unfolding kOf
-k-grows j t = omega (arith, pow-mono {i = j} {j = j + t} (omega arith))
-
-pub k-double : (j : ℕ) → kOf (suc j) ≡ 2 * kOf j
-unfolding kOf
-k-double j = omega arith
 
 spot-layers : (j : ℕ) (ls : List (List (List ℕ))) (X : List ℕ) → LayersOk j ls → j + length ls ≤ maxDepth → membersOf X ≡ []
     → (t q n : ℕ) → t < length ls → q < length (getD ls t []) → n + 3 * kOf j ≡ 3 * kOf (j + t) + q → Spots (layersWords j ls ++ X) n (getD (getD ls t []) q [])

@@ -92,10 +92,6 @@ module _ (d : ℕ) (tbl : List (List (List ℕ))) (o : TableOk d tbl) where
   pub table-chain : (j e : ℕ) → j < d → e < 3 * kOf j → Chain 0 (kOf j + e) (equationOf tbl j e)
   table-chain j e h g = equation-chain j e (equationOf tbl j e) (o .members j e h g)
 
-  -- every member is at most the last one, k + e
-  pub members-highest : (j e : ℕ) → j < d → e < 3 * kOf j → every (λ x. ltb x (suc (kOf j + e))) (equationOf tbl j e) ≡ true
-  members-highest j e h g = chain-within 0 (kOf j + e) (suc (kOf j + e)) (equationOf tbl j e) (omega arith) (table-chain j e h g)
-
   -- every member is a symbol of the layer
   pub members-below : (j e : ℕ) → j < d → e < 3 * kOf j → every (λ x. ltb x (nOf j)) (equationOf tbl j e) ≡ true
   unfolding nOf

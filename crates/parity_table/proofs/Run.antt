@@ -8,7 +8,6 @@ use native.Mathlib.Omega.{arith}
 use lib.ListN.{length, take, drop, length-append, take-append-drop}
 use lib.Seq.{take-take}
 use lib.Dec.{leb, ltb, eqb}
-use lib.Pow.{pow-pos}
 use borrow.Author.Tests.{ltb-true, ltb-false, leb-true, eqb-true, lt-ltb, le-ltb, le-leb, eq-eqb}
 use Rattle.octets.specs.Choice.{pick}
 use Rattle.parity_table.specs.Shape.{kOf}
@@ -17,6 +16,7 @@ use Rattle.parity_table.specs.Reader.{Next, Layer, Equation, Member, End
 use Rattle.parity_table.specs.declared.Answer.{Answer}
 use Rattle.parity_table.specs.declared.Answer.the-variants.{Wrong, Whole}
 use Rattle.parity_table.specs.Table.{word, TableOk, equationsWords, layersWords, tableWords, WellFormed, Begins, FirstWrong}
+use Rattle.parity_table.proofs.Shape.{k-pos}
 use Rattle.parity_table.proofs.Rules.{EquationsOk, LayersOk, layers-table, table-layers}
 use Rattle.parity_table.proofs.Chain.{Chain, chain-le, chain-cons, equation-chain, chain-equation}
 
@@ -25,11 +25,6 @@ use Rattle.parity_table.proofs.Chain.{Chain, chain-le, chain-cons, equa
 run-turn : (d i : ℕ) (s t : Next) (w : ℕ) (ws : List ℕ) → fits i s w ≡ true → after d s w ≡ t → run d i s (w ∷ ws) ≡ run d (suc i) t ws
 unfolding run
 run-turn d i s t w ws f a = pick-yes (fits i s w) _ _ f ∙ ap (λ (n : Next). run d (suc i) n ws) a
-
--- k is at least 4
-pub k-pos : (j : ℕ) → 4 ≤ kOf j
-unfolding kOf
-k-pos j = omega (arith, pow-pos j)
 
 member-goes : (z m lo w : ℕ) → lo ≤ w → w < z → m < 7 → memberFits z m lo w ≡ true
 unfolding memberFits

@@ -2,8 +2,5 @@ pub mod Shape
 pub mod Members
 pub mod Table
 pub mod Reader
-pub mod Steps
 pub mod Right
 pub mod Parse
-pub mod Bytes
-pub mod House

@@ -51,7 +51,7 @@ pub fn fill_accepted(ws: &[u32], a: Answer, starts: &mut [usize])
 }
 
 // How many members stand from word at on.
-fn count_members(ws: &[u32], at: usize) -> usize
+pub fn count_members(ws: &[u32], at: usize) -> usize
     requires { ⌜ at ≤ length (now ws) ⌝ }
     ensures { λ r. ⌜ r ≡ length (membersOf (drop at (now (ws .entry)))) ⌝ }
 {
@@ -66,7 +66,7 @@ fn count_members(ws: &[u32], at: usize) -> usize
 }
 
 // The number of equation e of layer j among all equations.
-fn number_of(j: usize, e: usize) -> usize
+pub fn number_of(j: usize, e: usize) -> usize
     requires { ⌜ (j < maxDepth) × (e < 3 * kOf j) ⌝ }
     ensures { λ r. ⌜ r ≡ numberIn j e ⌝ }
 {

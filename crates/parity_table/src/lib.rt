@@ -1,9 +1,6 @@
-// The parity table of a coded Merkle tree, a list of 32-bit words: its reader (`reader`), where its
-// equations stand (`index`), its form as bytes (`wire`), and the house table (`house`).
-pub mod house;
+// The parity table of a coded Merkle tree, a list of 32-bit words: its numbers, what a reader of it answers, and where its equations
+// stand (`index`).
 pub mod index;
-pub mod reader;
-pub mod wire;
 
 ghost use mathlib.Core.Path.{_≡_};
 ghost use Prim.Native.Nat.{_<_};

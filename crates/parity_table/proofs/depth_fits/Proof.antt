@@ -1,6 +1,6 @@
 -- `depth_fits` meets its contract: two tests.
 use Prim.Native.Nat.{_-_}
-use Rattle.parity_table.proofs.Accepts.{depth-low, depth-mid}
+use Rattle.parity_table.proofs.Shape.{depth-low, depth-mid}
 use Rattle.parity_table.proofs.depth_fits.Statement.{statement}
 use Rattle.parity_table.proofs.depth_fits.Tie as tie
 

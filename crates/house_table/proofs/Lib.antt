@@ -1,0 +1,3 @@
+pub mod HouseRules
+pub mod HouseParts
+pub mod HouseBytes

@@ -1,0 +1,2 @@
+pub mod ByteForm
+pub mod RoundTrip
