@@ -1,6 +1,6 @@
 -- Hashes in the layer above and in the root, as loops meet them.
 use mathlib.Core.Path.{_≡_, refl, sym, ap, ap₂, _∙_}
-use mathlib.Core.List.{List, [], _∷_, _++_, append-assoc, append-nil}
+use mathlib.Core.List.{List, _++_, append-assoc, append-nil}
 use Prim.Native.Nat.{ℕ, zero, suc, _+_, _-_, _*_, _/_, _%_, _≤_, _<_}
 use native.Mathlib.Nat.{add-zero, suc-add, add-suc, mod-lt}
 use native.Mathlib.Omega.{arith}
@@ -8,6 +8,7 @@ use native.Mathlib.Numerals.{add-one}
 use lib.ListN.{length, take, drop}
 use lib.Seq.{paste, take-paste, take-all, take-length, length-paste}
 use Rattle.symbol_hash.specs.SymbolHash.{symbolHash}
+use Rattle.symbol_hash.specs.declared.Kind.{Kind}
 use Rattle.symbol_hash.proofs.Laws.{length-symbolHash}
 use Rattle.parity_table.specs.Shape.{kOf, nOf}
 use Rattle.model.specs.Shape.{tree, places, place}
@@ -19,15 +20,15 @@ use Rattle.model.proofs.Hashes.{column-lt}
 use Rattle.coded_tree.proofs.ParityLaws.{symAt-there}
 
 -- the hash of symbol i of layer j + 1, which stands at place base + i, into layer j, which starts at place above
-pub hash-put : (t u h : List ℕ) (j i above base k n : ℕ) → above ≡ places tree j → base ≡ places tree (suc j) → k ≡ kOf j → n ≡ 256
-    → h ≡ symbolHash (j + 1) i (take n (drop (256 * (base + i)) t))
-    → u ≡ paste t (256 * (above + i % k) + 32 * (i / k)) h (length h) → u ≡ putHash tree symbolHash j i t
+pub hash-put : (kind : Kind) (t u h : List ℕ) (j i above base k n : ℕ) → above ≡ places tree j → base ≡ places tree (suc j) → k ≡ kOf j → n ≡ 256
+    → h ≡ symbolHash kind (j + 1) i (take n (drop (256 * (base + i)) t))
+    → u ≡ paste t (256 * (above + i % k) + 32 * (i / k)) h (length h) → u ≡ putHash tree (symbolHash kind) j i t
 unfolding putHash hashPlace place
-hash-put t u h j i above base k n ea eb ek en eh eu =
-    let s : h ≡ symbolHash (suc j) i (symAt tree t (suc j) i) =
-    eh ∙ ap₂ (λ l m. symbolHash l i (take m (drop (256 * (base + i)) t))) (add-one j) en
-    ∙ ap (symbolHash (suc j) i) (sym (symAt-there t (suc j) base eb i)) in
-    let l : length h ≡ 32 = ap length s ∙ length-symbolHash (suc j) i _ in
+hash-put kind t u h j i above base k n ea eb ek en eh eu =
+    let s : h ≡ symbolHash kind (suc j) i (symAt tree t (suc j) i) =
+    eh ∙ ap₂ (λ l m. symbolHash kind l i (take m (drop (256 * (base + i)) t))) (add-one j) en
+    ∙ ap (symbolHash kind (suc j) i) (sym (symAt-there t (suc j) base eb i)) in
+    let l : length h ≡ 32 = ap length s ∙ length-symbolHash kind (suc j) i _ in
     eu ∙ ap (λ m. paste t (256 * (above + i % k) + 32 * (i / k)) h m) l
     ∙ ap₂ (λ a c. paste t (256 * (a + i % c) + 32 * (i / c)) h 32) ea ek
     ∙ ap (λ v. paste t (256 * (places tree j + i % kOf j) + 32 * (i / kOf j)) v 32) s
@@ -44,21 +45,21 @@ hash-room t j i above base k ea eb ek hi room =
     let n : nOf j ≡ 4 * kOf j = tree-ok .rate j in
     (p, omega arith, m, q)
 
-pub hashes-next : (j i m : ℕ) (t u : List ℕ) → u ≡ putHash tree symbolHash j i t
-    → putHashes tree symbolHash j i (suc m) t ≡ putHashes tree symbolHash j (i + 1) m u
+pub hashes-next : (kind : Kind) (j i m : ℕ) (t u : List ℕ) → u ≡ putHash tree (symbolHash kind) j i t
+    → putHashes tree (symbolHash kind) j i (suc m) t ≡ putHashes tree (symbolHash kind) j (i + 1) m u
 unfolding putHashes
-hashes-next j i m t u e = ap₂ (λ n v. putHashes tree symbolHash j n m v) (sym (add-one i)) (sym e)
+hashes-next kind j i m t u e = ap₂ (λ n v. putHashes tree (symbolHash kind) j n m v) (sym (add-one i)) (sym e)
 
 -- from symbol i on, of m in all
-pub hashes-step : (j i m : ℕ) (t u v : List ℕ) → i < m → u ≡ putHash tree symbolHash j i t → putHashes tree symbolHash j i (m - i) t ≡ v
-    → putHashes tree symbolHash j (i + 1) (m - (i + 1)) u ≡ v
-hashes-step j i m t u v h eu e =
+pub hashes-step : (kind : Kind) (j i m : ℕ) (t u v : List ℕ) → i < m → u ≡ putHash tree (symbolHash kind) j i t → putHashes tree (symbolHash kind) j i (m - i) t ≡ v
+    → putHashes tree (symbolHash kind) j (i + 1) (m - (i + 1)) u ≡ v
+hashes-step kind j i m t u v h eu e =
     let k : m - i ≡ suc (m - (i + 1)) = omega arith in
-    sym (ap (λ n. putHashes tree symbolHash j i n t) k ∙ hashes-next j i (m - (i + 1)) t u eu) ∙ e
+    sym (ap (λ n. putHashes tree (symbolHash kind) j i n t) k ∙ hashes-next kind j i (m - (i + 1)) t u eu) ∙ e
 
-pub hashes-end : (j i m : ℕ) (t v : List ℕ) → m ≤ i → putHashes tree symbolHash j i (m - i) t ≡ v → t ≡ v
+pub hashes-end : (kind : Kind) (j i m : ℕ) (t v : List ℕ) → m ≤ i → putHashes tree (symbolHash kind) j i (m - i) t ≡ v → t ≡ v
 unfolding putHashes
-hashes-end j i m t v h e = let k : m - i ≡ 0 = omega arith in sym (ap (λ n. putHashes tree symbolHash j i n t) k) ∙ e
+hashes-end kind j i m t v h e = let k : m - i ≡ 0 = omega arith in sym (ap (λ n. putHashes tree (symbolHash kind) j i n t) k) ∙ e
 
 -- ---- the root
 
@@ -70,26 +71,26 @@ joined-snoc g x (suc m) =
     ∙ ap (λ n. g x ++ joined g (suc x) m ++ g n) (suc-add x m ∙ sym (add-suc x m))
 
 -- the hash of symbol i of layer 0
-abbrev pub topHash : List ℕ → ℕ → List ℕ
-topHash t i = symbolHash 0 i (symAt tree t 0 i)
+abbrev pub topHash : Kind → List ℕ → ℕ → List ℕ
+topHash kind t i = symbolHash kind 0 i (symAt tree t 0 i)
 
-pub root-more : (t root u h : List ℕ) (i n : ℕ) → i < 16 → length root ≡ 512 → n ≡ 256 → take (32 * i) root ≡ joined (topHash t) 0 i
-    → h ≡ symbolHash 0 i (take n (drop (256 * i) t)) → u ≡ paste root (32 * i) h (length h)
-    → (length u ≡ 512) × (take (32 * (i + 1)) u ≡ joined (topHash t) 0 (i + 1))
+pub root-more : (kind : Kind) (t root u h : List ℕ) (i n : ℕ) → i < 16 → length root ≡ 512 → n ≡ 256 → take (32 * i) root ≡ joined (topHash kind t) 0 i
+    → h ≡ symbolHash kind 0 i (take n (drop (256 * i) t)) → u ≡ paste root (32 * i) h (length h)
+    → (length u ≡ 512) × (take (32 * (i + 1)) u ≡ joined (topHash kind t) 0 (i + 1))
 unfolding places
-root-more t root u h i n hi l en e eh eu =
+root-more kind t root u h i n hi l en e eh eu =
     let z : 0 + i ≡ i = omega arith in
-    let s : h ≡ topHash t i =
-    eh ∙ ap₂ (λ m o. symbolHash 0 i (take m (drop (256 * o) t))) en (sym z) ∙ ap (symbolHash 0 i) (sym (symAt-there t 0 0 refl i)) in
-    let lh : length h ≡ 32 = ap length s ∙ length-symbolHash 0 i _ in
+    let s : h ≡ topHash kind t i =
+    eh ∙ ap₂ (λ m o. symbolHash kind 0 i (take m (drop (256 * o) t))) en (sym z) ∙ ap (symbolHash kind 0 i) (sym (symAt-there t 0 0 refl i)) in
+    let lh : length h ≡ 32 = ap length s ∙ length-symbolHash kind 0 i _ in
     let k : 32 * (i + 1) ≡ 32 * i + length h = omega arith in (
       ap length eu ∙ length-paste root (32 * i) h (length h) (omega arith) (omega arith) ∙ l,
       ap₂ take k eu ∙ take-paste root (32 * i) h (length h) (omega arith) (omega arith)
-          ∙ ap₂ _++_ e (take-length h ∙ s ∙ ap (topHash t) (sym z))
-          ∙ sym (ap (joined (topHash t) 0) (add-one i) ∙ joined-snoc (topHash t) 0 i),
+          ∙ ap₂ _++_ e (take-length h ∙ s ∙ ap (topHash kind t) (sym z))
+          ∙ sym (ap (joined (topHash kind t) 0) (add-one i) ∙ joined-snoc (topHash kind t) 0 i),
     )
 
-pub root-all : (t root : List ℕ) (i : ℕ) → i ≡ 16 → length root ≡ 512 → take (32 * i) root ≡ joined (topHash t) 0 i
-    → root ≡ rootOf tree symbolHash (symAt tree t)
+pub root-all : (kind : Kind) (t root : List ℕ) (i : ℕ) → i ≡ 16 → length root ≡ 512 → take (32 * i) root ≡ joined (topHash kind t) 0 i
+    → root ≡ rootOf tree (symbolHash kind) (symAt tree t)
 unfolding rootOf nOf kOf
-root-all t root i ei l e = sym (take-all (32 * i) root (omega arith)) ∙ e ∙ ap (joined (topHash t) 0) ei
+root-all kind t root i ei l e = sym (take-all (32 * i) root (omega arith)) ∙ e ∙ ap (joined (topHash kind t) 0) ei

@@ -1,5 +1,5 @@
 -- The exclusive-or of members, and the parity symbols of a layer, as loops meet them.
-use mathlib.Core.Path.{_≡_, sym, ap, ap₂, _∙_}
+use mathlib.Core.Path.{_≡_, refl, sym, ap, ap₂, _∙_}
 use mathlib.Core.Bool.{true}
 use mathlib.Core.List.{List, []}
 use Prim.Native.Nat.{ℕ, _+_, _*_, _≤_, _<_}
@@ -18,7 +18,7 @@ use Rattle.parity_table.specs.Reader.{readOf}
 use Rattle.parity_table.specs.Parse.{tableOf}
 use Rattle.parity_table.proofs.Rules.{members-below}
 use Rattle.parity_table.proofs.Accepts.{accepted-table}
-use Rattle.model.specs.Shape.{tree, places, place}
+use Rattle.model.specs.Shape.{Shape, tree, places, place}
 use Rattle.model.specs.Symbols.{symbolIn, zeros, xorOf, others, symAt, putAt}
 use Rattle.model.specs.Writer.{parities}
 use Rattle.model.proofs.Bytes.{xors-comm, xors-assoc, sym-zeros}
@@ -27,14 +27,25 @@ use Rattle.model.proofs.Counts.{every-others}
 
 -- ---- a symbol of a layer, where the code finds it
 
+-- the symbols from place base on
+module _ (t : List ℕ) (base : ℕ) where
+  pub symbol-there : (y : ℕ) → symbolIn t (base + y) ≡ take 256 (drop (256 * (base + y)) t)
+  unfolding symbolIn
+  symbol-there y = refl
+
+  pub symbol-full : (n : ℕ) → 256 * (base + n) ≤ length t → (y : ℕ) → y < n → length (symbolIn t (base + y)) ≡ 256
+  symbol-full n room y h = ap length (symbol-there y) ∙ length-part t (256 * (base + y)) 256 (omega arith)
+
+-- those of a layer that starts there, of any shape
+pub symbols-from : (S : Shape) (t : List ℕ) (j base : ℕ) → base ≡ places S j → _≡_ {A = ℕ → List ℕ} (λ y. symbolIn t (base + y)) (symAt S t j)
+unfolding symAt place
+symbols-from S t j base eb = ap {B = ℕ → List ℕ} (λ b y. symbolIn t (b + y)) eb
+
 -- places, with base the first place of layer j
 module _ (t : List ℕ) (j base : ℕ) (eb : base ≡ places tree j) where
   pub symAt-there : (y : ℕ) → symAt tree t j y ≡ take 256 (drop (256 * (base + y)) t)
   unfolding symAt symbolIn place
   symAt-there y = ap (λ b. take 256 (drop (256 * (b + y)) t)) (sym eb)
-
-  pub symAt-full : 256 * (base + nOf j) ≤ length t → (y : ℕ) → y < nOf j → length (symAt tree t j y) ≡ 256
-  symAt-full room y h = ap length (symAt-there y) ∙ length-part t (256 * (base + y)) 256 (omega arith)
 
   pub putAt-there : (x : ℕ) (v w : List ℕ) → length v ≡ 256 → w ≡ paste t (256 * (base + x)) v (length v) → w ≡ putAt tree t j x v
   unfolding putAt place
@@ -71,6 +82,17 @@ module _ (ms : List ℕ) (g : ℕ → List ℕ) (x : ℕ) where
 
   pub turn-skip : (i : ℕ) (a : List ℕ) → i < length ms → getD ms i 0 ≡ x → xors a (left i) ≡ left 0 → xors a (left (i + 1)) ≡ left 0
   turn-skip i a h e inv = ap (xors a) (sym (left-skip i h e)) ∙ inv
+
+-- symbol x of layer j, which starts at place base, is stored: v, the exclusive-or of the other members of an equation
+module _ (t v : List ℕ) (j base x : ℕ) (ms : List ℕ) (eb : base ≡ places tree j) (room : 256 * (base + nOf j) ≤ length t)
+    (inside : every (λ y. ltb y (nOf j)) ms ≡ true) (ev : v ≡ xorOf (λ y. symbolIn t (base + y)) (others x ms)) where
+  pub length-others : length v ≡ 256
+  length-others = ap length ev ∙ length-left ms (λ y. symbolIn t (base + y)) x (nOf j) (symbol-full t base (nOf j) room) inside
+
+  pub parity-put : (u : List ℕ) → u ≡ paste t (256 * (base + x)) v (length v) → u ≡ putAt tree t j x (xorOf (symAt tree t j) (others x ms))
+  parity-put u eu =
+      putAt-there t j base eb x v u length-others eu
+      ∙ ap (putAt tree t j x) (ev ∙ ap (λ g. xorOf g (others x ms)) (symbols-from tree t j base eb))
 
 -- ---- the parity symbols of a layer, one after the other
 

@@ -1,6 +1,6 @@
 -- The layers one after the other, the whole tree, and the block read back, as the code meets them.
-use mathlib.Core.Path.{_≡_, refl, sym, ap, ap₂, _∙_, subst}
-use mathlib.Core.List.{List, [], _∷_, _++_, append-nil}
+use mathlib.Core.Path.{_≡_, sym, ap, ap₂, _∙_, subst}
+use mathlib.Core.List.{List, _++_, append-nil}
 use Prim.Native.Nat.{ℕ, zero, suc, _+_, _-_, _*_, _≤_, _<_}
 use native.Mathlib.Nat.{add-zero}
 use native.Mathlib.Omega.{arith}
@@ -8,10 +8,10 @@ use lib.ListN.{length, take, drop, drop-of-length-le}
 use lib.Seq.{paste, take-length}
 use Rattle.octets.proofs.ListLaws.{length-part}
 use Rattle.symbol_hash.specs.SymbolHash.{symbolHash}
+use Rattle.symbol_hash.specs.declared.Kind.{Kind}
 use Rattle.parity_table.specs.Shape.{kOf, nOf}
 use Rattle.parity_table.specs.Table.{layerOf}
 use Rattle.model.specs.Shape.{tree, places, place}
-use Rattle.model.specs.Symbols.{symAt}
 use Rattle.model.specs.Writer.{parities, putHashes, code, writeTree, blockOf}
 use Rattle.model.proofs.Shapes.{places-mono}
 
@@ -20,31 +20,31 @@ pub layer-room : (d j : ℕ) (t : List ℕ) → j < d → length t ≡ 256 * pla
 unfolding places
 layer-room d j t h l = omega (arith, places-mono tree (suc j) d h)
 
-module _ (tbl : List (List (List ℕ))) where
+module _ (kind : Kind) (tbl : List (List (List ℕ))) where
   -- one layer up: its parity symbols, then their hashes
   pub code-step : (j : ℕ) (t u v : List ℕ) → 0 < j → u ≡ parities tree j 0 (layerOf tbl j) t
-      → v ≡ putHashes tree symbolHash (j - 1) 0 (nOf (suc (j - 1))) u
-      → code tree symbolHash tbl (suc j) t ≡ code tree symbolHash tbl (suc (j - 1)) v
+      → v ≡ putHashes tree (symbolHash kind) (j - 1) 0 (nOf (suc (j - 1))) u
+      → code tree (symbolHash kind) tbl (suc j) t ≡ code tree (symbolHash kind) tbl (suc (j - 1)) v
   unfolding code
   code-step zero t u v h eu ev = absurd (omega arith)
   code-step (suc j) t u v h eu ev =
       let k : suc j - 1 ≡ j = omega arith in
-      let w : v ≡ putHashes tree symbolHash j 0 (nOf (suc j)) (parities tree (suc j) 0 (layerOf tbl (suc j)) t) =
-      ev ∙ ap₂ (λ i x. putHashes tree symbolHash i 0 (nOf (suc i)) x) k eu in
-      ap₂ (λ i x. code tree symbolHash tbl (suc i) x) (sym k) (sym w)
+      let w : v ≡ putHashes tree (symbolHash kind) j 0 (nOf (suc j)) (parities tree (suc j) 0 (layerOf tbl (suc j)) t) =
+      ev ∙ ap₂ (λ i x. putHashes tree (symbolHash kind) i 0 (nOf (suc i)) x) k eu in
+      ap₂ (λ i x. code tree (symbolHash kind) tbl (suc i) x) (sym k) (sym w)
 
-  pub code-top : (j : ℕ) (t u : List ℕ) → j ≡ 0 → u ≡ parities tree 0 0 (layerOf tbl 0) t → code tree symbolHash tbl (suc j) t ≡ u
+  pub code-top : (j : ℕ) (t u : List ℕ) → j ≡ 0 → u ≡ parities tree 0 0 (layerOf tbl 0) t → code tree (symbolHash kind) tbl (suc j) t ≡ u
   unfolding code
-  code-top j t u e eu = ap (λ i. code tree symbolHash tbl (suc i) t) e ∙ sym eu
+  code-top j t u e eu = ap (λ i. code tree (symbolHash kind) tbl (suc i) t) e ∙ sym eu
 
   -- the block in the base, then all layers
   pub written-tree : (d base : ℕ) (block t u v : List ℕ) → length tbl ≡ d → base ≡ places tree (d - 1) → length block ≡ 256 * kOf (d - 1)
-      → u ≡ paste t (256 * base) block (length block) → v ≡ code tree symbolHash tbl d u → v ≡ writeTree tree symbolHash tbl block t
+      → u ≡ paste t (256 * base) block (length block) → v ≡ code tree (symbolHash kind) tbl d u → v ≡ writeTree tree (symbolHash kind) tbl block t
   unfolding writeTree place
   written-tree d base block t u v ed eb lb eu ev =
       let p : base ≡ places tree (d - 1) + 0 = eb ∙ sym (add-zero (places tree (d - 1))) in
-      ev ∙ ap (code tree symbolHash tbl d) (eu ∙ ap₂ (λ o m. paste t (256 * o) block m) p lb)
-      ∙ ap (λ q. code tree symbolHash tbl q (paste t (256 * (places tree (q - 1) + 0)) block (256 * kOf (q - 1)))) (sym ed)
+      ev ∙ ap (code tree (symbolHash kind) tbl d) (eu ∙ ap₂ (λ o m. paste t (256 * o) block m) p lb)
+      ∙ ap (λ q. code tree (symbolHash kind) tbl q (paste t (256 * (places tree (q - 1) + 0)) block (256 * kOf (q - 1)))) (sym ed)
 
 -- a copy that fills its buffer
 pub paste-all : (d s : List ℕ) → length s ≡ length d → paste d 0 s (length s) ≡ s

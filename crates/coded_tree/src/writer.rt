@@ -3,7 +3,7 @@ use crate::first_place;
 use crate::hashes::put_hashes;
 use crate::hashes::put_root;
 use crate::parity::put_parities;
-use parity_table::data_count;
+use symbol_hash::Kind;
 ghost use mathlib.Core.Path.{_≡_};
 ghost use Prim.Native.Nat.{_+_, _-_, _*_, _≤_};
 ghost use lib.ListN.{length};
@@ -14,14 +14,14 @@ ghost use Rattle.model.specs.Writer.{code, writeTree, writtenRoot, writtenMarks
 ghost use Rattle.symbol_hash.specs.SymbolHash.{symbolHash};
 
 // Codes a tree whose base has its data symbols: layer by layer upward, the parity symbols, then their hashes into the layer above.
-fn code_layers(tree: &mut [u8], depth: usize, words: &[u32], starts: &[usize])
+fn code_layers(kind: Kind, tree: &mut [u8], depth: usize, words: &[u32], starts: &[usize])
     requires { ⌜ Indexed depth (now words) (now starts) × (length (now tree) ≡ 256 * places shape depth) ⌝ }
-    ensures { λ r. ⌜ now (tree .exit) ≡ code shape symbolHash (tableOf (now (words .entry))) depth (now (tree .entry)) ⌝ }
+    ensures { λ r. ⌜ now (tree .exit) ≡ code shape (symbolHash kind) (tableOf (now (words .entry))) depth (now (tree .entry)) ⌝ }
 {
     let mut j = depth - 1;
     while 0 < j {
         put_parities(tree, depth, words, starts, j);
-        put_hashes(tree, j - 1);
+        put_hashes(kind, tree, j - 1);
         j -= 1;
     }
     put_parities(tree, depth, words, starts, 0);
@@ -29,6 +29,7 @@ fn code_layers(tree: &mut [u8], depth: usize, words: &[u32], starts: &[usize])
 
 // Writes the tree of the block, every mark, and the root.
 pub fn write(
+    kind: Kind,
     depth: usize,
     words: &[u32],
     starts: &[usize],
@@ -40,14 +41,14 @@ pub fn write(
     requires { ⌜ Indexed depth (now words) (now starts) × (length (now block) ≡ 256 * kOf (depth - 1))
         × (length (now tree) ≡ 256 * places shape depth) × (length (now marks) ≡ places shape depth) × (length (now root) ≡ 512) ⌝ }
     ensures { λ r.
-        ⌜ (now (tree .exit) ≡ writeTree shape symbolHash (tableOf (now (words .entry))) (now (block .entry)) (now (tree .entry)))
+        ⌜ (now (tree .exit) ≡ writeTree shape (symbolHash kind) (tableOf (now (words .entry))) (now (block .entry)) (now (tree .entry)))
         × (now (marks .exit) ≡ writtenMarks shape depth)
-        × (now (root .exit) ≡ writtenRoot shape symbolHash (now (tree .exit))) ⌝ }
+        × (now (root .exit) ≡ writtenRoot shape (symbolHash kind) (now (tree .exit))) ⌝ }
 {
     octets::copy_at(block, tree, 256 * first_place(depth - 1));
-    code_layers(tree, depth, words, starts);
+    code_layers(kind, tree, depth, words, starts);
     octets::fill(marks, 1);
-    put_root(tree, root);
+    put_root(kind, tree, root);
 }
 
 // Copies the base's data symbols, in order, into the block.

@@ -7,7 +7,6 @@ use native.Mathlib.Omega.{arith}
 use lib.ListN.{take, drop}
 use Rattle.octets.specs.ByteLists.{same}
 use Rattle.octets.proofs.ListLaws.{part-ends}
-use Rattle.symbol_hash.specs.SymbolHash.{symbolHash}
 use Rattle.model.specs.Shape.{tree}
 use Rattle.model.specs.Symbols.{symbolIn}
 use Rattle.model.specs.Climb.{leads, breaks, climb}
@@ -40,9 +39,9 @@ fits-is H root s d i x j m b ej em eb =
 
 -- ---- the way up
 
-module _ (root s : List ℕ) (d i x : ℕ) where
+module _ (H : ℕ → ℕ → List ℕ → List ℕ) (root s : List ℕ) (d i x : ℕ) where
   abbrev fit : ℕ → Bool
-  fit = sampleFits tree symbolHash root d i s
+  fit = sampleFits tree H root d i s
 
   -- every symbol before x fits
   abbrev pub FitBefore : Type 0
@@ -52,13 +51,13 @@ module _ (root s : List ℕ) (d i x : ℕ) where
     pub fits-here : b ≡ true → climb fit (sampleLayer d) (x + 1) (sampleSize d - (x + 1)) ≡ climb fit (sampleLayer d) 0 (sampleSize d)
     fits-here t = climb-next fit (sampleLayer d) (sampleSize d) x h (sym is ∙ t) ∙ before
 
-    pub breaks-here : b ≡ false → (j : ℕ) → j ≡ sampleLayer d x → breaks j ≡ sampleCheck tree symbolHash root d i s
+    pub breaks-here : b ≡ false → (j : ℕ) → j ≡ sampleLayer d x → breaks j ≡ sampleCheck tree H root d i s
     unfolding sampleCheck
     breaks-here t j e = ap breaks e ∙ sym (climb-breaks fit (sampleLayer d) (sampleSize d) x h (sym is ∙ t)) ∙ before
 
-  pub leads-here : sampleSize d ≤ x → FitBefore → leads ≡ sampleCheck tree symbolHash root d i s
+  pub leads-here : sampleSize d ≤ x → FitBefore → leads ≡ sampleCheck tree H root d i s
   unfolding sampleCheck
   leads-here h before = sym (climb-ends fit (sampleLayer d) (sampleSize d) x h) ∙ before
 
-pub fit-start : (root s : List ℕ) (d i : ℕ) → FitBefore root s d i 0
-fit-start root s d i = let n : sampleSize d - 0 ≡ sampleSize d = omega arith in ap (climb (fit root s d i 0) (sampleLayer d) 0) n
+pub fit-start : (H : ℕ → ℕ → List ℕ → List ℕ) (root s : List ℕ) (d i : ℕ) → FitBefore H root s d i 0
+fit-start H root s d i = let n : sampleSize d - 0 ≡ sampleSize d = omega arith in ap (climb (fit H root s d i 0) (sampleLayer d) 0) n

@@ -4,7 +4,7 @@ use Prim.Native.Nat.{_-_, _*_}
 use native.Mathlib.Omega.{arith}
 use borrow.Author.Needs.{needs}
 use Rattle.model.proofs.Shapes.{tree-places}
-use Rattle.parity_table.proofs.HouseParts.{shift-is, shift-small}
+use Rattle.parity_table.proofs.Shape.{shift-is, shift-small}
 use lib.Pow.{pow-pos}
 use Rattle.coded_tree.proofs.first_place.Statement.{statement}
 use Rattle.coded_tree.proofs.first_place.Tie as tie

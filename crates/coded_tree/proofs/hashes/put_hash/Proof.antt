@@ -105,14 +105,14 @@ copy-at-requires c κs =
     (c .before .before .before .before .before .before .pre .0) (c .before .before .before .before .before .before .pre .1)
     (c .before .before .before .before .before .before .pre .2) (c .before .before .before .before .before .before .pre .4)
     (c .before .before .before .before .before .before .pre .5) in omega
-    (arith, ap length (c .before .before .hash .ensures), length-symbolHash (c .before .before .before .before .before .before .args .j + 1) (c .before .before .before .before .before .before .args .i) (take (256 * (c .before .before .before .before .before .before .args .base + c .before .before .before .before .before .before .args .i) + 256 - 256 * (c .before .before .before .before .before .before .args .base + c .before .before .before .before .before .before .args .i)) (drop (256 * (c .before .before .before .before .before .before .args .base + c .before .before .before .before .before .before .args .i)) (c .before .before .before .before .before .before .args .tree .now))))
+    (arith, ap length (c .before .before .hash .ensures), length-symbolHash (c .before .before .before .before .before .before .args .kind) (c .before .before .before .before .before .before .args .j + 1) (c .before .before .before .before .before .before .args .i) (take (256 * (c .before .before .before .before .before .before .args .base + c .before .before .before .before .before .before .args .i) + 256 - 256 * (c .before .before .before .before .before .before .args .base + c .before .before .before .before .before .before .args .i)) (drop (256 * (c .before .before .before .before .before .before .args .base + c .before .before .before .before .before .before .args .i)) (c .before .before .before .before .before .before .args .tree .now))))
 
 same-length : tie.Need-same-length
 same-length c = search needs
 
 returns : tie.Need-returns
 returns c =
-    hash-put (c .before .before .before .before .before .before .before .before .before .args .tree .now) _
+    hash-put (c .before .before .before .before .before .before .before .before .before .args .kind) (c .before .before .before .before .before .before .before .before .before .args .tree .now) _
     (c .before .before .before .before .before .hash .result)
     (c .before .before .before .before .before .before .before .before .before .args .j)
     (c .before .before .before .before .before .before .before .before .before .args .i)

@@ -10,20 +10,20 @@ use Rattle.model.specs.Shape.{places}
 use Rattle.model.specs.Writer.{putHashes}
 use Rattle.model.proofs.Shapes.{tree-ok}
 use Rattle.parity_table.specs.Shape.{kOf, nOf}
-use Rattle.parity_table.proofs.Parse.{k-small}
+use Rattle.parity_table.proofs.Shape.{k-small}
 use Rattle.symbol_hash.specs.SymbolHash.{symbolHash}
 use Rattle.model.specs.Shape.{tree as shape}
 use Rattle.coded_tree.proofs.hashes.put_hashes.Statement.{statement}
 use Rattle.coded_tree.proofs.hashes.put_hashes.Tie as tie
 
 abbrev Inv-loop : tie.InvT-loop
-Inv-loop tree₀ j k above base i₀ i-end tree i =
+Inv-loop kind tree₀ j k above base i₀ i-end tree i =
     (i ≤ i-end) × (i-end ≡ nOf (suc j)) × (k ≡ kOf j) × (above ≡ places shape j) × (base ≡ places shape (suc j)) ×
     (length tree ≡ length tree₀) ×
-    (putHashes shape symbolHash j i (i-end - i) tree ≡ putHashes shape symbolHash j 0 (nOf (suc j)) tree₀)
+    (putHashes shape (symbolHash kind) j i (i-end - i) tree ≡ putHashes shape (symbolHash kind) j 0 (nOf (suc j)) tree₀)
 
 abbrev μ-loop : tie.MeasureT-loop
-μ-loop tree₀ j k above base i₀ i-end tree i = i-end - i
+μ-loop kind tree₀ j k above base i₀ i-end tree i = i-end - i
 
 data-count-requires : tie.Need-data-count-requires Inv-loop μ-loop
 data-count-requires c κs = search needs
@@ -44,7 +44,7 @@ mul-i-end c =
 loop-holds : tie.Need-loop-holds Inv-loop μ-loop
 loop-holds c = let e : 8 * c .before .before .data-count .result ≡ nOf (suc (c .before .before .before .before .args .j)) = omega (arith, tree-ok .batch (c .before .before .before .before .args .j), c .before .before .data-count .ensures) in
     let z : 8 * c .before .before .data-count .result - 0 ≡ nOf (suc (c .before .before .before .before .args .j)) = omega arith in
-    (omega arith, e, c .before .before .data-count .ensures, c .before .first-place .ensures, c .first-place2 .ensures ∙ ap (places shape) (add-one (c .before .before .before .before .args .j)), refl, ap (λ n. putHashes shape symbolHash (c .before .before .before .before .args .j) 0 n (c .before .before .before .before .args .tree .now)) z)
+    (omega arith, e, c .before .before .data-count .ensures, c .before .first-place .ensures, c .first-place2 .ensures ∙ ap (places shape) (add-one (c .before .before .before .before .args .j)), refl, ap (λ n. putHashes shape (symbolHash (c .before .before .before .before .args .kind)) (c .before .before .before .before .args .j) 0 n (c .before .before .before .before .args .tree .now)) z)
 
 put-hash-requires : tie.Need-put-hash-requires Inv-loop μ-loop
 put-hash-requires c κs =
@@ -58,14 +58,14 @@ loop-less c = search needs
 
 loop-again : tie.Need-loop-again Inv-loop μ-loop
 loop-again c =
-    (omega arith, c .before .before .before .before .before .loop .inv .1, c .before .before .before .before .before .loop .inv .2, c .before .before .before .before .before .loop .inv .3, c .before .before .before .before .before .loop .inv .4, search needs, hashes-step (c .before .before .before .before .before .before .before .before .before .before .args .j) (c .before .before .before .before .before .loop .i) _ (c .before .before .before .before .before .loop .tree) _ _ (omega arith) (c .before .before .put-hash .ensures) (c .before .before .before .before .before .loop .inv .6))
+    (omega arith, c .before .before .before .before .before .loop .inv .1, c .before .before .before .before .before .loop .inv .2, c .before .before .before .before .before .loop .inv .3, c .before .before .before .before .before .loop .inv .4, search needs, hashes-step (c .before .before .before .before .before .before .before .before .before .before .args .kind) (c .before .before .before .before .before .before .before .before .before .before .args .j) (c .before .before .before .before .before .loop .i) _ (c .before .before .before .before .before .loop .tree) _ _ (omega arith) (c .before .before .put-hash .ensures) (c .before .before .before .before .before .loop .inv .6))
 
 same-length : tie.Need-same-length Inv-loop μ-loop
 same-length c = search needs
 
 returns : tie.Need-returns Inv-loop μ-loop
 returns c =
-    hashes-end (c .before .before .before .before .before .before .args .j) (c .before .loop .i) _ (c .before .loop .tree) _
+    hashes-end (c .before .before .before .before .before .before .args .kind) (c .before .before .before .before .before .before .args .j) (c .before .loop .i) _ (c .before .loop .tree) _
     (omega arith) (c .before .loop .inv .6)
 
 pub put-hashes-spec : {M : Type 1} → statement M

@@ -12,10 +12,10 @@ use Rattle.coded_tree.proofs.hashes.put_root.Statement.{statement}
 use Rattle.coded_tree.proofs.hashes.put_root.Tie as tie
 
 abbrev Inv-loop : tie.InvT-loop
-Inv-loop tree root₀ i₀ root i = (i ≤ 16) × (length root ≡ 512) × (take (32 * i) root ≡ joined (topHash tree) 0 i)
+Inv-loop kind tree root₀ i₀ root i = (i ≤ 16) × (length root ≡ 512) × (take (32 * i) root ≡ joined (topHash kind tree) 0 i)
 
 abbrev μ-loop : tie.MeasureT-loop
-μ-loop tree root₀ i₀ root i = 16 - i
+μ-loop kind tree root₀ i₀ root i = 16 - i
 
 loop-holds : tie.Need-loop-holds Inv-loop μ-loop
 unfolding joined
@@ -48,7 +48,7 @@ mul-copy-at c = search needs
 copy-at-requires : tie.Need-copy-at-requires Inv-loop μ-loop
 copy-at-requires c κs =
     omega
-    (arith, ap length (c .before .before .hash .ensures), length-symbolHash 0 (c .before .before .before .before .before .loop .i) (take (256 * c .before .before .before .before .before .loop .i + 256 - 256 * c .before .before .before .before .before .loop .i) (drop (256 * c .before .before .before .before .before .loop .i) (c .before .before .before .before .before .before .before .before .args .tree .now))))
+    (arith, ap length (c .before .before .hash .ensures), length-symbolHash (c .before .before .before .before .before .before .before .before .args .kind) 0 (c .before .before .before .before .before .loop .i) (take (256 * c .before .before .before .before .before .loop .i + 256 - 256 * c .before .before .before .before .before .loop .i) (drop (256 * c .before .before .before .before .before .loop .i) (c .before .before .before .before .before .before .before .before .args .tree .now))))
 
 add-i : tie.Need-add-i Inv-loop μ-loop
 add-i c = search needs
@@ -59,7 +59,7 @@ loop-less c = search needs
 loop-again : tie.Need-loop-again Inv-loop μ-loop
 loop-again c = let h = c .before .before .before .before .before .hash .ensures in
     let e = c .before .before .copy-at .ensures in
-    let more = root-more (c .before .before .before .before .before .before .before .before .before .before .before .args .tree .now) (c .before .before .before .before .before .before .before .before .loop .root) _ (c .before .before .before .before .before .hash .result) (c .before .before .before .before .before .before .before .before .loop .i) (256 * c .before .before .before .before .before .before .before .before .loop .i + 256 - 256 * c .before .before .before .before .before .before .before .before .loop .i) (omega arith) (c .before .before .before .before .before .before .before .before .loop .inv .1) (omega arith) (c .before .before .before .before .before .before .before .before .loop .inv .2) h e in
+    let more = root-more (c .before .before .before .before .before .before .before .before .before .before .before .args .kind) (c .before .before .before .before .before .before .before .before .before .before .before .args .tree .now) (c .before .before .before .before .before .before .before .before .loop .root) _ (c .before .before .before .before .before .hash .result) (c .before .before .before .before .before .before .before .before .loop .i) (256 * c .before .before .before .before .before .before .before .before .loop .i + 256 - 256 * c .before .before .before .before .before .before .before .before .loop .i) (omega arith) (c .before .before .before .before .before .before .before .before .loop .inv .1) (omega arith) (c .before .before .before .before .before .before .before .before .loop .inv .2) h e in
     (omega arith, more .0, more .1)
 
 same-length : tie.Need-same-length Inv-loop μ-loop
@@ -67,7 +67,7 @@ same-length c = search needs
 
 returns : tie.Need-returns Inv-loop μ-loop
 returns c =
-    root-all (c .before .before .before .before .args .tree .now) (c .before .loop .root) (c .before .loop .i) (omega arith)
+    root-all (c .before .before .before .before .args .kind) (c .before .before .before .before .args .tree .now) (c .before .loop .root) (c .before .loop .i) (omega arith)
     (c .before .loop .inv .1) (c .before .loop .inv .2)
 
 pub put-root-spec : {M : Type 1} → statement M

@@ -12,7 +12,7 @@ use Rattle.octets.specs.BigEndian.{words}
 use Rattle.parity_table.specs.Parse.{tableOf}
 use Rattle.parity_table.specs.Shape.{kOf}
 use Rattle.parity_table.specs.Table.{layerOf}
-use Rattle.parity_table.proofs.Parse.{k-small}
+use Rattle.parity_table.proofs.Shape.{k-small}
 use Rattle.coded_tree.proofs.parity.put_parities.Statement.{statement}
 use Rattle.coded_tree.proofs.parity.put_parities.Tie as tie
 

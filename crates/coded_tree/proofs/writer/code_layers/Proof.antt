@@ -15,12 +15,12 @@ use Rattle.coded_tree.proofs.writer.code_layers.Statement.{statement}
 use Rattle.coded_tree.proofs.writer.code_layers.Tie as tie
 
 abbrev Inv-loop : tie.InvT-loop
-Inv-loop tree₀ depth words starts j₀ tree j =
+Inv-loop kind tree₀ depth words starts j₀ tree j =
     (j < depth) × (length tree ≡ length tree₀) ×
-    (code shape symbolHash (tableOf words) (suc j) tree ≡ code shape symbolHash (tableOf words) depth tree₀)
+    (code shape (symbolHash kind) (tableOf words) (suc j) tree ≡ code shape (symbolHash kind) (tableOf words) depth tree₀)
 
 abbrev μ-loop : tie.MeasureT-loop
-μ-loop tree₀ depth words starts j₀ tree j = j
+μ-loop kind tree₀ depth words starts j₀ tree j = j
 
 sub-j : tie.Need-sub-j Inv-loop μ-loop
 sub-j c =
@@ -32,7 +32,7 @@ loop-holds c =
     let d = accepted-depth (c .before .before .before .args .depth) (c .before .before .before .args .words .now)
     (c .before .before .before .pre .0 .accepted) in let k : suc (c .before .before .before .args .depth - 1) ≡ c .before .before
     .before .args .depth = omega (arith, d .0) in
-    (omega (arith, d .0), refl, ap (λ n. code shape symbolHash (tableOf (c .before .before .before .args .words .now)) n (c .before .before .before .args .tree .now)) k)
+    (omega (arith, d .0), refl, ap (λ n. code shape (symbolHash (c .before .before .before .args .kind)) (tableOf (c .before .before .before .args .words .now)) n (c .before .before .before .args .tree .now)) k)
 
 put-parities-requires : tie.Need-put-parities-requires Inv-loop μ-loop
 put-parities-requires c κs =
@@ -53,7 +53,7 @@ loop-less c = omega arith
 
 loop-again : tie.Need-loop-again Inv-loop μ-loop
 loop-again c =
-    (omega (arith, c .before .before .before .before .before .before .before .before .before .loop .inv .0), search needs, sym (code-step (tableOf (c .before .before .before .before .before .before .before .before .before .before .before .before .before .args .words .now)) (c .before .before .before .before .before .before .before .before .before .loop .j) (c .before .before .before .before .before .before .before .before .before .loop .tree) _ _ (omega arith) (c .before .before .before .before .before .before .put-parities .ensures) (c .before .before .put-hashes .ensures)) ∙ c .before .before .before .before .before .before .before .before .before .loop .inv .2)
+    (omega (arith, c .before .before .before .before .before .before .before .before .before .loop .inv .0), search needs, sym (code-step (c .before .before .before .before .before .before .before .before .before .before .before .before .before .args .kind) (tableOf (c .before .before .before .before .before .before .before .before .before .before .before .before .before .args .words .now)) (c .before .before .before .before .before .before .before .before .before .loop .j) (c .before .before .before .before .before .before .before .before .before .loop .tree) _ _ (omega arith) (c .before .before .before .before .before .before .put-parities .ensures) (c .before .before .put-hashes .ensures)) ∙ c .before .before .before .before .before .before .before .before .before .loop .inv .2)
 
 put-parities-requires-2 : tie.Need-put-parities-requires-2 Inv-loop μ-loop
 put-parities-requires-2 c κs =
@@ -65,7 +65,7 @@ same-length c = search needs
 returns : tie.Need-returns Inv-loop μ-loop
 returns c =
     sym
-    (code-top (tableOf (c .before .before .before .before .before .before .before .before .before .args .words .now)) (c .before .before .before .before .before .loop .j) (c .before .before .before .before .before .loop .tree) _ (omega arith) (c .before .before .put-parities2 .ensures))
+    (code-top (c .before .before .before .before .before .before .before .before .before .args .kind) (tableOf (c .before .before .before .before .before .before .before .before .before .args .words .now)) (c .before .before .before .before .before .loop .j) (c .before .before .before .before .before .loop .tree) _ (omega arith) (c .before .before .put-parities2 .ensures))
     ∙ c .before .before .before .before .before .loop .inv .2
 
 pub code-layers-spec : {M : Type 1} → statement M

@@ -4,15 +4,16 @@ use Prim.Native.Nat.{_-_, _≤_}
 use native.Mathlib.Omega.{arith}
 use Rattle.model.specs.Sampling.{sampleSize}
 use Rattle.octets.proofs.Choice.{not-yes, not-no}
+use Rattle.symbol_hash.specs.SymbolHash.{symbolHash}
 use Rattle.sampling.proofs.CheckLaws.{FitBefore, fits-here, breaks-here, leads-here, fit-start}
 use Rattle.sampling.proofs.checker.check.Statement.{statement}
 use Rattle.sampling.proofs.checker.check.Tie as tie
 
 abbrev Inv-loop : tie.InvT-loop
-Inv-loop depth i root sample x₀ x-end x = (x ≤ x-end) × (x-end ≡ sampleSize depth) × FitBefore root sample depth i x
+Inv-loop kind depth i root sample x₀ x-end x = (x ≤ x-end) × (x-end ≡ sampleSize depth) × FitBefore (symbolHash kind) root sample depth i x
 
 abbrev μ-loop : tie.MeasureT-loop
-μ-loop depth i root sample x₀ x-end x = x-end - x
+μ-loop kind depth i root sample x₀ x-end x = x-end - x
 
 mul-x-end : tie.Need-mul-x-end Inv-loop μ-loop
 mul-x-end c = omega arith
@@ -22,7 +23,7 @@ sub-x-end c = omega arith
 
 loop-holds : tie.Need-loop-holds Inv-loop μ-loop
 loop-holds c =
-    (omega arith, refl, fit-start (c .before .before .args .root .now) (c .before .before .args .sample .now) (c .before .before .args .depth) (c .before .before .args .i))
+    (omega arith, refl, fit-start (symbolHash (c .before .before .args .kind)) (c .before .before .args .root .now) (c .before .before .args .sample .now) (c .before .before .args .depth) (c .before .before .args .i))
 
 symbol-fits-requires : tie.Need-symbol-fits-requires Inv-loop μ-loop
 symbol-fits-requires c κs = (c .before .before .before .before .pre .0, (omega arith, omega arith), omega arith, omega arith)
@@ -32,7 +33,7 @@ layer-of-requires c κs = (omega arith, omega arith)
 
 returns : tie.Need-returns Inv-loop μ-loop
 returns c =
-    breaks-here (c .before .before .before .before .before .before .before .args .root .now)
+    breaks-here (symbolHash (c .before .before .before .before .before .before .before .args .kind)) (c .before .before .before .before .before .before .before .args .root .now)
     (c .before .before .before .before .before .before .before .args .sample .now)
     (c .before .before .before .before .before .before .before .args .depth)
     (c .before .before .before .before .before .before .before .args .i) (c .before .before .before .before .loop .x)
@@ -48,11 +49,11 @@ loop-less c = omega arith
 
 loop-again : tie.Need-loop-again Inv-loop μ-loop
 loop-again c =
-    (omega arith, c .before .before .before .loop .inv .1, fits-here (c .before .before .before .before .before .before .args .root .now) (c .before .before .before .before .before .before .args .sample .now) (c .before .before .before .before .before .before .args .depth) (c .before .before .before .before .before .before .args .i) (c .before .before .before .loop .x) (c .before .symbol-fits .result) (c .before .symbol-fits .ensures) (omega arith) (c .before .before .before .loop .inv .2) (not-no _ (c .if1 .left)))
+    (omega arith, c .before .before .before .loop .inv .1, fits-here (symbolHash (c .before .before .before .before .before .before .args .kind)) (c .before .before .before .before .before .before .args .root .now) (c .before .before .before .before .before .before .args .sample .now) (c .before .before .before .before .before .before .args .depth) (c .before .before .before .before .before .before .args .i) (c .before .before .before .loop .x) (c .before .symbol-fits .result) (c .before .symbol-fits .ensures) (omega arith) (c .before .before .before .loop .inv .2) (not-no _ (c .if1 .left)))
 
 returns-2 : tie.Need-returns-2 Inv-loop μ-loop
 returns-2 c =
-    leads-here (c .before .before .before .before .args .root .now) (c .before .before .before .before .args .sample .now)
+    leads-here (symbolHash (c .before .before .before .before .args .kind)) (c .before .before .before .before .args .root .now) (c .before .before .before .before .args .sample .now)
     (c .before .before .before .before .args .depth) (c .before .before .before .before .args .i) (c .before .loop .x)
     (omega arith) (c .before .loop .inv .2)
 

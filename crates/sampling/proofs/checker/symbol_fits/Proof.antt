@@ -1,6 +1,7 @@
 -- `symbol_fits` meets its contract: one hash, compared with the committed one.
 use native.Mathlib.Omega.{arith}
 use borrow.Author.Needs.{needs}
+use Rattle.model.proofs.Hung.{top-hashes}
 use Rattle.symbol_hash.specs.SymbolHash.{symbolHash}
 use Rattle.sampling.proofs.CheckLaws.{fits-is}
 use Rattle.sampling.proofs.SymbolLaws.{in-tree}
@@ -53,12 +54,12 @@ fits-requires c κs =
     let a = c .before .before .before .before .before .args in
     let pre = c .before .before .before .before .before .pre in
     let t = in-tree (a .depth) (a .i) (a .x) (c .before .before .layer-of .result) (c .before .number-of .result) (pre .0) (pre .1 .1) (c .before .before .layer-of .ensures) (c .before .number-of .ensures) in
-    (omega (arith, t .0, pre .1 .0), t .1, search needs, pre .2, λ h. omega (arith, t .0, pre .3))
+    (omega (arith, t .0, pre .1 .0), search needs, λ z. omega (arith, top-hashes (a .root .now) (c .before .before .layer-of .result) (pre .2) z, t .1), λ h. (t .1, omega (arith, t .0, pre .3)))
 
 returns : tie.Need-returns
 returns c =
     let a = c .before .before .before .before .before .before .args in
-    fits-is symbolHash (a .root .now) (a .sample .now) (a .depth) (a .i) (a .x) (c .before .before .before .layer-of .result) (c .before .before .number-of .result) (c .fits2 .result) (c .before .before .before .layer-of .ensures) (c .before .before .number-of .ensures) (c .fits2 .ensures)
+    fits-is (symbolHash (a .kind)) (a .root .now) (a .sample .now) (a .depth) (a .i) (a .x) (c .before .before .before .layer-of .result) (c .before .before .number-of .result) (c .fits2 .result) (c .before .before .before .layer-of .ensures) (c .before .before .number-of .ensures) (c .fits2 .ensures)
 
 pub symbol-fits-spec : {M : Type 1} → statement M
 symbol-fits-spec =

@@ -6,7 +6,7 @@ use borrow.Author.Needs.{needs}
 use Rattle.model.specs.Sampling.{sampleNumber}
 use Rattle.model.specs.Shape.{tree}
 use Rattle.parity_table.specs.Shape.{kOf}
-use Rattle.parity_table.proofs.Parse.{k-small}
+use Rattle.parity_table.proofs.Shape.{k-small}
 use Rattle.sampling.proofs.SymbolLaws.{k-some, layer-lt, number-data, number-parity}
 use native.Mathlib.Nat.{mod-lt}
 use Rattle.sampling.proofs.symbols.number_of.Statement.{statement}

@@ -3,7 +3,7 @@ use mathlib.Core.Path.{ap, _∙_}
 use Prim.Native.Nat.{ℕ, _+_, _-_, _*_}
 use native.Mathlib.Omega.{arith}
 use borrow.Author.Needs.{needs}
-use Rattle.parity_table.proofs.Parse.{k-small}
+use Rattle.parity_table.proofs.Shape.{k-small}
 use Rattle.model.proofs.Shapes.{n-small}
 use Rattle.sampling.proofs.SymbolLaws.{k-some, place-is}
 use Rattle.sampling.proofs.symbols.place_of.Statement.{statement}
