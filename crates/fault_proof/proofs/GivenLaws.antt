@@ -6,7 +6,6 @@ use native.Mathlib.Omega.{arith}
 use lib.ListN.{length, getD, take, drop}
 use Rattle.octets.specs.ByteLists.{xors}
 use Rattle.octets.proofs.ListLaws.{length-part, length-xors}
-use Rattle.symbol_hash.specs.SymbolHash.{symbolHash}
 use Rattle.symbol_hash.specs.declared.Way.{Way}
 use Rattle.symbol_hash.specs.declared.Way.the-variants.{Leads, Breaks}
 use Rattle.symbol_hash.specs.Ways.{climbOf}
@@ -38,16 +37,16 @@ module _ (b ms : List ℕ) (j x : ℕ) where
   Room i from = from + 256 * (length (others x (drop i ms)) * suc j) ≤ length b
 
   -- what their check finds, and their exclusive-or
-  abbrev found : List ℕ → ℕ → ℕ → Climb
-  found root i from = givenCheck tree symbolHash root j (others x (drop i ms)) (drop from b)
+  abbrev found : (ℕ → ℕ → List ℕ → List ℕ) → List ℕ → ℕ → ℕ → Climb
+  found H root i from = givenCheck tree H root j (others x (drop i ms)) (drop from b)
 
   abbrev left : ℕ → ℕ → List ℕ
   left i from = givenXor j (others x (drop i ms)) (drop from b)
 
   -- the members before i lead to the root: what is left decides
-  pub record Led (root : List ℕ) (at i from : ℕ) : Type 0 where
+  pub record Led (H : ℕ → ℕ → List ℕ → List ℕ) (root : List ℕ) (at i from : ℕ) : Type 0 where
     pub room : Room i from
-    pub rest : found root i from ≡ found root 0 at
+    pub rest : found H root i from ≡ found H root 0 at
 
   -- acc, with what is left, is the whole
   pub record Gathered (at : ℕ) (acc : List ℕ) (i from : ℕ) : Type 0 where
@@ -55,8 +54,8 @@ module _ (b ms : List ℕ) (j x : ℕ) where
     pub room : Room i from
     pub rest : xors acc (left i from) ≡ left 0 at
 
-  pub led-start : (root : List ℕ) (at : ℕ) → Room 0 at → Led root at 0 at
-  led-start root at h = record { room = h; rest = refl }
+  pub led-start : (H : ℕ → ℕ → List ℕ → List ℕ) (root : List ℕ) (at : ℕ) → Room 0 at → Led H root at 0 at
+  led-start H root at h = record { room = h; rest = refl }
 
   pub gathered-start : (at : ℕ) (acc : List ℕ) → acc ≡ zeros → Room 0 at → Gathered at acc 0 at
   gathered-start at acc e h =
@@ -73,11 +72,11 @@ module _ (b ms : List ℕ) (j x : ℕ) where
       none : others x (drop (i + 1) ms) ≡ others x (drop i ms)
       none = sym (others-skip x ms i h e)
 
-      pub led-skip : (root : List ℕ) (at from : ℕ) → Led root at i from → Led root at (i + 1) from
-      led-skip root at from s =
+      pub led-skip : (H : ℕ → ℕ → List ℕ → List ℕ) (root : List ℕ) (at from : ℕ) → Led H root at i from → Led H root at (i + 1) from
+      led-skip H root at from s =
           record {
             room = rw none (s .room);
-            rest = ap (λ q. givenCheck tree symbolHash root j q (drop from b)) none ∙ s .rest;
+            rest = ap (λ q. givenCheck tree H root j q (drop from b)) none ∙ s .rest;
           }
 
       pub gathered-skip : (at : ℕ) (acc : List ℕ) (from : ℕ) → Gathered at acc i from → Gathered at acc (i + 1) from
@@ -100,29 +99,29 @@ module _ (b ms : List ℕ) (j x : ℕ) where
         next-to : next j (drop from b) ≡ drop to b
         next-to = next-at b j from ∙ ap (λ o. drop o b) (sym et)
 
-      abbrev way : List ℕ → Climb
-      way root = wayCheck tree symbolHash root j (getD ms i 0) (drop from b)
+      abbrev way : (ℕ → ℕ → List ℕ → List ℕ) → List ℕ → Climb
+      way H root = wayCheck tree H root j (getD ms i 0) (drop from b)
 
-      found-one : (root : List ℕ) (to : ℕ) → to ≡ from + 256 * (j + 1) → found root i from ≡ firstBreak (way root) (found root (i + 1) to)
+      found-one : (H : ℕ → ℕ → List ℕ → List ℕ) (root : List ℕ) (to : ℕ) → to ≡ from + 256 * (j + 1) → found H root i from ≡ firstBreak (way H root) (found H root (i + 1) to)
       unfolding givenCheck
-      found-one root to et =
-          ap (λ q. givenCheck tree symbolHash root j q (drop from b)) one
-          ∙ ap (λ c. firstBreak (way root) (givenCheck tree symbolHash root j (others x (drop (i + 1) ms)) c)) (next-to to et)
+      found-one H root to et =
+          ap (λ q. givenCheck tree H root j q (drop from b)) one
+          ∙ ap (λ c. firstBreak (way H root) (givenCheck tree H root j (others x (drop (i + 1) ms)) c)) (next-to to et)
 
-      pub led-on : (root : List ℕ) (at to : ℕ) (r : Way) → to ≡ from + 256 * (j + 1) → climbOf r ≡ way root → r ≡ Leads → Led root at i from
-          → Led root at (i + 1) to
+      pub led-on : (H : ℕ → ℕ → List ℕ → List ℕ) (root : List ℕ) (at to : ℕ) (r : Way) → to ≡ from + 256 * (j + 1) → climbOf r ≡ way H root → r ≡ Leads → Led H root at i from
+          → Led H root at (i + 1) to
       unfolding firstBreak
-      led-on root at to r et er t s =
+      led-on H root at to r et er t s =
           record {
             room = rest-room to et (s .room);
-            rest = sym (found-one root to et ∙ ap (λ w. firstBreak w (found root (i + 1) to)) (sym er ∙ ap climbOf t)) ∙ s .rest;
+            rest = sym (found-one H root to et ∙ ap (λ w. firstBreak w (found H root (i + 1) to)) (sym er ∙ ap climbOf t)) ∙ s .rest;
           }
 
-      pub led-off : (root : List ℕ) (at l : ℕ) (r : Way) → climbOf r ≡ way root → r ≡ Breaks l → Led root at i from → breaks l ≡ found root 0 at
+      pub led-off : (H : ℕ → ℕ → List ℕ → List ℕ) (root : List ℕ) (at l : ℕ) (r : Way) → climbOf r ≡ way H root → r ≡ Breaks l → Led H root at i from → breaks l ≡ found H root 0 at
       unfolding firstBreak
-      led-off root at l r er t s =
+      led-off H root at l r er t s =
           let to : ℕ = from + 256 * (j + 1) in
-          sym (found-one root to refl ∙ ap (λ w. firstBreak w (found root (i + 1) to)) (sym er ∙ ap climbOf t)) ∙ s .rest
+          sym (found-one H root to refl ∙ ap (λ w. firstBreak w (found H root (i + 1) to)) (sym er ∙ ap climbOf t)) ∙ s .rest
 
       pub gathered-on : (at to : ℕ) (acc sum : List ℕ) → to ≡ from + 256 * (j + 1) → sum ≡ xors acc (take (length acc) (drop from b)) → Gathered at acc i from
           → Gathered at sum (i + 1) to
@@ -142,9 +141,9 @@ module _ (b ms : List ℕ) (j x : ℕ) where
 
   -- ---- none is left
 
-  pub led-end : (root : List ℕ) (at i from : ℕ) → length ms ≤ i → Led root at i from → leads ≡ found root 0 at
+  pub led-end : (H : ℕ → ℕ → List ℕ → List ℕ) (root : List ℕ) (at i from : ℕ) → length ms ≤ i → Led H root at i from → leads ≡ found H root 0 at
   unfolding givenCheck
-  led-end root at i from h s = sym (ap (λ q. givenCheck tree symbolHash root j q (drop from b)) (others-end x ms i h)) ∙ s .rest
+  led-end H root at i from h s = sym (ap (λ q. givenCheck tree H root j q (drop from b)) (others-end x ms i h)) ∙ s .rest
 
   pub gathered-end : (at : ℕ) (acc : List ℕ) (i from : ℕ) → length ms ≤ i → Gathered at acc i from → acc ≡ left 0 at
   unfolding givenXor

@@ -1,5 +1,5 @@
--- The head of a proof, test by test, and the equation that it names.
-use mathlib.Core.Path.{_≡_, sym, ap, ap₂, _∙_}
+-- The head of a proof, word by word, and the equation that it names.
+use mathlib.Core.Path.{_≡_, sym, ap, _∙_}
 use mathlib.Core.Bool.{Bool, true, false, not, _&&_}
 use mathlib.Core.List.{List}
 use Prim.Native.Nat.{ℕ, _+_, _*_, _≤_, _<_}
@@ -7,23 +7,21 @@ use native.Mathlib.Omega.{arith}
 use lib.ListN.{length, getD, drop}
 use lib.Dec.{leb, ltb, eqb}
 use borrow.Author.Tests.{eq-eqb, ne-eqb, ltb-true, le-leb, lt-leb}
-use Rattle.octets.proofs.Choice.{and-yes, pick-yes, pick-no, not-yes, not-no}
-use Rattle.symbol_hash.specs.SymbolHash.{symbolHash}
+use Rattle.octets.proofs.Choice.{and-yes, pick-yes, not-yes, not-no}
 use Rattle.parity_table.specs.Shape.{maxDepth, kOf, nOf}
 use Rattle.parity_table.specs.declared.Answer.the-variants.{Whole}
-use Rattle.parity_table.specs.Members.{every, ascending}
 use Rattle.parity_table.specs.Table.{layerOf, equationOf}
 use Rattle.parity_table.specs.Reader.{readOf}
 use Rattle.parity_table.specs.Parse.{tableOf, Indexed, HasEquation}
 use Rattle.parity_table.proofs.Accepts.{accepted-depth, accepted-table}
-use Rattle.model.specs.Shape.{tree}
+use Rattle.model.specs.Shape.{Shape}
 use Rattle.model.specs.Symbols.{bit, count}
 use Rattle.model.specs.Fault.{kindAt, valueAt, proofLayer, proofEquation, proofWithheld, proofMembers, proofGiven, layerOk, equationOk, memberOk, headOk, Verdict, wrongHead, proofCheck, withheldFits, verdict}
-use Rattle.model.proofs.Counts.{isIt, ascending-once, count-drop, count-end}
-use Rattle.model.proofs.Tables.{TableLaws, table-laws}
-use Rattle.model.proofs.Sound.{Named, head-names}
-use Rattle.fault_proof.specs.Lent.{Withheld}
-use Rattle.fault_proof.specs.Ruled.{ruled}
+use Rattle.model.proofs.Counts.{isIt, count-drop, count-end}
+use Rattle.model.proofs.Tables.{table-laws}
+use Rattle.model.proofs.Hung.{top-hashes}
+use Rattle.fault_proof.specs.Lent.{Members}
+use Rattle.fault_proof.specs.Ruled.{withholds, ruled, judged}
 
 -- ---- a word of the head
 
@@ -45,122 +43,79 @@ module _ (ms : List ℕ) (x i : ℕ) where
   pub member-none : length ms ≤ i → count (isIt x) (drop i ms) ≡ count (isIt x) ms → false ≡ leb 1 (count (isIt x) ms)
   member-none h inv = sym (lt-leb 1 (count (isIt x) ms) (omega (arith, count-end (isIt x) ms i h, inv)))
 
--- ---- the whole head, over an accepted table of depth d
+-- the third word: c is its kind and x its value
+module _ (b ms : List ℕ) (c : ℕ) (ec : c ≡ kindAt b 2) where
+  pub withholds-kind : (c ≡ 3 → ⊥) → false ≡ withholds b ms
+  unfolding withholds
+  withholds-kind n = rw (ne-eqb (kindAt b 2) 3 (λ z. n (ec ∙ z)))
 
-module _ (d : ℕ) (ws : List ℕ) (r : readOf d ws ≡ Whole) (b : List ℕ) where
-  abbrev tbl : List (List (List ℕ))
-  tbl = tableOf ws
+  pub withholds-member : (x : ℕ) → c ≡ 3 → x ≡ valueAt b 2 → leb 1 (count (isIt x) ms) ≡ withholds b ms
+  unfolding withholds proofWithheld
+  withholds-member x q ex = rw (eq-eqb (kindAt b 2) 3 (sym ec ∙ q), ex)
 
-  layer-is : layerOk tbl b ≡ (eqb (kindAt b 0) 1 && ltb (valueAt b 0) d)
+-- ---- the first two words, r₀ and r₁ being what their tests find: a layer of the d of a table, and one of the layer's n equations
+
+module _ (tbl : List (List (List ℕ))) (b : List ℕ) (d : ℕ) (depth : length tbl ≡ d) (r₀ : Bool) (e₀ : r₀ ≡ (eqb (kindAt b 0) 1 && ltb (valueAt b 0) d)) where
+  layer-is : layerOk tbl b ≡ r₀
   unfolding layerOk proofLayer
-  layer-is = ap (λ n. eqb (kindAt b 0) 1 && ltb (valueAt b 0) n) (accepted-table d ws r .depth)
+  layer-is = ap (λ n. eqb (kindAt b 0) 1 && ltb (valueAt b 0) n) depth ∙ sym e₀
 
-  -- r₀, whether the first word names a layer
-  module _ (r₀ : Bool) (e₀ : r₀ ≡ (eqb (kindAt b 0) 1 && ltb (valueAt b 0) d)) where
-    pub head-layer : not r₀ ≡ true → false ≡ headOk tbl b
-    unfolding headOk
-    head-layer t = rw (layer-is, sym e₀, not-yes r₀ t)
+  pub layer-refused : (S : Shape) (H : ℕ → ℕ → List ℕ → List ℕ) (root : List ℕ) → not r₀ ≡ true → wrongHead ≡ verdict S H root tbl b
+  unfolding verdict headOk
+  layer-refused S H root t = sym (pick-yes (not (headOk tbl b)) wrongHead _ (rw (layer-is, not-yes r₀ t)))
 
-  -- it names layer j, which has k data symbols
-  module _ (r₀ : Bool) (e₀ : r₀ ≡ (eqb (kindAt b 0) 1 && ltb (valueAt b 0) d)) (n₀ : not r₀ ≡ false) (j : ℕ) (ej : j ≡ valueAt b 0) where
-    t₀ : (eqb (kindAt b 0) 1 && ltb (valueAt b 0) d) ≡ true
-    t₀ = sym e₀ ∙ not-no r₀ n₀
-
+  -- the first word names layer j
+  module _ (n₀ : not r₀ ≡ false) (j : ℕ) (ej : j ≡ valueAt b 0) where
     pub layer-below : j < d
-    layer-below = omega (arith, ej, ltb-true (valueAt b 0) d (and-yes (eqb (kindAt b 0) 1) (ltb (valueAt b 0) d) t₀ .1))
+    layer-below = omega (arith, ej, ltb-true (valueAt b 0) d (and-yes (eqb (kindAt b 0) 1) (ltb (valueAt b 0) d) (sym e₀ ∙ not-no r₀ n₀) .1))
 
-    pub layer-known : j < maxDepth
-    layer-known = omega (arith, layer-below, accepted-depth d ws r .1)
-
-    module _ (k : ℕ) (ek : k ≡ kOf j) where
-      equation-is : equationOk tbl b ≡ (eqb (kindAt b 1) 2 && ltb (valueAt b 1) (3 * k))
+    module _ (n : ℕ) (size : length (layerOf tbl j) ≡ n) (r₁ : Bool) (e₁ : r₁ ≡ (eqb (kindAt b 1) 2 && ltb (valueAt b 1) n)) where
+      equation-is : equationOk tbl b ≡ r₁
       unfolding equationOk proofLayer proofEquation
-      equation-is =
-          let n : length (layerOf tbl (valueAt b 0)) ≡ 3 * k = ap (λ l. length (layerOf tbl l)) (sym ej) ∙ accepted-table d ws r .equations j layer-below ∙ sym (ap (λ q. 3 * q) ek) in
-          ap (λ n. eqb (kindAt b 1) 2 && ltb (valueAt b 1) n) n
+      equation-is = ap (λ m. eqb (kindAt b 1) 2 && ltb (valueAt b 1) m) (ap (λ l. length (layerOf tbl l)) (sym ej) ∙ size) ∙ sym e₁
 
-      -- r₁, whether the second word names an equation
-      module _ (r₁ : Bool) (e₁ : r₁ ≡ (eqb (kindAt b 1) 2 && ltb (valueAt b 1) (3 * k))) where
-        pub head-equation : not r₁ ≡ true → false ≡ headOk tbl b
-        unfolding headOk
-        head-equation t = rw (layer-is, t₀, equation-is, sym e₁, not-yes r₁ t)
+      pub equation-refused : (S : Shape) (H : ℕ → ℕ → List ℕ → List ℕ) (root : List ℕ) → not r₁ ≡ true → wrongHead ≡ verdict S H root tbl b
+      unfolding verdict headOk
+      equation-refused S H root t = sym (pick-yes (not (headOk tbl b)) wrongHead _ (rw (layer-is, not-no r₀ n₀, equation-is, not-yes r₁ t)))
 
-      -- it does
-      module _ (r₁ : Bool) (e₁ : r₁ ≡ (eqb (kindAt b 1) 2 && ltb (valueAt b 1) (3 * k))) (n₁ : not r₁ ≡ false) where
-        t₁ : (eqb (kindAt b 1) 2 && ltb (valueAt b 1) (3 * k)) ≡ true
-        t₁ = sym e₁ ∙ not-no r₁ n₁
+      -- the second word names equation e
+      module _ (n₁ : not r₁ ≡ false) (e : ℕ) (ee : e ≡ valueAt b 1) where
+        pub equation-below : e < n
+        equation-below = omega (arith, ee, ltb-true (valueAt b 1) n (and-yes (eqb (kindAt b 1) 2) (ltb (valueAt b 1) n) (sym e₁ ∙ not-no r₁ n₁) .1))
 
-        pub head-kind : (c : ℕ) → c ≡ kindAt b 2 → (c ≡ 3 → ⊥) → false ≡ headOk tbl b
-        unfolding headOk memberOk
-        head-kind c ec n = rw (layer-is, t₀, equation-is, t₁, ne-eqb (kindAt b 2) 3 (λ z. n (ec ∙ z)))
+        -- whose members are ms
+        pub named-judged : (S : Shape) (H : ℕ → ℕ → List ℕ → List ℕ) (root ms : List ℕ) → ms ≡ equationOf tbl j e
+            → (v : Verdict) → v ≡ judged S H root j ms b → v ≡ verdict S H root tbl b
+        unfolding verdict headOk memberOk proofCheck withheldFits proofGiven proofMembers proofLayer proofEquation judged withholds ruled
+        named-judged S H root ms em v ev = ev ∙ rw (em, ej, ee, layer-is, not-no r₀ n₀, equation-is, not-no r₁ n₁)
 
-        module _ (e : ℕ) (ee : e ≡ valueAt b 1) where
-          pub equation-there : (starts : List ℕ) → Indexed d ws starts → HasEquation ws starts j e
-          equation-there starts x =
-              record {
-                depth = d;
-                indexed = x;
-                layer = layer-below;
-                equation = omega (arith, ek, ee, ltb-true (valueAt b 1) (3 * k) (and-yes (eqb (kindAt b 1) 2) (ltb (valueAt b 1) (3 * k)) t₁ .1));
-              }
+-- ---- an equation of an accepted table
 
-          pub head-member : (c x : ℕ) (ms : List ℕ) → c ≡ kindAt b 2 → c ≡ 3 → x ≡ valueAt b 2 → ms ≡ equationOf tbl j e → leb 1 (count (isIt x) ms) ≡ headOk tbl b
-          unfolding headOk memberOk proofMembers proofLayer proofEquation proofWithheld
-          head-member c x ms ec q ex em =
-              let m : ms ≡ equationOf tbl (valueAt b 0) (valueAt b 1) = em ∙ ap₂ (equationOf tbl) ej ee in
-              rw (layer-is, t₀, equation-is, t₁, eq-eqb (kindAt b 2) 3 (sym ec ∙ q)) (ap₂ (λ y l. leb 1 (count (isIt y) l)) ex m)
+module _ (d : ℕ) (ws : List ℕ) (r : readOf d ws ≡ Whole) (j : ℕ) (hj : j < d) where
+  pub layer-known : j < maxDepth
+  layer-known = omega (arith, accepted-depth d ws r .1)
 
-  -- ---- a head that passes names equation e of layer j, whose members are ms, and x among them
+  module _ (k : ℕ) (ek : k ≡ kOf j) where
+    pub layer-size : length (layerOf (tableOf ws) j) ≡ 3 * k
+    layer-size = omega (arith, accepted-table d ws r .equations j hj, ek)
 
-  module _ (r₂ : Bool) (e₂ : r₂ ≡ headOk tbl b) (n₂ : not r₂ ≡ false) where
-    t : headOk tbl b ≡ true
-    t = sym e₂ ∙ not-no r₂ n₂
+    module _ (e : ℕ) (he : e < 3 * k) where
+      pub equation-there : (starts : List ℕ) → Indexed d ws starts → HasEquation ws starts j e
+      equation-there starts x = record { depth = d; indexed = x; layer = hj; equation = omega (arith, ek) }
 
-    named : Named tbl b
-    named = head-names tbl b t
-
-    laws : TableLaws tree tbl
-    laws = let (some, shallow) = accepted-depth d ws r in table-laws d tbl some shallow (accepted-table d ws r)
-
-    pub named-equation : (starts : List ℕ) → Indexed d ws starts → (j e : ℕ) → j ≡ valueAt b 0 → e ≡ valueAt b 1 → HasEquation ws starts j e
-    unfolding proofLayer proofEquation
-    named-equation starts x j e ej ee =
-        let h : j < d = omega (arith, ej, named .layer-ok, accepted-table d ws r .depth) in
-        record {
-          depth = d;
-          indexed = x;
-          layer = h;
-          equation = omega (arith, ee, named .equation-ok, ap (λ l. length (layerOf tbl l)) ej, accepted-table d ws r .equations j h);
-        }
-
-    module _ (j e x : ℕ) (ms : List ℕ) (ej : j ≡ valueAt b 0) (ee : e ≡ valueAt b 1) (ex : x ≡ valueAt b 2) (em : ms ≡ equationOf tbl j e) where
-      members-are : ms ≡ proofMembers tbl b
-      unfolding proofMembers proofLayer proofEquation
-      members-are = em ∙ ap₂ (equationOf tbl) ej ee
-
-      pub named-withheld : Withheld j x ms
-      unfolding proofLayer proofEquation proofWithheld proofMembers
-      named-withheld =
-          let n = named in
-          let q : List ℕ = proofMembers tbl b in
-          let once : count (isIt (valueAt b 2)) q ≡ 1 =
-          omega (arith, n .member-ok, ascending-once (valueAt b 2) q (laws-ascend)) in
-          rw (ej, ex, members-are)
-          (record { layer = omega (arith, n .layer-ok, accepted-table d ws r .depth, accepted-depth d ws r .1); few = laws-few; inside = laws-within; once = once })
-        where
-          laws-ascend : ascending (proofMembers tbl b) ≡ true
-          laws-ascend = laws .ascend (proofLayer b) (proofEquation b) (named .layer-ok) (named .equation-ok)
-
-          laws-few : length (proofMembers tbl b) ≤ 8
-          laws-few = laws .few-members (proofLayer b) (proofEquation b) (named .layer-ok) (named .equation-ok)
-
-          laws-within : every (λ y. ltb y (nOf (proofLayer b))) (proofMembers tbl b) ≡ true
-          laws-within = laws .within (proofLayer b) (proofEquation b) (named .layer-ok) (named .equation-ok)
-
-      pub named-ruled : (root : List ℕ) (v : Verdict) → v ≡ ruled root j x ms b → v ≡ verdict tree symbolHash root tbl b
-      unfolding verdict proofCheck withheldFits proofGiven proofLayer proofWithheld ruled
-      named-ruled root v ev = ev ∙ rw (ej, ex, members-are) (sym (pick-no (not (headOk tbl b)) wrongHead _ (ap not t)))
-
-  pub head-refused : (root : List ℕ) (r : Bool) → r ≡ headOk tbl b → not r ≡ true → wrongHead ≡ verdict tree symbolHash root tbl b
-  unfolding verdict
-  head-refused root r e t = sym (pick-yes (not (headOk tbl b)) wrongHead _ (ap not (sym e) ∙ t))
+      pub named-members : (root ms : List ℕ) → length root ≡ 512 → ms ≡ equationOf (tableOf ws) j e → Members j ms root
+      named-members root ms l em =
+          let (some, shallow) = accepted-depth d ws r in
+          let laws = table-laws d (tableOf ws) some shallow (accepted-table d ws r) in
+          let h : j < length (tableOf ws) = omega (arith, accepted-table d ws r .depth) in
+          let g : e < length (layerOf (tableOf ws) j) = omega (arith, layer-size) in
+          rw em
+          (record {
+            layer = layer-known;
+            few = laws .few-members j e h g;
+            ascend = laws .ascend j e h g;
+            symbols = nOf j;
+            inside = laws .within j e h g;
+            top = top-hashes root j l;
+            hung = λ q. (omega arith, omega arith);
+          })

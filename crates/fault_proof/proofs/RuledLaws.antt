@@ -6,44 +6,47 @@ use Prim.Native.Nat.{ℕ, suc, _+_, _-_, _*_, _≤_, _<_}
 use native.Mathlib.Omega.{arith}
 use native.Mathlib.Nat.{mul-le-mul-right}
 use lib.ListN.{length, drop}
-use lib.Dec.{ltb, eqb}
-use borrow.Author.Tests.{ltb-true, eq-eqb, ne-eqb}
+use lib.Dec.{leb, ltb, eqb}
+use borrow.Author.Tests.{leb-true, ltb-true, eq-eqb, ne-eqb}
 use Rattle.octets.specs.Choice.{pick}
 use Rattle.octets.specs.ByteLists.{same}
-use Rattle.octets.proofs.Choice.{pick-yes, pick-no}
-use Rattle.symbol_hash.specs.SymbolHash.{symbolHash}
+use Rattle.octets.proofs.Choice.{and-yes, pick-yes, pick-no, not-no}
 use Rattle.symbol_hash.specs.declared.Way.{Way}
 use Rattle.symbol_hash.specs.declared.Way.the-variants.{Leads, Breaks}
 use Rattle.symbol_hash.specs.Ways.{climbOf}
-use Rattle.parity_table.specs.Shape.{nOf}
-use Rattle.model.specs.Shape.{tree}
-use Rattle.model.specs.Symbols.{others}
+use Rattle.model.specs.Shape.{Shape, Hangs, tree}
+use Rattle.model.specs.Symbols.{count, others}
 use Rattle.model.specs.Climb.{Climb}
-use Rattle.model.specs.Fault.{proofLength, body, givenXor, afterGiven, accepted, wrongLength, broken, noFault, firstBreak, ruling, pathHash, givenCheck, pathCheck}
-use Rattle.model.proofs.Counts.{isIt, count-le, every-member, length-others}
+use Rattle.model.specs.Fault.{kindAt, valueAt, proofWithheld, proofLength, body, givenXor, afterGiven, Verdict, accepted, wrongHead, wrongLength, broken, noFault, firstBreak, ruling, pathHash, givenCheck, pathCheck}
+use Rattle.model.proofs.Counts.{isIt, count-le, every-member, ascending-once, length-others}
 use Rattle.model.proofs.Ways.{after-at}
-use Rattle.fault_proof.specs.Lent.{Withheld}
-use Rattle.fault_proof.specs.Ruled.{ruled}
+use Rattle.model.proofs.Hung.{pathHash-hung, givenCheck-hung, pathCheck-hung}
+use Rattle.fault_proof.specs.Lent.{Members}
+use Rattle.fault_proof.specs.Ruled.{withholds, ruled, judged}
 
-module _ (root : List ℕ) (j x : ℕ) (ms b : List ℕ) (k : Withheld j x ms) where
+module _ (H : ℕ → ℕ → List ℕ → List ℕ) (root : List ℕ) (j x : ℕ) (ms b : List ℕ) (k : Members j ms root) (m : 1 ≤ count (isIt x) ms) where
   -- ---- numbers
 
   pub some-member : 1 ≤ length ms
-  some-member = omega (arith, k .once, count-le (isIt x) ms)
+  some-member = omega (arith, count-le (isIt x) ms)
 
-  pub withheld-below : x < tree .n j
-  withheld-below = ltb-true x (nOf j) (every-member (λ y. ltb y (nOf j)) x ms (k .inside) (omega (arith, k .once)))
+  withheld-below : x < k .symbols
+  withheld-below = ltb-true x (k .symbols) (every-member (λ y. ltb y (k .symbols)) x ms (k .inside) (omega arith))
+
+  -- the withheld member stands under the tree's layers, or in the root
+  pub withheld-inside : (j ≡ 0 → 32 * suc x ≤ length root) × (0 < j → x < tree .n j)
+  withheld-inside = (λ z. omega (arith, withheld-below, k .top z), λ h. omega (arith, withheld-below, k .hung h .0))
 
   -- the length is computed with no loss
   pub few-bytes : (length ms - 1) * (j + 1) ≤ 7 * (j + 1)
   few-bytes = mul-le-mul-right {m = length ms - 1} {n = 7} (j + 1) (omega (arith, k .few))
 
   given-many : length (others x ms) ≡ length ms - 1
-  given-many = omega (arith, k .once, length-others x ms)
+  given-many = omega (arith, ascending-once x ms (k .ascend), length-others x ms)
 
   -- ---- the length
 
-  pub other-length : (length b ≡ 12 + 256 * ((length ms - 1) * (j + 1) + j) → ⊥) → wrongLength ≡ ruled root j x ms b
+  pub other-length : (length b ≡ 12 + 256 * ((length ms - 1) * (j + 1) + j) → ⊥) → wrongLength ≡ ruled tree H root j x ms b
   unfolding ruled proofLength
   other-length n =
       let ne : length b ≡ 12 + 256 * ((length ms - 1) * suc j + j) → ⊥ = λ e. n (omega arith) in
@@ -70,48 +73,78 @@ module _ (root : List ℕ) (j x : ℕ) (ms b : List ℕ) (k : Withheld j x ms) w
     -- ---- the hashes
 
     abbrev given : Climb
-    given = givenCheck tree symbolHash root j (others x ms) (drop 12 b)
+    given = givenCheck tree H root j (others x ms) (drop 12 b)
 
     abbrev path : Climb
-    path = pathCheck tree symbolHash root j x (drop (length b - 256 * j) b)
+    path = pathCheck tree H root j x (drop (length b - 256 * j) b)
 
     abbrev fit : Bool
-    fit = same (symbolHash j x (givenXor j (others x ms) (drop 12 b))) (pathHash tree root j x (drop (length b - 256 * j) b))
+    fit = same (H j x (givenXor j (others x ms) (drop 12 b))) (pathHash tree root j x (drop (length b - 256 * j) b))
 
-    by-length : ruled root j x ms b ≡ ruling (firstBreak given path) fit
+    by-length : ruled tree H root j x ms b ≡ ruling (firstBreak given path) fit
     unfolding ruled proofLength body
     by-length =
         let q : length b ≡ 12 + 256 * ((length ms - 1) * suc j + j) = omega arith in
         pick-no (not (eqb (length b) (12 + 256 * ((length ms - 1) * suc j + j)))) wrongLength _ (ap not (eq-eqb _ _ q))
-        ∙ ap (λ c. ruling (firstBreak given (pathCheck tree symbolHash root j x c)) (same (symbolHash j x (givenXor j (others x ms) (drop 12 b))) (pathHash tree root j x c))) path-there
+        ∙ ap (λ c. ruling (firstBreak given (pathCheck tree H root j x c)) (same (H j x (givenXor j (others x ms) (drop 12 b))) (pathHash tree root j x c))) path-there
 
     -- g, what the check of the given members finds
     module _ (g : Way) (eg : climbOf g ≡ given) where
-      pub given-broken : (l : ℕ) → g ≡ Breaks l → broken l ≡ ruled root j x ms b
+      pub given-broken : (l : ℕ) → g ≡ Breaks l → broken l ≡ ruled tree H root j x ms b
       unfolding ruling firstBreak
       given-broken l tg = ap (λ c. ruling (firstBreak c path) fit) (ap climbOf (sym tg) ∙ eg) ∙ sym by-length
 
       -- p, what the check of the path finds
       module _ (tg : g ≡ Leads) (p : Way) (ep : climbOf p ≡ path) where
-        by-path : ruling (climbOf p) fit ≡ ruled root j x ms b
+        by-path : ruling (climbOf p) fit ≡ ruled tree H root j x ms b
         unfolding firstBreak
         by-path = ap₂ (λ c d. ruling (firstBreak c d) fit) (ap climbOf (sym tg) ∙ eg) ep ∙ sym by-length
 
-        pub path-broken : (l : ℕ) → p ≡ Breaks l → broken l ≡ ruled root j x ms b
+        pub path-broken : (l : ℕ) → p ≡ Breaks l → broken l ≡ ruled tree H root j x ms b
         unfolding ruling
         path-broken l tp = ap (λ q. ruling (climbOf q) fit) (sym tp) ∙ by-path
 
         -- s, the exclusive-or of the given members, and whether its hash is the committed one
         module _ (tp : p ≡ Leads) (s : List ℕ) (es : s ≡ givenXor j (others x ms) (drop 12 b)) (f : Bool)
-            (ef : f ≡ same (symbolHash j x s) (pathHash tree root j x (drop (length b - 256 * j) b))) where
-          by-fit : pick f noFault accepted ≡ ruled root j x ms b
+            (ef : f ≡ same (H j x s) (pathHash tree root j x (drop (length b - 256 * j) b))) where
+          by-fit : pick f noFault accepted ≡ ruled tree H root j x ms b
           unfolding ruling
           by-fit =
-              ap (λ t. pick t noFault accepted) (ef ∙ ap (λ q. same (symbolHash j x q) (pathHash tree root j x (drop (length b - 256 * j) b))) es)
+              ap (λ t. pick t noFault accepted) (ef ∙ ap (λ q. same (H j x q) (pathHash tree root j x (drop (length b - 256 * j) b))) es)
               ∙ ap (λ q. ruling (climbOf q) fit) (sym tp) ∙ by-path
 
-          pub no-fault : f ≡ true → noFault ≡ ruled root j x ms b
+          pub no-fault : f ≡ true → noFault ≡ ruled tree H root j x ms b
           no-fault t = sym (pick-yes f noFault accepted t) ∙ by-fit
 
-          pub fault-shown : f ≡ false → accepted ≡ ruled root j x ms b
+          pub fault-shown : f ≡ false → accepted ≡ ruled tree H root j x ms b
           fault-shown t = sym (pick-no f noFault accepted t) ∙ by-fit
+
+-- ---- a layer of another shape, under the tree's layers
+
+module _ (S : Shape) (H : ℕ → ℕ → List ℕ → List ℕ) (root : List ℕ) (j : ℕ) (h : Hangs S j) where
+  ruled-hung : (x : ℕ) (ms b : List ℕ) → ruled S H root j x ms b ≡ ruled tree H root j x ms b
+  unfolding ruled
+  ruled-hung x ms b =
+      let c : List ℕ = afterGiven j (others x ms) (body b) in
+      cc (givenCheck-hung S H root j h (others x ms) (body b), pathCheck-hung S H root j h x c, pathHash-hung S root j h x c)
+
+  pub judged-hung : (ms b : List ℕ) → judged S H root j ms b ≡ judged tree H root j ms b
+  unfolding judged
+  judged-hung ms b = ap (pick (not (withholds b ms)) wrongHead) (ruled-hung (proofWithheld b) ms b)
+
+-- ---- the withheld member's number
+
+-- w, whether the proof withholds one of the members
+module _ (H : ℕ → ℕ → List ℕ → List ℕ) (root : List ℕ) (j : ℕ) (ms b : List ℕ) (w : Bool) (ew : w ≡ withholds b ms) where
+  pub judged-head : not w ≡ true → wrongHead ≡ judged tree H root j ms b
+  unfolding judged
+  judged-head t = sym (pick-yes (not (withholds b ms)) wrongHead _ (ap not (sym ew) ∙ t))
+
+  pub judged-on : not w ≡ false → (x : ℕ) → x ≡ valueAt b 2 → (v : Verdict) → v ≡ ruled tree H root j x ms b → v ≡ judged tree H root j ms b
+  unfolding judged proofWithheld
+  judged-on t x ex v ev = ev ∙ ap (λ y. ruled tree H root j y ms b) ex ∙ sym (pick-no (not (withholds b ms)) wrongHead _ (ap not (sym ew) ∙ t))
+
+  pub withheld-there : not w ≡ false → (x : ℕ) → x ≡ valueAt b 2 → 1 ≤ count (isIt x) ms
+  unfolding withholds proofWithheld
+  withheld-there t x ex =
+      rw ex (leb-true 1 (count (isIt (valueAt b 2)) ms) (and-yes (eqb (kindAt b 2) 3) (leb 1 (count (isIt (valueAt b 2)) ms)) (sym ew ∙ not-no w t) .1))

@@ -2,26 +2,26 @@
 use mathlib.Core.Path.{_≡_, refl, sym, ap, ap₂, _∙_}
 use mathlib.Core.Bool.{Bool, true, false, not}
 use mathlib.Core.List.{List}
-use Prim.Native.Nat.{ℕ, zero, suc, _+_, _-_, _*_, _%_, _≤_}
+use Prim.Native.Nat.{ℕ, zero, suc, _+_, _-_, _*_, _%_, _≤_, _<_}
 use native.Mathlib.Numerals.{add-one}
 use native.Mathlib.Omega.{arith}
-use lib.ListN.{take, drop}
+use lib.ListN.{length, take, drop}
 use lib.Seq.{drop-drop}
 use Rattle.octets.specs.ByteLists.{same}
 use Rattle.octets.proofs.ListLaws.{part-ends}
 use Rattle.octets.proofs.Choice.{not-yes, not-no}
-use Rattle.symbol_hash.specs.SymbolHash.{symbolHash}
 use Rattle.parity_table.specs.Shape.{kOf}
 use Rattle.model.specs.Shape.{tree}
 use Rattle.model.specs.Symbols.{symbolIn, committed}
 use Rattle.model.specs.Climb.{Climb, leads, breaks, climb}
 use Rattle.model.specs.Fault.{reached, pathHash, wayFits, wayCheck, pathCheck}
 use Rattle.model.proofs.Climbs.{climb-next, climb-breaks, climb-ends}
-use Rattle.model.proofs.Ways.{path-committed}
+use Rattle.model.proofs.Shapes.{tree-ok, tree-root, up-lt}
+use Rattle.model.proofs.Ways.{path-committed, reached-lt}
 
-module _ (root b : List ℕ) (at j i : ℕ) where
+module _ (H : ℕ → ℕ → List ℕ → List ℕ) (root b : List ℕ) (at j i : ℕ) where
   abbrev fit : ℕ → Bool
-  fit = wayFits tree symbolHash root j i (drop at b)
+  fit = wayFits tree H root j i (drop at b)
 
   -- symbol y of the way
   there : (y : ℕ) → take 256 (drop (at + 256 * y) b) ≡ symbolIn (drop at b) y
@@ -30,7 +30,7 @@ module _ (root b : List ℕ) (at j i : ℕ) where
 
   -- every symbol before x fits
   abbrev pub FitBefore : ℕ → Type 0
-  FitBefore x = climb fit (λ y. j - y) x (suc j - x) ≡ wayCheck tree symbolHash root j i (drop at b)
+  FitBefore x = climb fit (λ y. j - y) x (suc j - x) ≡ wayCheck tree H root j i (drop at b)
 
   pub fit-start : FitBefore 0
   unfolding wayCheck
@@ -51,36 +51,55 @@ module _ (root b : List ℕ) (at j i : ℕ) where
 
     -- it stands from byte at + 256x on, and the one above it after it
     module _ (r : Bool)
-        (er : r ≡ same (symbolHash (j - x) m (take (at + 256 * x + 256 - (at + 256 * x)) (drop (at + 256 * x) b))) (pathHash tree root (j - x) m (drop (at + 256 * x + 256) b)))
+        (er : r ≡ same (H (j - x) m (take (at + 256 * x + 256 - (at + 256 * x)) (drop (at + 256 * x) b))) (pathHash tree root (j - x) m (drop (at + 256 * x + 256) b)))
         (before : FitBefore x) where
       fit-is : r ≡ fit x
       unfolding wayFits
       fit-is =
           er
-          ∙ ap₂ (λ s h. same (symbolHash (j - x) m s) h) (part-ends b (at + 256 * x) 256 ∙ there x)
+          ∙ ap₂ (λ s h. same (H (j - x) m s) h) (part-ends b (at + 256 * x) 256 ∙ there x)
           (path-committed tree root (drop (at + 256 * x + 256) b) (λ u. symbolIn (drop at b) (j - u)) (j - x) m above)
-          ∙ ap (λ n. same (symbolHash (j - x) n (symbolIn (drop at b) x)) (committed tree root (λ u v. symbolIn (drop at b) (j - u)) (j - x) n)) em
+          ∙ ap (λ n. same (H (j - x) n (symbolIn (drop at b) x)) (committed tree root (λ u v. symbolIn (drop at b) (j - u)) (j - x) n)) em
 
-      pub breaks-here : not r ≡ true → breaks (j - x) ≡ wayCheck tree symbolHash root j i (drop at b)
+      pub breaks-here : not r ≡ true → breaks (j - x) ≡ wayCheck tree H root j i (drop at b)
       breaks-here t = sym (climb-breaks fit (λ y. j - y) (suc j) x (omega arith) (sym fit-is ∙ not-yes r t)) ∙ before
 
       pub fits-here : not r ≡ false → FitBefore (x + 1)
       fits-here t = climb-next fit (λ y. j - y) (suc j) x (omega arith) (sym fit-is ∙ not-no r t) ∙ before
 
-      pub leads-here : not r ≡ false → x ≡ j → leads ≡ wayCheck tree symbolHash root j i (drop at b)
+      pub leads-here : not r ≡ false → x ≡ j → leads ≡ wayCheck tree H root j i (drop at b)
       leads-here t e = sym (climb-ends fit (λ y. j - y) (suc j) (x + 1) (omega arith)) ∙ fits-here t
+
+-- ---- what the comparison with the committed hash asks
+
+-- every symbol on the way stands under the tree's layers, or in the root
+pub way-inside : (root : List ℕ) (j i x m : ℕ) → x ≤ j → m ≡ reached tree j i x → (j ≡ 0 → 32 * suc i ≤ length root)
+    → (0 < j → (i < tree .n j) × (512 ≤ length root)) → (j - x ≡ 0 → 32 * suc m ≤ length root) × (0 < j - x → m < tree .n (j - x))
+unfolding reached
+way-inside root zero i zero m b em top hung = (λ z. omega (arith, em, top refl), λ h. absurd (omega arith))
+way-inside root zero i (suc x) m b em top hung = absurd (omega arith)
+way-inside root (suc j) i x m b em top hung =
+    let (inside, full) = hung (omega arith) in
+    let below : m < tree .n (suc j - x) = omega (arith, em, reached-lt tree (suc j) i (tree-ok .shape) inside x b) in
+    (λ z. omega (arith, below, ap (tree .n) z, tree-root, full), λ h. below)
+
+-- the data symbol above, from which a path is the way
+pub above-inside : (root : List ℕ) (j i k : ℕ) → k ≡ kOf j → 512 ≤ length root → (j ≡ 0 → 32 * suc (i % k) ≤ length root) × (0 < j → (i % k < tree .n j) × (512 ≤ length root))
+above-inside root j i k e full =
+    let below : i % k < tree .n j = omega (arith, ap (λ d. i % d) e, up-lt tree (tree-ok .shape) j i) in
+    (λ z. omega (arith, below, ap (tree .n) z, tree-root, full), λ h. (below, full))
 
 -- ---- a path
 
-pub path-none : (root c : List ℕ) (j i : ℕ) → j ≡ 0 → leads ≡ pathCheck tree symbolHash root j i c
+pub path-none : (H : ℕ → ℕ → List ℕ → List ℕ) (root c : List ℕ) (j i : ℕ) → j ≡ 0 → leads ≡ pathCheck tree H root j i c
 unfolding pathCheck
-path-none root c zero i e = refl
-path-none root c (suc j) i e = absurd (omega arith)
+path-none H root c zero i e = refl
+path-none H root c (suc j) i e = absurd (omega arith)
 
-pub path-some : (root c : List ℕ) (j i k : ℕ) (w : Climb) → (j ≡ 0 → ⊥) → k ≡ kOf (j - 1) → w ≡ wayCheck tree symbolHash root (j - 1) (i % k) c
-    → w ≡ pathCheck tree symbolHash root j i c
+pub path-some : (H : ℕ → ℕ → List ℕ → List ℕ) (root c : List ℕ) (j i k : ℕ) (w : Climb) → (j ≡ 0 → ⊥) → k ≡ kOf (j - 1) → w ≡ wayCheck tree H root (j - 1) (i % k) c
+    → w ≡ pathCheck tree H root j i c
 unfolding pathCheck
-path-some root c zero i k w z e ew = absurd (z refl)
-path-some root c (suc l) i k w z e ew =
+path-some H root c zero i k w z e ew = absurd (z refl)
+path-some H root c (suc l) i k w z e ew =
     let o : suc l - 1 ≡ l = omega arith in
-    ew ∙ ap₂ (λ u n. wayCheck tree symbolHash root u n c) o (ap (λ d. i % d) (e ∙ ap kOf o))
+    ew ∙ ap₂ (λ u n. wayCheck tree H root u n c) o (ap (λ d. i % d) (e ∙ ap kOf o))

@@ -1,14 +1,12 @@
 // The head of a proof: kind 01 with the layer, 10 with the equation, 11 with the withheld member's number.
-use parity_table::data_count;
-use parity_table::index;
 ghost use mathlib.Core.Path.{_≡_};
 ghost use mathlib.Core.Bool.{_&&_};
 ghost use Prim.Native.Nat.{_+_, _*_, _≤_};
 ghost use lib.ListN.{length};
 ghost use lib.Dec.{leb, ltb, eqb};
-ghost use Rattle.parity_table.specs.Parse.{Indexed, tableOf};
 ghost use Rattle.model.specs.Symbols.{count};
-ghost use Rattle.model.specs.Fault.{kindAt, valueAt, headOk};
+ghost use Rattle.model.specs.Fault.{kindAt, valueAt};
+ghost use Rattle.fault_proof.specs.Ruled.{withholds as withholdsOne};
 
 // How many values a word may have: the low 30 bits. The top two are the kind.
 const VALUES: u32 = 1 << 30;
@@ -30,7 +28,7 @@ pub fn value_at(proof: &[u8], i: usize) -> usize
 }
 
 // Whether word i of the head has this kind, and a value below this bound.
-fn names(proof: &[u8], i: usize, kind: u32, bound: usize) -> bool
+pub fn names(proof: &[u8], i: usize, kind: u32, bound: usize) -> bool
     requires { ⌜ 4 * i + 4 ≤ length (now proof) ⌝ }
     ensures { λ r. ⌜ r ≡ (eqb (kindAt (now (proof .entry)) i) kind && ltb (valueAt (now (proof .entry)) i) bound) ⌝ }
 {
@@ -52,23 +50,13 @@ fn is_member(members: &[u32], x: usize) -> bool
     false
 }
 
-// Whether the head names an equation of the table and a member of it. No value is used before it is known to be below its bound.
-pub fn fits(depth: usize, words: &[u32], starts: &[usize], proof: &[u8]) -> bool
-    requires { ⌜ Indexed depth (now words) (now starts) × (12 ≤ length (now proof)) ⌝ }
-    ensures { λ r. ⌜ r ≡ headOk (tableOf (now (words .entry))) (now (proof .entry)) ⌝ }
+// Whether the third word has its kind, with the number of one of the members.
+pub fn withholds(proof: &[u8], members: &[u32]) -> bool
+    requires { ⌜ 12 ≤ length (now proof) ⌝ }
+    ensures { λ r. ⌜ r ≡ withholdsOne (now (proof .entry)) (now (members .entry)) ⌝ }
 {
-    if !names(proof, 0, 1, depth) {
-        return false;
-    }
-    let j = value_at(proof, 0);
-    if !names(proof, 1, 2, 3 * data_count(j)) {
-        return false;
-    }
     if kind_at(proof, 2) != 3 {
         return false;
     }
-    let s = index::equation(words, starts, j, value_at(proof, 1));
-    let at = s.at;
-    let end = s.at + s.size;
-    is_member(&words[at..end], value_at(proof, 2))
+    is_member(members, value_at(proof, 2))
 }

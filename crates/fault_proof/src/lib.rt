@@ -5,6 +5,9 @@ mod head; // the three words in front
 mod way; // a symbol and its path
 
 pub use checker::check;
+pub use checker::judge;
+pub use head::names;
+pub use head::value_at;
 
 // What a proof is found to be.
 pub enum Verdict {

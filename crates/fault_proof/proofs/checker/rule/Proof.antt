@@ -3,15 +3,16 @@ use mathlib.Core.Path.{refl}
 use native.Mathlib.Omega.{arith}
 use borrow.Author.Needs.{needs}
 use Rattle.model.specs.Symbols.{zeros}
-use Rattle.fault_proof.proofs.RuledLaws.{some-member, withheld-below, few-bytes, other-length, given-room, path-room, given-broken, path-broken, no-fault, fault-shown}
+use Rattle.symbol_hash.specs.SymbolHash.{symbolHash}
+use Rattle.fault_proof.proofs.RuledLaws.{some-member, withheld-inside, few-bytes, other-length, given-room, path-room, given-broken, path-broken, no-fault, fault-shown}
 use Rattle.fault_proof.proofs.checker.rule.Statement.{statement}
 use Rattle.fault_proof.proofs.checker.rule.Tie as tie
 
 sub-if1 : tie.Need-sub-if1
 sub-if1 c =
     let a = c .before .before .before .args in
-    let k = c .before .before .before .pre .0 in
-    some-member (a .root .now) (a .j) (a .x) (a .members .now) (a .proof .now) k
+    let k = c .before .before .before .pre in
+    some-member (symbolHash (a .kind)) (a .root .now) (a .j) (a .x) (a .members .now) (a .proof .now) (k .0) (k .1)
 
 add-if1 : tie.Need-add-if1
 add-if1 c = search needs
@@ -19,38 +20,38 @@ add-if1 c = search needs
 mul-if1 : tie.Need-mul-if1
 mul-if1 c =
     let a = c .before .before .before .args in
-    let k = c .before .before .before .pre .0 in
-    omega (arith, few-bytes (a .root .now) (a .j) (a .x) (a .members .now) (a .proof .now) k, k .layer, some-member (a .root .now) (a .j) (a .x) (a .members .now) (a .proof .now) k)
+    let k = c .before .before .before .pre in
+    omega (arith, few-bytes (symbolHash (a .kind)) (a .root .now) (a .j) (a .x) (a .members .now) (a .proof .now) (k .0) (k .1), k .0 .layer, some-member (symbolHash (a .kind)) (a .root .now) (a .j) (a .x) (a .members .now) (a .proof .now) (k .0) (k .1))
 
 add-if1-2 : tie.Need-add-if1-2
 add-if1-2 c =
     let a = c .before .before .before .args in
-    let k = c .before .before .before .pre .0 in
-    omega (arith, few-bytes (a .root .now) (a .j) (a .x) (a .members .now) (a .proof .now) k, k .layer, some-member (a .root .now) (a .j) (a .x) (a .members .now) (a .proof .now) k)
+    let k = c .before .before .before .pre in
+    omega (arith, few-bytes (symbolHash (a .kind)) (a .root .now) (a .j) (a .x) (a .members .now) (a .proof .now) (k .0) (k .1), k .0 .layer, some-member (symbolHash (a .kind)) (a .root .now) (a .j) (a .x) (a .members .now) (a .proof .now) (k .0) (k .1))
 
 mul-if1-2 : tie.Need-mul-if1-2
 mul-if1-2 c =
     let a = c .before .before .before .args in
-    let k = c .before .before .before .pre .0 in
-    omega (arith, few-bytes (a .root .now) (a .j) (a .x) (a .members .now) (a .proof .now) k, k .layer, some-member (a .root .now) (a .j) (a .x) (a .members .now) (a .proof .now) k)
+    let k = c .before .before .before .pre in
+    omega (arith, few-bytes (symbolHash (a .kind)) (a .root .now) (a .j) (a .x) (a .members .now) (a .proof .now) (k .0) (k .1), k .0 .layer, some-member (symbolHash (a .kind)) (a .root .now) (a .j) (a .x) (a .members .now) (a .proof .now) (k .0) (k .1))
 
 add-if1-3 : tie.Need-add-if1-3
 add-if1-3 c =
     let a = c .before .before .before .args in
-    let k = c .before .before .before .pre .0 in
-    omega (arith, few-bytes (a .root .now) (a .j) (a .x) (a .members .now) (a .proof .now) k, k .layer, some-member (a .root .now) (a .j) (a .x) (a .members .now) (a .proof .now) k)
+    let k = c .before .before .before .pre in
+    omega (arith, few-bytes (symbolHash (a .kind)) (a .root .now) (a .j) (a .x) (a .members .now) (a .proof .now) (k .0) (k .1), k .0 .layer, some-member (symbolHash (a .kind)) (a .root .now) (a .j) (a .x) (a .members .now) (a .proof .now) (k .0) (k .1))
 
 returns : tie.Need-returns
 returns c =
     let a = c .before .before .before .before .args in
-    let k = c .before .before .before .before .pre .0 in
-    other-length (a .root .now) (a .j) (a .x) (a .members .now) (a .proof .now) k (c .if1 .taken)
+    let k = c .before .before .before .before .pre in
+    other-length (symbolHash (a .kind)) (a .root .now) (a .j) (a .x) (a .members .now) (a .proof .now) (k .0) (k .1) (c .if1 .taken)
 
 check-requires : tie.Need-check-requires
 check-requires c κs =
     let a = c .before .before .before .before .args in
-    let k = c .before .before .before .before .pre .0 in
-    (k .layer, k .inside, c .before .before .before .before .pre .1, given-room (a .root .now) (a .j) (a .x) (a .members .now) (a .proof .now) k (c .if1 .left))
+    let k = c .before .before .before .before .pre in
+    (k .0, given-room (symbolHash (a .kind)) (a .root .now) (a .j) (a .x) (a .members .now) (a .proof .now) (k .0) (k .1) (c .if1 .left))
 
 enum-known-l : tie.Need-enum-known-l
 enum-known-l c = search needs
@@ -58,8 +59,8 @@ enum-known-l c = search needs
 returns-2 : tie.Need-returns-2
 returns-2 c =
     let a = c .before .before .before .before .before .before .before .before .args in
-    let k = c .before .before .before .before .before .before .before .before .pre .0 in
-    given-broken (a .root .now) (a .j) (a .x) (a .members .now) (a .proof .now) k (c .before .before .before .before .if1 .left) (c .before .before .before .check .result) (c .before .before .before .check .ensures) _ (c .before .l .given .1)
+    let k = c .before .before .before .before .before .before .before .before .pre in
+    given-broken (symbolHash (a .kind)) (a .root .now) (a .j) (a .x) (a .members .now) (a .proof .now) (k .0) (k .1) (c .before .before .before .before .if1 .left) (c .before .before .before .check .result) (c .before .before .before .check .ensures) _ (c .before .l .given .1)
 
 enum-told : tie.Need-enum-told
 enum-told c = search needs
@@ -71,7 +72,9 @@ sub-path : tie.Need-sub-path
 sub-path c = search needs
 
 check-path-requires : tie.Need-check-path-requires
-check-path-requires c κs = search needs
+check-path-requires c κs =
+    let k = c .before .before .before .before .before .before .before .pre .0 in
+    (k .layer, λ h. k .hung h .1, search needs)
 
 enum-known-l-2 : tie.Need-enum-known-l-2
 enum-known-l-2 c = search needs
@@ -79,8 +82,8 @@ enum-known-l-2 c = search needs
 returns-3 : tie.Need-returns-3
 returns-3 c =
     let a = c .before .before .before .before .before .before .before .before .before .before .before .args in
-    let k = c .before .before .before .before .before .before .before .before .before .before .before .pre .0 in
-    path-broken (a .root .now) (a .j) (a .x) (a .members .now) (a .proof .now) k (c .before .before .before .before .before .before .before .if1 .left) (c .before .before .before .before .before .before .check .result) (c .before .before .before .before .before .before .check .ensures) (c .before .before .before .before .enum-told .given .1) (c .before .before .before .check-path .result) (c .before .before .before .check-path .ensures) _ (c .before .l2 .given .1)
+    let k = c .before .before .before .before .before .before .before .before .before .before .before .pre in
+    path-broken (symbolHash (a .kind)) (a .root .now) (a .j) (a .x) (a .members .now) (a .proof .now) (k .0) (k .1) (c .before .before .before .before .before .before .before .if1 .left) (c .before .before .before .before .before .before .check .result) (c .before .before .before .before .before .before .check .ensures) (c .before .before .before .before .enum-told .given .1) (c .before .before .before .check-path .result) (c .before .before .before .check-path .ensures) _ (c .before .l2 .given .1)
 
 enum-told-2 : tie.Need-enum-told-2
 enum-told-2 c = search needs
@@ -92,8 +95,8 @@ gather-requires : tie.Need-gather-requires
 unfolding zeros
 gather-requires c κs =
     let a = c .before .before .before .before .before .before .before .before .before .before .before .args in
-    let k = c .before .before .before .before .before .before .before .before .before .before .before .pre .0 in
-    (refl, given-room (a .root .now) (a .j) (a .x) (a .members .now) (a .proof .now) k (c .before .before .before .before .before .before .before .if1 .left))
+    let k = c .before .before .before .before .before .before .before .before .before .before .before .pre in
+    (refl, given-room (symbolHash (a .kind)) (a .root .now) (a .j) (a .x) (a .members .now) (a .proof .now) (k .0) (k .1) (c .before .before .before .before .before .before .before .if1 .left))
 
 slice-aggregate-fits : tie.Need-slice-aggregate-fits
 slice-aggregate-fits c = search needs
@@ -101,20 +104,23 @@ slice-aggregate-fits c = search needs
 fits-requires : tie.Need-fits-requires
 fits-requires c κs =
     let a = c .before .before .before .before .before .before .before .before .before .before .before .before .before .before .args in
-    let k = c .before .before .before .before .before .before .before .before .before .before .before .before .before .before .pre .0 in
-    (k .layer, withheld-below (a .root .now) (a .j) (a .x) (a .members .now) (a .proof .now) k, search needs, c .before .before .before .before .before .before .before .before .before .before .before .before .before .before .pre .1, λ h. omega (arith, path-room (a .root .now) (a .j) (a .x) (a .members .now) (a .proof .now) k (c .before .before .before .before .before .before .before .before .before .before .if1 .left), h))
+    let k = c .before .before .before .before .before .before .before .before .before .before .before .before .before .before .pre in
+    let inside = withheld-inside (symbolHash (a .kind)) (a .root .now) (a .j) (a .x) (a .members .now) (a .proof .now) (k .0) (k .1) in
+    let room = path-room (symbolHash (a .kind)) (a .root .now) (a .j) (a .x) (a .members .now) (a .proof .now) (k .0) (k .1)
+    (c .before .before .before .before .before .before .before .before .before .before .if1 .left) in
+    (k .0 .layer, search needs, inside .0, λ h. (inside .1 h, omega (arith, room, h)))
 
 returns-4 : tie.Need-returns-4
 returns-4 c =
     let a = c .before .before .before .before .before .before .before .before .before .before .before .before .before .before .before .before .args in
-    let k = c .before .before .before .before .before .before .before .before .before .before .before .before .before .before .before .before .pre .0 in
-    no-fault (a .root .now) (a .j) (a .x) (a .members .now) (a .proof .now) k (c .before .before .before .before .before .before .before .before .before .before .before .before .if1 .left) (c .before .before .before .before .before .before .before .before .before .before .before .check .result) (c .before .before .before .before .before .before .before .before .before .before .before .check .ensures) (c .before .before .before .before .before .before .before .before .before .enum-told .given .1) (c .before .before .before .before .before .before .before .before .check-path .result) (c .before .before .before .before .before .before .before .before .check-path .ensures) (c .before .before .before .before .before .before .enum-told2 .given .1) _ (c .before .before .before .before .gather .ensures) (c .before .fits2 .result) (c .before .fits2 .ensures) (c .if2 .taken)
+    let k = c .before .before .before .before .before .before .before .before .before .before .before .before .before .before .before .before .pre in
+    no-fault (symbolHash (a .kind)) (a .root .now) (a .j) (a .x) (a .members .now) (a .proof .now) (k .0) (k .1) (c .before .before .before .before .before .before .before .before .before .before .before .before .if1 .left) (c .before .before .before .before .before .before .before .before .before .before .before .check .result) (c .before .before .before .before .before .before .before .before .before .before .before .check .ensures) (c .before .before .before .before .before .before .before .before .before .enum-told .given .1) (c .before .before .before .before .before .before .before .before .check-path .result) (c .before .before .before .before .before .before .before .before .check-path .ensures) (c .before .before .before .before .before .before .enum-told2 .given .1) _ (c .before .before .before .before .gather .ensures) (c .before .fits2 .result) (c .before .fits2 .ensures) (c .if2 .taken)
 
 returns-5 : tie.Need-returns-5
 returns-5 c =
     let a = c .before .before .before .before .before .before .before .before .before .before .before .before .before .before .before .before .args in
-    let k = c .before .before .before .before .before .before .before .before .before .before .before .before .before .before .before .before .pre .0 in
-    fault-shown (a .root .now) (a .j) (a .x) (a .members .now) (a .proof .now) k (c .before .before .before .before .before .before .before .before .before .before .before .before .if1 .left) (c .before .before .before .before .before .before .before .before .before .before .before .check .result) (c .before .before .before .before .before .before .before .before .before .before .before .check .ensures) (c .before .before .before .before .before .before .before .before .before .enum-told .given .1) (c .before .before .before .before .before .before .before .before .check-path .result) (c .before .before .before .before .before .before .before .before .check-path .ensures) (c .before .before .before .before .before .before .enum-told2 .given .1) _ (c .before .before .before .before .gather .ensures) (c .before .fits2 .result) (c .before .fits2 .ensures) (c .if2 .left)
+    let k = c .before .before .before .before .before .before .before .before .before .before .before .before .before .before .before .before .pre in
+    fault-shown (symbolHash (a .kind)) (a .root .now) (a .j) (a .x) (a .members .now) (a .proof .now) (k .0) (k .1) (c .before .before .before .before .before .before .before .before .before .before .before .before .if1 .left) (c .before .before .before .before .before .before .before .before .before .before .before .check .result) (c .before .before .before .before .before .before .before .before .before .before .before .check .ensures) (c .before .before .before .before .before .before .before .before .before .enum-told .given .1) (c .before .before .before .before .before .before .before .before .check-path .result) (c .before .before .before .before .before .before .before .before .check-path .ensures) (c .before .before .before .before .before .before .enum-told2 .given .1) _ (c .before .before .before .before .gather .ensures) (c .before .fits2 .result) (c .before .fits2 .ensures) (c .if2 .left)
 
 pub rule-spec : {M : Type 1} → statement M
 rule-spec =

@@ -5,23 +5,23 @@ use Prim.Native.Nat.{_-_, _≤_}
 use native.Mathlib.Omega.{arith}
 use lib.ListN.{length}
 use borrow.Author.Needs.{needs}
-use Rattle.model.specs.Shape.{tree}
+use Rattle.symbol_hash.specs.SymbolHash.{symbolHash}
 use Rattle.model.proofs.Members.{every-below}
 use Rattle.fault_proof.proofs.GivenLaws.{Led, led-start, led-skip, way-room, led-on, led-off, led-end}
 use Rattle.fault_proof.proofs.given.check.Statement.{statement}
 use Rattle.fault_proof.proofs.given.check.Tie as tie
 
 abbrev Inv-loop : tie.InvT-loop
-Inv-loop j members x root b at from₀ i₀ i-end from i = (i ≤ i-end) × (i-end ≡ length members) × Led b members j x root at i from
+Inv-loop kind j members x root b at from₀ i₀ i-end from i = (i ≤ i-end) × (i-end ≡ length members) × Led b members j x (symbolHash kind) root at i from
 
 abbrev μ-loop : tie.MeasureT-loop
-μ-loop j members x root b at from₀ i₀ i-end from i = i-end - i
+μ-loop kind j members x root b at from₀ i₀ i-end from i = i-end - i
 
 loop-holds : tie.Need-loop-holds Inv-loop μ-loop
 loop-holds c =
     let a = c .before .before .before .args in
     let pre = c .before .before .before .pre in
-    (omega arith, refl, led-start (a .b .now) (a .members .now) (a .j) (a .x) (a .root .now) (a .at) (pre .3))
+    (omega arith, refl, led-start (a .b .now) (a .members .now) (a .j) (a .x) (symbolHash (a .kind)) (a .root .now) (a .at) (pre .1))
 
 mul-y : tie.Need-mul-y Inv-loop μ-loop
 mul-y c = omega arith
@@ -37,7 +37,9 @@ check-requires c κs =
     let a = c .before .before .before .before .before .before .before .args in
     let pre = c .before .before .before .before .before .before .before .pre in
     let l = c .before .before .before .loop in
-    (pre .0, every-below (tree .n (a .j)) (a .members .now) (pre .1) (l .i) (omega arith), pre .2, way-room (a .b .now) (a .members .now) (a .j) (a .x) (l .i) (omega arith) (c .if1 .taken) (l .from) (l .inv .2 .room))
+    let k = pre .0 in
+    let below = every-below (k .symbols) (a .members .now) (k .inside) (l .i) (omega arith) in
+    (k .layer, λ z. omega (arith, below, k .top z), λ h. (omega (arith, below, k .hung h .0), k .hung h .1), way-room (a .b .now) (a .members .now) (a .j) (a .x) (l .i) (omega arith) (c .if1 .taken) (l .from) (l .inv .2 .room))
 
 enum-known-l : tie.Need-enum-known-l Inv-loop μ-loop
 enum-known-l c = search needs
@@ -46,7 +48,7 @@ returns : tie.Need-returns Inv-loop μ-loop
 returns c =
     let a = c .before .before .before .before .before .before .before .before .before .before .before .args in
     let l = c .before .before .before .before .before .before .before .loop in
-    led-off (a .b .now) (a .members .now) (a .j) (a .x) (l .i) (omega arith) (c .before .before .before .before .if1 .taken) (l .from) (a .root .now) (a .at) _ (c .before .before .before .check .result) (c .before .before .before .check .ensures) (c .before .l .given .1) (l .inv .2)
+    led-off (a .b .now) (a .members .now) (a .j) (a .x) (l .i) (omega arith) (c .before .before .before .before .if1 .taken) (l .from) (symbolHash (a .kind)) (a .root .now) (a .at) _ (c .before .before .before .check .result) (c .before .before .before .check .ensures) (c .before .l .given .1) (l .inv .2)
 
 enum-told : tie.Need-enum-told Inv-loop μ-loop
 enum-told c = search needs
@@ -71,15 +73,15 @@ loop-again c =
     let a = c .before .before .before .before .before .before .before .args in
     let l = c .before .before .before .loop in
     ⊎-elim
-    (λ w. (omega arith, refl, led-on (a .b .now) (a .members .now) (a .j) (a .x) (l .i) (omega arith) (w .0 .taken) (l .from) (a .root .now) (a .at) (c .if1 .from) (w .1 .result) (w .4) (w .1 .ensures) (w .3 .given .1) (l .inv .2)))
-    (λ w. (omega arith, refl, rw (w .1) (led-skip (a .b .now) (a .members .now) (a .j) (a .x) (l .i) (omega arith) (w .0 .left) (a .root .now) (a .at) (l .from) (l .inv .2))))
+    (λ w. (omega arith, refl, led-on (a .b .now) (a .members .now) (a .j) (a .x) (l .i) (omega arith) (w .0 .taken) (l .from) (symbolHash (a .kind)) (a .root .now) (a .at) (c .if1 .from) (w .1 .result) (w .4) (w .1 .ensures) (w .3 .given .1) (l .inv .2)))
+    (λ w. (omega arith, refl, rw (w .1) (led-skip (a .b .now) (a .members .now) (a .j) (a .x) (l .i) (omega arith) (w .0 .left) (symbolHash (a .kind)) (a .root .now) (a .at) (l .from) (l .inv .2))))
     (c .if1 .came)
 
 returns-2 : tie.Need-returns-2 Inv-loop μ-loop
 returns-2 c =
     let a = c .before .before .before .before .before .args in
     let l = c .before .loop in
-    led-end (a .b .now) (a .members .now) (a .j) (a .x) (a .root .now) (a .at) (l .i) (l .from) (omega arith) (l .inv .2)
+    led-end (a .b .now) (a .members .now) (a .j) (a .x) (symbolHash (a .kind)) (a .root .now) (a .at) (l .i) (l .from) (omega arith) (l .inv .2)
 
 pub check-spec : {M : Type 1} → statement M
 check-spec =

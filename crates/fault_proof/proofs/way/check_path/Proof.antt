@@ -1,19 +1,18 @@
 -- `check_path` meets its contract: layer 0 has no path; another path is the way up from the data symbol above.
-use mathlib.Core.Path.{ap}
-use Prim.Native.Nat.{_-_, _%_}
+use Prim.Native.Nat.{_-_}
 use native.Mathlib.Omega.{arith}
 use lib.ListN.{drop}
 use borrow.Author.Needs.{needs}
-use Rattle.model.specs.Shape.{tree}
-use Rattle.model.proofs.Shapes.{tree-ok, up-lt}
-use Rattle.fault_proof.proofs.WayLaws.{path-none, path-some}
+use Rattle.symbol_hash.specs.SymbolHash.{symbolHash}
+use Rattle.model.proofs.Shapes.{tree-ok}
+use Rattle.fault_proof.proofs.WayLaws.{above-inside, path-none, path-some}
 use Rattle.fault_proof.proofs.way.check_path.Statement.{statement}
 use Rattle.fault_proof.proofs.way.check_path.Tie as tie
 
 returns : tie.Need-returns
 returns c =
     let a = c .before .before .before .args in
-    path-none (a .root .now) (drop (a .at) (a .b .now)) (a .j) (a .i) (c .if1 .taken)
+    path-none (symbolHash (a .kind)) (a .root .now) (drop (a .at) (a .b .now)) (a .j) (a .i) (c .if1 .taken)
 
 sub-check : tie.Need-sub-check
 sub-check c = search needs
@@ -33,12 +32,13 @@ check-requires : tie.Need-check-requires
 check-requires c κs =
     let a = c .before .before .before .before .args in
     let pre = c .before .before .before .before .pre in
-    (omega arith, omega (arith, ap (λ k. a .i % k) (c .data-count .ensures), up-lt tree (tree-ok .shape) (a .j - 1) (a .i)), pre .1, omega (arith, pre .2, c .before .if1 .left))
+    let inside = above-inside (a .root .now) (a .j - 1) (a .i) (c .data-count .result) (c .data-count .ensures) (pre .1 (omega arith)) in
+    (omega arith, inside .0, inside .1, omega (arith, pre .2, c .before .if1 .left))
 
 returns-2 : tie.Need-returns-2
 returns-2 c =
     let a = c .before .before .before .before .before .args in
-    path-some (a .root .now) (drop (a .at) (a .b .now)) (a .j) (a .i) (c .before .data-count .result) _ (c .before .before .if1 .left) (c .before .data-count .ensures) (c .check .ensures)
+    path-some (symbolHash (a .kind)) (a .root .now) (drop (a .at) (a .b .now)) (a .j) (a .i) (c .before .data-count .result) _ (c .before .before .if1 .left) (c .before .data-count .ensures) (c .check .ensures)
 
 pub check-path-spec : {M : Type 1} → statement M
 check-path-spec =
