@@ -3,21 +3,20 @@ use mathlib.Core.Bool.{true}
 use mathlib.Core.List.{List, [], _++_, _∷_}
 use mathlib.Core.Path.{_∙_, _≡_, ap, ap₂, refl, sym}
 use Prim.Native.Nat.{_*_, _+_, _<_, _≤_, suc, ℕ}
-use native.Mathlib.Nat.{mul-le-mul-right, suc-mul}
+use native.Mathlib.Nat.{suc-mul}
 use native.Mathlib.Omega.{arith}
 use lib.Dec.{ltb}
 use lib.ListN.{drop, getD, length, length-append}
 use lib.Seq.{sets}
 use borrow.Author.Tests.{ltb-true}
 use Rattle.fault_writer.proofs.Splices.{length-splice, splice-more, splice-none, splice-over, stored}
-use Rattle.fault_writer.proofs.WayLaws.{path-long, way-length}
-use Rattle.fault_writer.specs.Room.{Layers, head, splice}
-use Rattle.model.proofs.Counts.{every-others, isIt, length-others}
-use Rattle.model.proofs.Frame.{room}
-use Rattle.model.proofs.Members.{others-end, others-skip, others-take}
+use Rattle.fault_writer.proofs.WayLaws.{layers-fewer, path-long, way-length}
+use Rattle.fault_writer.specs.Room.{Layers, Members, head, splice}
+use Rattle.model.proofs.Counts.{every-others}
+use Rattle.model.proofs.Members.{every-below, others-end, others-skip, others-take}
 use Rattle.model.specs.Fault.{givenBytes, pathBytes, proofBytes, wayBytes}
 use Rattle.model.specs.Shape.{tree}
-use Rattle.model.specs.Symbols.{count, others, symAt}
+use Rattle.model.specs.Symbols.{others, symAt}
 use Rattle.octets.proofs.Choice.{and-yes}
 use Rattle.octets.specs.BigEndian.{be}
 use Rattle.parity_table.specs.Members.{every}
@@ -41,6 +40,10 @@ head-put j e x out a b c room ea eb ec =
 
 -- ---- the given members
 
+-- member i is in the tree
+pub member-layers : (t ms : List ℕ) (j : ℕ) (k : Members j t ms) → (i : ℕ) → i < length ms → Layers j (suc (getD ms i 0)) t
+member-layers t ms j k i h = layers-fewer j (k .symbols) (suc (getD ms i 0)) t (every-below (k .symbols) ms (k .within) i h) (k .layers)
+
 module _ (t : List ℕ) (ms : List ℕ) (x j : ℕ) where
   -- what is left to write from member i on
   abbrev left : ℕ → List ℕ
@@ -56,13 +59,13 @@ module _ (t : List ℕ) (ms : List ℕ) (x j : ℕ) where
     pub given-start : GivenAt at out₀ 0 at out₀
     given-start = record { sized = refl; spot = refl; rest = refl }
 
-    module _ (k : Layers j t) (room : at + length (left 0) ≤ length out₀) (i p : ℕ) (out : List ℕ) (g : GivenAt at out₀ i p out) (h : i < length ms) where
+    module _ (room : at + length (left 0) ≤ length out₀) (i p : ℕ) (out : List ℕ) (g : GivenAt at out₀ i p out) (h : i < length ms) where
       pub given-skip : getD ms i 0 ≡ x → GivenAt at out₀ (i + 1) p out
       given-skip e =
           let q : left i ≡ left (i + 1) = ap (givenBytes tree (symAt tree t) j) (others-skip x ms i h e) in
           record { sized = g .sized; spot = ap (λ (l : List ℕ). p + length l) (sym q) ∙ g .spot; rest = ap (splice out p) (sym q) ∙ g .rest }
 
-      module _ (ne : getD ms i 0 ≡ x → ⊥) (below : getD ms i 0 < tree .n j) where
+      module _ (ne : getD ms i 0 ≡ x → ⊥) (k : Layers j (suc (getD ms i 0)) t) where
         way : List ℕ
         way = wayBytes tree (symAt tree t) j (getD ms i 0)
 
@@ -72,7 +75,7 @@ module _ (t : List ℕ) (ms : List ℕ) (x j : ℕ) where
 
         long : length way ≡ 256 * suc j
         unfolding way
-        long = way-length t j (getD ms i 0) k below
+        long = way-length t j (getD ms i 0) k
 
         sum : length (left i) ≡ 256 * suc j + length (left (i + 1))
         sum = ap length left-take ∙ length-append way (left (i + 1)) ∙ ap (λ (n : ℕ). n + length (left (i + 1))) long
@@ -107,7 +110,7 @@ module _ (t : List ℕ) (ms : List ℕ) (x j : ℕ) where
 
 -- ---- the whole
 
-module _ (t ms : List ℕ) (j e x : ℕ) (k : Layers j t) where
+module _ (t ms : List ℕ) (j e x : ℕ) (k : Members j t ms) where
   -- its given members, and the withheld member's path
   abbrev given : List ℕ
   given = givenBytes tree (symAt tree t) j (others x ms)
@@ -119,42 +122,32 @@ module _ (t ms : List ℕ) (j e x : ℕ) (k : Layers j t) where
   unfolding proofBytes be
   proof-is = refl
 
-  pub proof-length : length (proofBytes tree (symAt tree t) j e x ms) ≡ 12 + length given + 256 * j
-  unfolding be
-  proof-length = ap length proof-is ∙ omega (arith, length-append given path, path-long t j k j x (omega arith))
+  given-long : (ys : List ℕ) → every (λ y. ltb y (k .symbols)) ys ≡ true → length (givenBytes tree (symAt tree t) j ys) ≡ 256 * (length ys * suc j)
+  unfolding every givenBytes
+  given-long [] a = omega arith
+  given-long (y ∷ ys) a =
+      let (p, q) = and-yes (ltb y (k .symbols)) (every (λ z. ltb z (k .symbols)) ys) a in
+      omega (
+        arith,
+        suc-mul (length ys) (suc j),
+        given-long ys q,
+        way-length t j y (layers-fewer j (k .symbols) (suc y) t (omega (arith, ltb-true y (k .symbols) p)) (k .layers)),
+        length-append (wayBytes tree (symAt tree t) j y) (givenBytes tree (symAt tree t) j ys),
+      )
 
-  pub proof-put : (out a b w : List ℕ) (p : ℕ) → 12 + length given + 256 * j ≤ length out → length a ≡ length out → a ≡ splice out 0 (head j e x)
+  pub given-length : length given ≡ 256 * (length (others x ms) * suc j)
+  given-length = given-long (others x ms) (every-others (λ y. ltb y (k .symbols)) x ms (k .within))
+
+  pub proof-length : length (proofBytes tree (symAt tree t) j e x ms) ≡ 12 + 256 * (length (others x ms) * suc j + j)
+  unfolding be
+  proof-length = ap length proof-is ∙ omega (arith, length-append given path, given-length, path-long t j (k .symbols) (k .layers) j x (omega arith))
+
+  pub proof-put : (out a b w : List ℕ) (p : ℕ) → 12 + 256 * (length (others x ms) * suc j + j) ≤ length out → length a ≡ length out → a ≡ splice out 0 (head j e x)
       → b ≡ splice a 12 given → p ≡ 12 + length given → w ≡ splice b p path → w ≡ over (proofBytes tree (symAt tree t) j e x ms) out
   unfolding be
   proof-put out a b w p room la ea eb ep ew =
-      ew ∙ ap₂ (λ (o : List ℕ) (n : ℕ). splice o n path) eb ep ∙ splice-more a 12 given (omega arith) path
+      ew ∙ ap₂ (λ (o : List ℕ) (n : ℕ). splice o n path) eb ep ∙ splice-more a 12 given (omega (arith, given-length)) path
       ∙ ap (λ (o : List ℕ). splice o 12 (given ++ path)) ea
       ∙ splice-more out 0 (head j e x) (omega arith) (given ++ path)
       ∙ splice-over (head j e x ++ (given ++ path)) out
       ∙ ap (λ (q : List ℕ). over q out) (sym proof-is)
-
--- ---- its room: at most seven given members
-
-module _ (t ms : List ℕ) (j e x : ℕ) (k : Layers j t) where
-  given-length : (ys : List ℕ) → every (λ y. ltb y (tree .n j)) ys ≡ true → length (givenBytes tree (symAt tree t) j ys) ≡ length ys * (256 * suc j)
-  unfolding every givenBytes
-  given-length [] a = omega arith
-  given-length (y ∷ ys) a =
-      let (p, q) = and-yes (ltb y (tree .n j)) (every (λ z. ltb z (tree .n j)) ys) a in
-      omega (
-        arith,
-        suc-mul (length ys) (256 * suc j),
-        given-length ys q,
-        way-length t j y k (ltb-true y (tree .n j) p),
-        length-append (wayBytes tree (symAt tree t) j y) (givenBytes tree (symAt tree t) j ys),
-      )
-
-  pub proof-fits : length ms ≤ 8 → every (λ y. ltb y (tree .n j)) ms ≡ true → 1 ≤ count (isIt x) ms → length (proofBytes tree (symAt tree t) j e x ms) ≤ 12 + 256 * (8 * j + 7)
-  proof-fits few a c =
-      let l : length (others x ms) ≤ 7 = omega (arith, length-others x ms) in
-      omega (
-        arith,
-        proof-length t ms j e x k,
-        given-length (others x ms) (every-others (λ y. ltb y (tree .n j)) x ms a),
-        mul-le-mul-right {m = length (others x ms)} {n = 7} (256 * suc j) l,
-      )

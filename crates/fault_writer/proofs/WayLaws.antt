@@ -10,42 +10,49 @@ use Rattle.fault_writer.proofs.Splices.{splice-more, splice-none}
 use Rattle.fault_writer.specs.Room.{Layers, splice}
 use Rattle.model.proofs.Bytes.{joined-length}
 use Rattle.model.proofs.Flat.{symAt-length}
-use Rattle.model.proofs.Frame.{room}
-use Rattle.model.proofs.Shapes.{place-lt, places-mono, tree-ok, up-lt}
-use Rattle.model.proofs.Ways.{reached-lt}
+use Rattle.model.proofs.Shapes.{places-mono, tree-ok, up-lt}
 use Rattle.model.specs.Fault.{pathBytes, reached, wayBytes}
-use Rattle.model.specs.Repair.{layer}
-use Rattle.model.specs.Shape.{places, tree}
+use Rattle.model.specs.Shape.{place, places, tree}
 use Rattle.model.specs.Symbols.{joined, symAt}
 use Rattle.octets.proofs.ListLaws.{part-ends}
 use Rattle.parity_table.specs.Shape.{kOf}
 
 -- ---- a symbol, where the code finds it
 
-pub symbol-room : (t : List ℕ) (l m base : ℕ) → Layers l t → base ≡ places tree l → m < tree .n l → 256 * (base + m) + 256 ≤ length t
-unfolding places
-symbol-room t l m base k e h = omega (arith, k .room)
+pub symbol-room : (t : List ℕ) (l m n base : ℕ) → Layers l n t → base ≡ places tree l → m < n → 256 * (base + m) + 256 ≤ length t
+symbol-room t l m n base k e h = omega (arith, k .room)
 
 pub symbol-there : (t : List ℕ) (l m base : ℕ) → base ≡ places tree l → take (256 * (base + m) + 256 - 256 * (base + m)) (drop (256 * (base + m)) t) ≡ symAt tree t l m
 symbol-there t l m base e = part-ends t (256 * (base + m)) 256 ∙ sym (symAt-there t l base e m)
 
--- ---- layers above
+pub symbol-length : (j n : ℕ) (t : List ℕ) → Layers j n t → (m : ℕ) → m < n → length (symAt tree t j m) ≡ 256
+unfolding place
+symbol-length j n t k m h = symAt-length tree t j m (omega (arith, k .room))
 
-pub layers-above : (j l : ℕ) (t : List ℕ) → l ≤ j → Layers j t → Layers l t
-layers-above j l t h k = record { layer = omega (arith, k .layer); room = omega (arith, k .room, places-mono tree (suc l) (suc j) (omega arith)) }
+-- ---- fewer symbols, and the layers above
 
-pub symbol-length : (j : ℕ) (t : List ℕ) → Layers j t → (l m : ℕ) → l ≤ j → m < tree .n l → length (symAt tree t l m) ≡ 256
-symbol-length j t k l m h b = symAt-length tree t l m (omega (arith, k .room, place-lt tree (suc j) l m (omega arith) b))
+pub layers-fewer : (j n m : ℕ) (t : List ℕ) → m ≤ n → Layers j n t → Layers j m t
+layers-fewer j n m t h k = record { layer = k .layer; room = omega (arith, k .room) }
+
+pub layers-above : (j n l m : ℕ) (t : List ℕ) → l < j → m ≤ tree .n l → Layers j n t → Layers l m t
+unfolding places
+layers-above j n l m t h b k = record { layer = omega (arith, k .layer); room = omega (arith, k .room, places-mono tree (suc l) j h) }
 
 -- ---- the way up from symbol i of layer j
 
-module _ (t : List ℕ) (j i : ℕ) (k : Layers j t) (hi : i < tree .n j) where
+module _ (t : List ℕ) (j i : ℕ) (k : Layers j (suc i) t) where
   -- its symbol number x
   abbrev onWay : ℕ → List ℕ
   onWay x = symAt tree t (j - x) (reached tree j i x)
 
   on-way-length : (x : ℕ) → x ≤ j → length (onWay x) ≡ 256
-  on-way-length x h = symbol-length j t k (j - x) (reached tree j i x) (omega arith) (reached-lt tree j i (tree-ok .shape) hi x h)
+  unfolding reached
+  on-way-length zero h =
+      let z : j - 0 ≡ j = omega arith in
+      ap (λ (l : ℕ). length (symAt tree t l i)) z ∙ symbol-length j (suc i) t k i (omega arith)
+  on-way-length (suc x) h =
+      symbol-length (j - suc x) (tree .n (j - suc x)) t (layers-above j (suc i) (j - suc x) (tree .n (j - suc x)) t (omega arith) (omega arith) k) (reached tree j i (suc x))
+      (up-lt tree (tree-ok .shape) (j - suc x) (reached tree j i x))
 
   pub way-length : length (wayBytes tree (symAt tree t) j i) ≡ 256 * suc j
   unfolding wayBytes
@@ -77,17 +84,14 @@ module _ (t : List ℕ) (j i at : ℕ) (out₀ : List ℕ) where
         rest = ap (λ (q : ℕ). splice out₀ (at + 256) (joined piece (suc q) j)) z;
       }
 
-  module _ (k : Layers j t) (hi : i < tree .n j) (room : at + 256 * suc j ≤ length out₀) where
+  module _ (k : Layers j (suc i) t) (room : at + 256 * suc j ≤ length out₀) where
     module _ (l m p : ℕ) (out : List ℕ) (w : WayAt l m p out) where
-      pub way-number : m < tree .n l
-      way-number =
-          let e : j - (j - l) ≡ l = omega (arith, w .within) in
-          subst (λ (q : ℕ). q < tree .n l) (sym (w .number))
-          (subst (λ (q : ℕ). reached tree j i (j - l) < tree .n q) e (reached-lt tree j i (tree-ok .shape) hi (j - l) (omega arith)))
-
       module _ (pos : 0 < l) (c : ℕ) (ec : c ≡ kOf (l - 1)) where
-        pub up-number : m % c < tree .n (l - 1)
+        up-number : m % c < tree .n (l - 1)
         up-number = subst (λ (q : ℕ). m % q < tree .n (l - 1)) (sym ec) (up-lt tree (tree-ok .shape) (l - 1) m)
+
+        pub up-layers : Layers (l - 1) (suc (m % c)) t
+        up-layers = layers-above j (suc i) (l - 1) (suc (m % c)) t (omega (arith, w .within)) (omega (arith, up-number)) k
 
         up-step : m % c ≡ reached tree j i (suc (j - l))
         unfolding reached
@@ -103,7 +107,7 @@ module _ (t : List ℕ) (j i at : ℕ) (out₀ : List ℕ) where
             let s : suc (l - 1) ≡ l = omega arith in
             let num = up-step in
             let v : List ℕ = symAt tree t (l - 1) (m % c) in
-            let n : length v ≡ 256 = symbol-length j t k (l - 1) (m % c) (omega (arith, w .within)) up-number in
+            let n : length v ≡ 256 = symbol-length (l - 1) (suc (m % c)) t up-layers (m % c) (omega arith) in
             let pv : piece (suc (j - l)) ≡ v = ap₂ (symAt tree t) u (sym num) in
             record {
               within = omega (arith, w .within);
@@ -123,7 +127,7 @@ module _ (t : List ℕ) (j i at : ℕ) (out₀ : List ℕ) where
       unfolding joined wayBytes reached
       way-end first lf e z =
           let y : j - 0 ≡ j = omega arith in
-          let n : length (symAt tree t j i) ≡ 256 = symbol-length j t k j i (omega arith) hi in
+          let n : length (symAt tree t j i) ≡ 256 = symbol-length j (suc i) t k i (omega arith) in
           sym (splice-none out (p + 256)) ∙ ap (λ (q : ℕ). splice out (p + 256) (joined piece (suc (j - l)) q)) (sym z) ∙ w .rest
           ∙ ap₂ (λ (o : List ℕ) (q : ℕ). splice o (at + q) (joined piece 1 j)) e (sym n)
           ∙ splice-more first at (symAt tree t j i) (omega arith) (joined piece 1 j)
@@ -144,7 +148,11 @@ module _ (f : ℕ → ℕ → List ℕ) (out w : List ℕ) (at i : ℕ) where
   path-none zero h e = e ∙ sym (splice-none out at)
   path-none (suc j) h e = absurd (omega arith)
 
-pub path-long : (t : List ℕ) (j : ℕ) → Layers j t → (l i : ℕ) → l ≤ j → length (pathBytes tree (symAt tree t) l i) ≡ 256 * l
+-- the symbol above, from which a path goes up
+pub above-layers : (t : List ℕ) (j n l i : ℕ) → l < j → Layers j n t → Layers l (suc (i % kOf l)) t
+above-layers t j n l i h k = layers-above j n l (suc (i % kOf l)) t h (omega (arith, up-lt tree (tree-ok .shape) l i)) k
+
+pub path-long : (t : List ℕ) (j n : ℕ) → Layers j n t → (l i : ℕ) → l ≤ j → length (pathBytes tree (symAt tree t) l i) ≡ 256 * l
 unfolding pathBytes
-path-long t j k zero i h = refl
-path-long t j k (suc l) i h = way-length t l (i % kOf l) (layers-above j l t (omega arith) k) (up-lt tree (tree-ok .shape) l i)
+path-long t j n k zero i h = refl
+path-long t j n k (suc l) i h = way-length t l (i % kOf l) (above-layers t j n l i (omega arith) k)

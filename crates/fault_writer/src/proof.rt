@@ -5,20 +5,17 @@ use parity_table::END;
 use parity_table::EQUATION;
 use parity_table::LAYER;
 ghost use mathlib.Core.Path.{_≡_};
-ghost use mathlib.Core.Bool.{true};
-ghost use Prim.Native.Nat.{_+_, _^_, _≤_, _<_};
+ghost use Prim.Native.Nat.{suc, _+_, _*_, _^_, _≤_, _<_};
 ghost use lib.ListN.{length};
-ghost use lib.Dec.{ltb};
-ghost use Rattle.parity_table.specs.Members.{every};
 ghost use Rattle.parity_table.specs.Parse.{over};
-ghost use Rattle.model.specs.Shape.{tree as shape};
+ghost use Rattle.model.specs.Shape.{Shape, Hangs, tree as shape};
 ghost use Rattle.model.specs.Symbols.{others, symAt};
 ghost use Rattle.model.specs.Fault.{givenBytes, proofBytes};
-ghost use Rattle.fault_writer.specs.Room.{splice, Layers, head};
+ghost use Rattle.fault_writer.specs.Room.{splice, Members, head};
 
 // The members other than x, each with its path; where they end.
 fn put_given(tree: &[u8], members: &[u32], x: usize, j: usize, out: &mut [u8], at: usize) -> usize
-    requires { ⌜ Layers j (now tree) × (every (λ y. ltb y (shape .n j)) (now members) ≡ true)
+    requires { ⌜ Members j (now tree) (now members)
         × (at + length (givenBytes shape (symAt shape (now tree)) j (others x (now members))) ≤ length (now out)) ⌝ }
     ensures { λ r.
         ⌜ (r ≡ at + length (givenBytes shape (symAt shape (now (tree .entry))) j (others x (now (members .entry)))))
@@ -55,11 +52,12 @@ pub fn put_proof(
     x: usize,
     out: &mut [u8],
 ) -> usize
-    requires { ⌜ Layers j (now tree) × (every (λ y. ltb y (shape .n j)) (now members) ≡ true) × (e < 2 ^ 30) × (x < 2 ^ 30)
-        × (length (proofBytes shape (symAt shape (now tree)) j e x (now members)) ≤ length (now out)) ⌝ }
+    requires { ⌜ Members j (now tree) (now members) × (e < 2 ^ 30) × (x < 2 ^ 30)
+        × (12 + 256 * (length (others x (now members)) * suc j + j) ≤ length (now out)) ⌝ }
     ensures { λ r.
-        ⌜ (r ≡ length (proofBytes shape (symAt shape (now (tree .entry))) j e x (now (members .entry))))
-        × (now (out .exit) ≡ over (proofBytes shape (symAt shape (now (tree .entry))) j e x (now (members .entry))) (now (out .entry))) ⌝ }
+        ⌜ ((S : Shape) → Hangs S j
+        → (r ≡ length (proofBytes S (symAt S (now (tree .entry))) j e x (now (members .entry))))
+        × (now (out .exit) ≡ over (proofBytes S (symAt S (now (tree .entry))) j e x (now (members .entry))) (now (out .entry)))) ⌝ }
 {
     put_head(j, e, x, out);
     let p = put_given(tree, members, x, j, out, 12);

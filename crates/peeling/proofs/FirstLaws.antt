@@ -14,8 +14,8 @@ use Rattle.model.proofs.Members.{from-here}
 use Rattle.model.specs.Symbols.{bit, count}
 use Rattle.octets.proofs.Choice.{and-yes, by-test, yes-and}
 use Rattle.parity_table.specs.Members.{every}
-use Rattle.parity_table.specs.Table.{equationOf, layerOf}
-use Rattle.peeling.specs.Firsts.{FirstAt, Has, NoneBefore, firsts, firstsFrom, setAll}
+use Rattle.equation.specs.Rooms.{membersAt}
+use Rattle.peeling.specs.Firsts.{FirstAt, Has, NoneBefore, firstsFrom, setAll}
 
 -- ---- one value at several places
 
@@ -69,88 +69,76 @@ within-longer n l (x ∷ xs) h a =
 
 -- ---- the equations
 
-module _ (tbl : List (List (List ℕ))) (j : ℕ) (lent : List ℕ) where
-  length-firstsFrom : (e n : ℕ) → length (firstsFrom tbl j e n lent) ≡ length lent
+module _ (ws starts : List ℕ) (from : ℕ) (lent : List ℕ) where
+  length-firstsFrom : (e n : ℕ) → length (firstsFrom ws starts from e n lent) ≡ length lent
   unfolding firstsFrom
   length-firstsFrom e zero = refl
-  length-firstsFrom e (suc n) = length-setAll (equationOf tbl j e) e (firstsFrom tbl j (suc e) n lent) ∙ length-firstsFrom (suc e) n
-
-  pub length-firsts : length (firsts tbl j lent) ≡ length lent
-  length-firsts = length-firstsFrom 0 (length (layerOf tbl j))
+  length-firstsFrom e (suc n) = length-setAll (membersAt ws starts (from + e)) e (firstsFrom ws starts from (suc e) n lent) ∙ length-firstsFrom (suc e) n
 
   -- the loop over the n equations, from the last to the first: those from number e on have come
   module _ (n e : ℕ) where
-    pub firsts-start : n ≤ e → lent ≡ firstsFrom tbl j e (n - e) lent
+    pub firsts-start : n ≤ e → lent ≡ firstsFrom ws starts from e (n - e) lent
     unfolding firstsFrom
-    firsts-start h = let k : n - e ≡ 0 = omega arith in sym (ap (λ (m : ℕ). firstsFrom tbl j e m lent) k)
+    firsts-start h = let k : n - e ≡ 0 = omega arith in sym (ap (λ (m : ℕ). firstsFrom ws starts from e m lent) k)
 
-    module _ (first : List ℕ) (f : first ≡ firstsFrom tbl j e (n - e) lent) where
-      pub firsts-turn : (ms first′ : List ℕ) → 0 < e → e ≤ n → ms ≡ equationOf tbl j (e - 1) → first′ ≡ setAll ms (e - 1) first
-          → first′ ≡ firstsFrom tbl j (e - 1) (n - (e - 1)) lent
+    module _ (first : List ℕ) (f : first ≡ firstsFrom ws starts from e (n - e) lent) where
+      pub firsts-turn : (ms first′ : List ℕ) → 0 < e → e ≤ n → ms ≡ membersAt ws starts (from + (e - 1)) → first′ ≡ setAll ms (e - 1) first
+          → first′ ≡ firstsFrom ws starts from (e - 1) (n - (e - 1)) lent
       unfolding firstsFrom
       firsts-turn ms first′ h l em ef =
           let k : e ≡ suc (e - 1) = omega arith in
           let m : n - (e - 1) ≡ suc (n - e) = omega arith in
-          ef ∙ ap₂ (λ (a b : List ℕ). setAll a (e - 1) b) em (f ∙ ap (λ (q : ℕ). firstsFrom tbl j q (n - e) lent) k)
-          ∙ sym (ap (λ (q : ℕ). firstsFrom tbl j (e - 1) q lent) m)
+          ef ∙ ap₂ (λ (a b : List ℕ). setAll a (e - 1) b) em (f ∙ ap (λ (q : ℕ). firstsFrom ws starts from q (n - e) lent) k)
+          ∙ sym (ap (λ (q : ℕ). firstsFrom ws starts from (e - 1) q lent) m)
 
-      pub firsts-end : e ≤ 0 → n ≡ length (layerOf tbl j) → first ≡ firsts tbl j lent
-      firsts-end h l =
+      pub firsts-end : e ≤ 0 → first ≡ firstsFrom ws starts from 0 n lent
+      firsts-end h =
           let z : e ≡ 0 = omega arith in
-          let k : n - e ≡ length (layerOf tbl j) = omega arith in
-          f ∙ ap₂ (λ (a b : ℕ). firstsFrom tbl j a b lent) z k
+          let k : n - e ≡ n = omega arith in
+          f ∙ ap₂ (λ (a b : ℕ). firstsFrom ws starts from a b lent) z k
 
   -- entry x
 
   module _ (x : ℕ) where
     abbrev entry : ℕ → ℕ → ℕ
-    entry e n = getD (firstsFrom tbl j e n lent) x 0
+    entry e n = getD (firstsFrom ws starts from e n lent) x 0
 
-    passes : (e n : ℕ) → count (isIt x) (equationOf tbl j e) ≡ 0 → entry e (suc n) ≡ entry (suc e) n
+    passes : (e n : ℕ) → count (isIt x) (membersAt ws starts (from + e)) ≡ 0 → entry e (suc n) ≡ entry (suc e) n
     unfolding firstsFrom
-    passes e n c = setAll-out (equationOf tbl j e) e (firstsFrom tbl j (suc e) n lent) x c
+    passes e n c = setAll-out (membersAt ws starts (from + e)) e (firstsFrom ws starts from (suc e) n lent) x c
 
-    kept-from : (e n : ℕ) → ((q : ℕ) → Has tbl j x q → ⊥) → entry e n ≡ getD lent x 0
+    kept-from : (e n : ℕ) → ((q : ℕ) → q < e + n → Has ws starts from x q → ⊥) → entry e n ≡ getD lent x 0
     unfolding firstsFrom
     kept-from e zero none = refl
     kept-from e (suc n) none =
-        elim (decLt 0 (count (isIt x) (equationOf tbl j e))) [
-          | yes a ↦ absurd (none e a)
-          | no a ↦ passes e n (omega arith) ∙ kept-from (suc e) n none
+        elim (decLt 0 (count (isIt x) (membersAt ws starts (from + e)))) [
+          | yes a ↦ absurd (none e (omega arith) a)
+          | no a ↦ passes e n (omega arith) ∙ kept-from (suc e) n (λ q h. none q (omega arith))
         ]
 
-    lowest-from : (e n q : ℕ) → x < length lent → e ≤ q → q < e + n → Has tbl j x q → Has tbl j x (entry e n) × (entry e n ≤ q)
+    lowest-from : (e n q : ℕ) → x < length lent → e ≤ q → q < e + n → Has ws starts from x q → Has ws starts from x (entry e n) × (entry e n ≤ q)
     unfolding firstsFrom
     lowest-from e zero q h a b c = absurd (omega arith)
     lowest-from e (suc n) q h a b c =
-        elim (decLt 0 (count (isIt x) (equationOf tbl j e))) [
+        elim (decLt 0 (count (isIt x) (membersAt ws starts (from + e)))) [
           | yes g ↦
-              let z : entry e (suc n) ≡ e = setAll-in (equationOf tbl j e) e (firstsFrom tbl j (suc e) n lent) x (omega (arith, length-firstsFrom (suc e) n)) g in
-              (subst (Has tbl j x) (sym z) g, omega arith)
+              let z : entry e (suc n) ≡ e = setAll-in (membersAt ws starts (from + e)) e (firstsFrom ws starts from (suc e) n lent) x (omega (arith, length-firstsFrom (suc e) n)) g in
+              (subst (Has ws starts from x) (sym z) g, omega arith)
           | no g ↦
-              let d : suc e ≤ q = by-test (eqb q e) (λ t. absurd (omega (arith, subst (Has tbl j x) (eqb-true q e t) c))) (λ t. omega (arith, eqb-false q e t)) in
-              subst (λ (v : ℕ). Has tbl j x v × (v ≤ q)) (sym (passes e n (omega arith))) (lowest-from (suc e) n q h d (omega arith) c)
+              let d : suc e ≤ q = by-test (eqb q e) (λ t. absurd (omega (arith, subst (Has ws starts from x) (eqb-true q e t) c))) (λ t. omega (arith, eqb-false q e t)) in
+              subst (λ (v : ℕ). Has ws starts from x v × (v ≤ q)) (sym (passes e n (omega arith))) (lowest-from (suc e) n q h d (omega arith) c)
         ]
 
-    -- what has a symbol is an equation of the layer
-    has-number : (e : ℕ) → Has tbl j x e → e < length (layerOf tbl j)
-    unfolding equationOf count
-    has-number e c =
-        elim (decLt e (length (layerOf tbl j))) [
-          | yes a ↦ a
-          | no a ↦ absurd (omega (arith, ap (count (isIt x)) (List·getD-eq-default (layerOf tbl j) [] {n = e} (omega arith))))
-        ]
-
-    pub first-at : x < length lent → FirstAt tbl j lent (firsts tbl j lent) x
-    first-at h =
+    pub first-at : (n : ℕ) → x < length lent → FirstAt ws starts from n lent (firstsFrom ws starts from 0 n lent) x
+    first-at n h =
         record {
-          lowest = λ e c. lowest-from 0 (length (layerOf tbl j)) e h (omega arith) (omega (arith, has-number e c)) c;
-          kept = kept-from 0 (length (layerOf tbl j));
+          lowest = λ e l c. lowest-from 0 n e h (omega arith) (omega arith) c;
+          kept = λ none. kept-from 0 n (λ q l. none q (omega arith));
         }
 
-  pub none-before : NoneBefore tbl j (firsts tbl j lent)
-  none-before x e c =
+  pub none-before : (n : ℕ) → NoneBefore ws starts from n (firstsFrom ws starts from 0 n lent)
+  none-before n x e l c =
       elim (decLt x (length lent)) [
-        | yes h ↦ first-at x h .lowest e c .1
-        | no h ↦ omega (arith, List·getD-eq-default (firsts tbl j lent) 0 {n = x} (omega (arith, length-firsts)))
+        | yes h ↦ first-at x n h .lowest e l c .1
+        | no h ↦ omega (arith, List·getD-eq-default (firstsFrom ws starts from 0 n lent) 0 {n = x} (omega (arith, length-firstsFrom 0 n)))
       ]

@@ -1,4 +1,4 @@
+pub mod FirstLaws
 pub mod SweepLaws
 pub mod TurnLaws
-pub mod FirstLaws
 pub mod PeelLaws

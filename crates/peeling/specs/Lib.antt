@@ -1,4 +1,3 @@
-pub mod States
-pub mod Rooms
-pub mod Turns
+pub mod Levels
 pub mod Firsts
+pub mod States

@@ -1,15 +1,12 @@
 // For each symbol of a layer, the first equation that it stands in: after a store peeling goes on there.
-use parity_table::data_count;
 use parity_table::index;
 ghost use mathlib.Core.Path.{_≡_};
 ghost use mathlib.Core.Bool.{true};
-ghost use Prim.Native.Nat.{_≤_, _<_};
 ghost use lib.ListN.{length};
 ghost use lib.Dec.{ltb};
-ghost use Rattle.parity_table.specs.Shape.{nOf};
 ghost use Rattle.parity_table.specs.Members.{every};
-ghost use Rattle.parity_table.specs.Parse.{Indexed, tableOf};
-ghost use Rattle.peeling.specs.Firsts.{setAll, firsts};
+ghost use Rattle.peeling.specs.Firsts.{setAll, firstsFrom};
+ghost use Rattle.peeling.specs.Levels.{Listed};
 
 // Sets e at each of the members.
 fn set_members(members: &[u32], e: usize, first: &mut [usize])
@@ -22,17 +19,17 @@ fn set_members(members: &[u32], e: usize, first: &mut [usize])
     }
 }
 
-// Fills first: the number of the lowest equation of layer j that has symbol x is entry x, and entries of numbers that none has stay.
-pub fn fill(depth: usize, words: &[u32], starts: &[usize], j: usize, first: &mut [usize])
-    requires { ⌜ Indexed depth (now words) (now starts) × (j < depth) × (nOf j ≤ length (now first)) ⌝ }
-    ensures { λ r. ⌜ now (first .exit) ≡ firsts (tableOf (now (words .entry))) j (now (first .entry)) ⌝ }
+// Fills first for n equations, whose members start at the entries of starts from number `from` on: the number of the lowest equation that has
+// symbol x is entry x, and entries of numbers that none has stay.
+pub fn fill(words: &[u32], starts: &[usize], from: usize, n: usize, first: &mut [usize])
+    requires { ⌜ Listed (now words) (now starts) from n (length (now first)) ⌝ }
+    ensures { λ r. ⌜ now (first .exit) ≡ firstsFrom (now (words .entry)) (now (starts .entry)) from 0 n (now (first .entry)) ⌝ }
 {
-    let mut e = 3 * data_count(j);
+    let mut e = n;
     while 0 < e {
         e -= 1;
-        let s = index::equation(words, starts, j, e);
-        let at = s.at;
-        let end = s.at + s.size;
+        let at = starts[from + e];
+        let end = at + index::count_members(words, at);
         set_members(&words[at..end], e, first);
     }
 }

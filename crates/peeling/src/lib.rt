@@ -1,25 +1,11 @@
-// Steps (a) and (b) of repair, for one layer of a tree: a sweep over its symbols, and peeling by its equations.
+// Steps (a) and (b) of repair, for one layer: a sweep over its symbols, and peeling by its equations. The layer is any that hangs under a
+// tree's layers, or under the root; its equations are those that stand one after the other in an index of words.
 pub mod first; // the first equation that each symbol stands in
 mod peel; // (b): turn after turn
 mod sweep; // (a): bad copies become absent
-mod equation; // (b): one equation
 
 pub use peel::peel_layer;
 pub use sweep::sweep_layer;
-
-// What a turn of (b) at an equation did.
-pub enum Turn {
-    // nothing: it is used, or has two absent members
-    Left,
-    // it holds
-    Used,
-    // its one absent member, of this number, was formed and stored
-    Stored(usize),
-    // a fault proof was written
-    Fault { withheld: usize, size: usize },
-    // the two symbols of this number were written
-    Twins(usize),
-}
 
 // How the peeling of a layer ended.
 pub enum Outcome {

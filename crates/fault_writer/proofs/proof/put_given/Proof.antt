@@ -5,9 +5,7 @@ use mathlib.Core.Path.{_∙_, _≡_, ap, refl, subst, sym}
 use Prim.Native.Nat.{_+_, _-_, _<_, _≤_, ℕ}
 use native.Mathlib.Omega.{arith}
 use lib.ListN.{length}
-use Rattle.fault_writer.proofs.ProofLaws.{GivenAt, given-ends, given-room, given-skip, given-start, given-turn, given-written}
-use Rattle.model.proofs.Members.{every-below}
-use Rattle.model.specs.Shape.{tree}
+use Rattle.fault_writer.proofs.ProofLaws.{GivenAt, given-ends, given-room, given-skip, given-start, given-turn, given-written, member-layers}
 use Rattle.fault_writer.proofs.proof.put_given.Statement.{statement}
 use Rattle.fault_writer.proofs.proof.put_given.Tie as tie
 
@@ -36,22 +34,22 @@ put-way-requires c κs =
     let s = c .before .before .before .before .before .before .before .before in
     let l = c .before .before .before .before .loop in
     let h : l .i < length (s .args .members .now) = omega arith in
-    let b = every-below (tree .n (s .args .j)) (s .args .members .now) (s .pre .1) (l .i) h in
-    (s .pre .0, b, given-room (s .args .tree .now) (s .args .members .now) (s .args .x) (s .args .j) (s .args .at) (s .args .out .now) (s .pre .0) (s .pre .2) (l .i) (l .p) (l .out) (l .inv .2) h (c .before .if1 .taken) b)
+    let b = member-layers (s .args .tree .now) (s .args .members .now) (s .args .j) (s .pre .0) (l .i) h in
+    (b, given-room (s .args .tree .now) (s .args .members .now) (s .args .x) (s .args .j) (s .args .at) (s .args .out .now) (s .pre .1) (l .i) (l .p) (l .out) (l .inv .2) h (c .before .if1 .taken) b)
 
 add-p : tie.Need-add-p Inv-loop μ-loop
-add-p c = omega (arith, c .before .before .before .before .before .before .before .before .before .before .before .pre .0 .layer)
+add-p c = omega (arith, c .before .before .before .before .before .before .before .before .before .before .before .pre .0 .layers .layer)
 
 mul-p : tie.Need-mul-p Inv-loop μ-loop
-mul-p c = omega (arith, c .before .before .before .before .before .before .before .before .before .before .before .pre .0 .layer)
+mul-p c = omega (arith, c .before .before .before .before .before .before .before .before .before .before .before .pre .0 .layers .layer)
 
 add-p-2 : tie.Need-add-p-2 Inv-loop μ-loop
 add-p-2 c =
     let s = c .before .before .before .before .before .before .before .before .before .before .before in
     let l = c .before .before .before .before .before .before .before .loop in
     let h : l .i < length (s .args .members .now) = omega arith in
-    let b = every-below (tree .n (s .args .j)) (s .args .members .now) (s .pre .1) (l .i) h in
-    omega (arith, given-room (s .args .tree .now) (s .args .members .now) (s .args .x) (s .args .j) (s .args .at) (s .args .out .now) (s .pre .0) (s .pre .2) (l .i) (l .p) (l .out) (l .inv .2) h (c .before .before .before .before .if1 .taken) b, l .inv .2 .sized)
+    let b = member-layers (s .args .tree .now) (s .args .members .now) (s .args .j) (s .pre .0) (l .i) h in
+    omega (arith, given-room (s .args .tree .now) (s .args .members .now) (s .args .x) (s .args .j) (s .args .at) (s .args .out .now) (s .pre .1) (l .i) (l .p) (l .out) (l .inv .2) h (c .before .before .before .before .if1 .taken) b, l .inv .2 .sized)
 
 add-i : tie.Need-add-i Inv-loop μ-loop
 add-i c = omega arith
@@ -64,10 +62,10 @@ loop-again c =
     let s = c .before .before .before .before .before .before .before in
     let l = c .before .before .before .loop in
     let h : l .i < length (s .args .members .now) = omega arith in
-    let b = every-below (tree .n (s .args .j)) (s .args .members .now) (s .pre .1) (l .i) h in
+    let b = member-layers (s .args .tree .now) (s .args .members .now) (s .args .j) (s .pre .0) (l .i) h in
     ⊎-elim
-    (λ w. (omega arith, l .inv .1, given-turn (s .args .tree .now) (s .args .members .now) (s .args .x) (s .args .j) (s .args .at) (s .args .out .now) (s .pre .0) (s .pre .2) (l .i) (l .p) (l .out) (l .inv .2) h (w .0 .taken) b (c .if1 .out) (c .if1 .p) (ap length (w .5) ∙ w .2 .kept .1 .1 .1 .0) (w .5 ∙ w .2 .ensures) (w .6 ∙ omega arith)))
-    (λ w. (omega arith, l .inv .1, subst (λ (o : List ℕ). GivenAt (s .args .tree .now) (s .args .members .now) (s .args .x) (s .args .j) (s .args .at) (s .args .out .now) (l .i + 1) (c .if1 .p) o) (sym (w .1)) (subst (λ (q : ℕ). GivenAt (s .args .tree .now) (s .args .members .now) (s .args .x) (s .args .j) (s .args .at) (s .args .out .now) (l .i + 1) q (l .out)) (sym (w .2)) (given-skip (s .args .tree .now) (s .args .members .now) (s .args .x) (s .args .j) (s .args .at) (s .args .out .now) (s .pre .0) (s .pre .2) (l .i) (l .p) (l .out) (l .inv .2) h (w .0 .left)))))
+    (λ w. (omega arith, l .inv .1, given-turn (s .args .tree .now) (s .args .members .now) (s .args .x) (s .args .j) (s .args .at) (s .args .out .now) (s .pre .1) (l .i) (l .p) (l .out) (l .inv .2) h (w .0 .taken) b (c .if1 .out) (c .if1 .p) (ap length (w .5) ∙ w .2 .kept .1 .1 .1 .0) (w .5 ∙ w .2 .ensures) (w .6 ∙ omega arith)))
+    (λ w. (omega arith, l .inv .1, subst (λ (o : List ℕ). GivenAt (s .args .tree .now) (s .args .members .now) (s .args .x) (s .args .j) (s .args .at) (s .args .out .now) (l .i + 1) (c .if1 .p) o) (sym (w .1)) (subst (λ (q : ℕ). GivenAt (s .args .tree .now) (s .args .members .now) (s .args .x) (s .args .j) (s .args .at) (s .args .out .now) (l .i + 1) q (l .out)) (sym (w .2)) (given-skip (s .args .tree .now) (s .args .members .now) (s .args .x) (s .args .j) (s .args .at) (s .args .out .now) (s .pre .1) (l .i) (l .p) (l .out) (l .inv .2) h (w .0 .left)))))
     (c .if1 .came)
 
 same-length : tie.Need-same-length Inv-loop μ-loop

@@ -1,10 +1,11 @@
 -- `put_path` meets its contract: the way of the symbol above, where there is one.
 use mathlib.Core.Path.{refl, subst, sym}
-use Prim.Native.Nat.{_%_, _-_, _<_, ℕ}
+use Prim.Native.Nat.{_%_, _-_, suc, ℕ}
 use native.Mathlib.Omega.{arith}
 use borrow.Author.Needs.{needs}
-use Rattle.fault_writer.proofs.WayLaws.{layers-above, path-none, path-put}
-use Rattle.model.proofs.Shapes.{tree-ok, up-lt}
+use Rattle.fault_writer.proofs.WayLaws.{above-layers, path-none, path-put}
+use Rattle.fault_writer.specs.Room.{Layers}
+use Rattle.model.proofs.Shapes.{tree-ok}
 use Rattle.model.specs.Shape.{tree}
 use Rattle.model.specs.Symbols.{symAt}
 use Rattle.fault_writer.proofs.way.put_path.Statement.{statement}
@@ -22,8 +23,8 @@ rem-put-way c = omega (arith, c .data-count .ensures, tree-ok .shape .some (c .b
 put-way-requires : tie.Need-put-way-requires
 put-way-requires c κs =
     let s = c .before .before .before .before .before in (
-      layers-above (s .args .j) (s .args .j - 1) (s .args .tree .now) (omega arith) (s .pre .0),
-      subst (λ (q : ℕ). s .args .i % q < tree .n (s .args .j - 1)) (sym (c .before .data-count .ensures)) (up-lt tree (tree-ok .shape) (s .args .j - 1) (s .args .i)),
+      subst (λ (q : ℕ). Layers (s .args .j - 1) (suc (s .args .i % q)) (s .args .tree .now)) (sym (c .before .data-count .ensures))
+          (above-layers (s .args .tree .now) (s .args .j) 0 (s .args .j - 1) (s .args .i) (omega arith) (s .pre .0)),
       omega (arith, s .pre .1),
     )
 

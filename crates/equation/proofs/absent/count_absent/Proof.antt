@@ -5,16 +5,15 @@ use Prim.Native.Nat.{_+_, _-_, _≤_}
 use native.Mathlib.Nat.{zero-add}
 use native.Mathlib.Omega.{arith}
 use lib.ListN.{drop, getD, length}
-use Rattle.coded_tree.proofs.MarkLaws.{absent-is, held-is, mark-inside}
+use Rattle.coded_tree.proofs.MarkLaws.{absent-is, held-is}
 use Rattle.model.proofs.Counts.{count-drop, count-end}
 use Rattle.model.proofs.Members.{every-below}
 use Rattle.model.specs.Repair.{absentAt}
-use Rattle.model.specs.Shape.{places, tree}
+use Rattle.model.specs.Shape.{places}
 use Rattle.model.specs.Symbols.{bit, count}
-use Rattle.parity_table.specs.Shape.{nOf}
 use Rattle.model.specs.Shape.{tree as shape}
-use Rattle.peeling.proofs.equation.count_absent.Statement.{statement}
-use Rattle.peeling.proofs.equation.count_absent.Tie as tie
+use Rattle.equation.proofs.absent.count_absent.Statement.{statement}
+use Rattle.equation.proofs.absent.count_absent.Tie as tie
 
 abbrev Inv-loop : tie.InvT-loop
 Inv-loop members marks j base n₀ i₀ i-end n i =
@@ -24,7 +23,7 @@ abbrev μ-loop : tie.MeasureT-loop
 μ-loop members marks j base n₀ i₀ i-end n i = i-end - i
 
 first-place-requires : tie.Need-first-place-requires Inv-loop μ-loop
-first-place-requires c κs = omega (arith, c .before .before .pre .0)
+first-place-requires c κs = omega (arith, c .before .before .pre .layer)
 
 loop-holds : tie.Need-loop-holds Inv-loop μ-loop
 loop-holds c = (omega arith, refl, c .first-place .ensures, omega arith, zero-add _)
@@ -41,14 +40,14 @@ cast-if1 c = omega (arith, c .shared-slice-known3 .given (c .before .before .loo
 add-if1 : tie.Need-add-if1 Inv-loop μ-loop
 add-if1 c =
     let s = c .before .before .before .before .before .before in
-    let y = every-below (nOf (s .args .j)) (s .args .members .now) (s .pre .2) (c .before .before .loop .i) (omega arith) in
-    omega (arith, mark-inside (s .args .marks .now) (s .args .j) _ (c .before .before .loop .inv .2) _ y (s .pre .1))
+    let y = every-below (s .pre .symbols) (s .args .members .now) (s .pre .within) (c .before .before .loop .i) (omega arith) in
+    omega (arith, c .before .before .loop .inv .2, y, s .pre .room)
 
 shared-slice-read-if1-2 : tie.Need-shared-slice-read-if1-2 Inv-loop μ-loop
 shared-slice-read-if1-2 c =
     let s = c .before .before .before .before .before .before .before in
-    let y = every-below (nOf (s .args .j)) (s .args .members .now) (s .pre .2) (c .before .before .before .loop .i) (omega arith) in
-    omega (arith, mark-inside (s .args .marks .now) (s .args .j) _ (c .before .before .before .loop .inv .2) _ y (s .pre .1))
+    let y = every-below (s .pre .symbols) (s .args .members .now) (s .pre .within) (c .before .before .before .loop .i) (omega arith) in
+    omega (arith, c .before .before .before .loop .inv .2, y, s .pre .room)
 
 add-n : tie.Need-add-n Inv-loop μ-loop
 add-n c = omega arith

@@ -3,16 +3,15 @@ use mathlib.Core.Path.{_∙_, _≡_, refl, sym}
 use Prim.Native.Nat.{_-_, _≤_}
 use native.Mathlib.Omega.{arith}
 use lib.ListN.{drop, length}
-use Rattle.coded_tree.proofs.MarkLaws.{absent-is, held-is, mark-inside}
+use Rattle.coded_tree.proofs.MarkLaws.{absent-is, held-is}
 use Rattle.model.proofs.Counts.{first-end, first-here, first-skip}
 use Rattle.model.proofs.Members.{every-below}
 use Rattle.model.specs.Repair.{absentAt}
-use Rattle.model.specs.Shape.{places, tree}
+use Rattle.model.specs.Shape.{places}
 use Rattle.model.specs.Symbols.{firstOf}
-use Rattle.parity_table.specs.Shape.{nOf}
 use Rattle.model.specs.Shape.{tree as shape}
-use Rattle.peeling.proofs.equation.first_absent.Statement.{statement}
-use Rattle.peeling.proofs.equation.first_absent.Tie as tie
+use Rattle.equation.proofs.absent.first_absent.Statement.{statement}
+use Rattle.equation.proofs.absent.first_absent.Tie as tie
 
 abbrev Inv-loop : tie.InvT-loop
 Inv-loop members marks j base i₀ i-end i =
@@ -22,7 +21,7 @@ abbrev μ-loop : tie.MeasureT-loop
 μ-loop members marks j base i₀ i-end i = i-end - i
 
 first-place-requires : tie.Need-first-place-requires Inv-loop μ-loop
-first-place-requires c κs = omega (arith, c .before .before .pre .0)
+first-place-requires c κs = omega (arith, c .before .before .pre .layer)
 
 loop-holds : tie.Need-loop-holds Inv-loop μ-loop
 loop-holds c = (omega arith, refl, c .first-place .ensures, refl)
@@ -39,14 +38,14 @@ cast-y c = omega (arith, c .shared-slice-known3 .given (c .before .before .loop 
 add-if1 : tie.Need-add-if1 Inv-loop μ-loop
 add-if1 c =
     let s = c .before .before .before .before .before .before in
-    let y = every-below (nOf (s .args .j)) (s .args .members .now) (s .pre .2) (c .before .before .loop .i) (omega arith) in
-    omega (arith, mark-inside (s .args .marks .now) (s .args .j) _ (c .before .before .loop .inv .2) _ y (s .pre .1))
+    let y = every-below (s .pre .symbols) (s .args .members .now) (s .pre .within) (c .before .before .loop .i) (omega arith) in
+    omega (arith, c .before .before .loop .inv .2, y, s .pre .room)
 
 shared-slice-read-if1 : tie.Need-shared-slice-read-if1 Inv-loop μ-loop
 shared-slice-read-if1 c =
     let s = c .before .before .before .before .before .before .before in
-    let y = every-below (nOf (s .args .j)) (s .args .members .now) (s .pre .2) (c .before .before .before .loop .i) (omega arith) in
-    omega (arith, mark-inside (s .args .marks .now) (s .args .j) _ (c .before .before .before .loop .inv .2) _ y (s .pre .1))
+    let y = every-below (s .pre .symbols) (s .args .members .now) (s .pre .within) (c .before .before .before .loop .i) (omega arith) in
+    omega (arith, c .before .before .before .loop .inv .2, y, s .pre .room)
 
 returns : tie.Need-returns Inv-loop μ-loop
 returns c =

@@ -6,13 +6,13 @@ use borrow.Author.Tests.{le-leb, lt-leb}
 use Rattle.model.specs.Repair.{absentAt}
 use Rattle.model.specs.Shape.{tree}
 use Rattle.model.specs.Symbols.{count}
-use Rattle.peeling.proofs.TurnLaws.{act-refutes, act-uses, left-alone, taken}
-use Rattle.peeling.proofs.equation.take.Statement.{statement}
-use Rattle.peeling.proofs.equation.take.Tie as tie
+use Rattle.equation.proofs.TurnLaws.{act-refutes, act-uses, left-alone, taken}
+use Rattle.equation.proofs.cases.take.Statement.{statement}
+use Rattle.equation.proofs.cases.take.Tie as tie
 
 count-absent-requires : tie.Need-count-absent-requires
 count-absent-requires c κs =
-    (c .before .before .before .before .before .before .before .pre .work .layers .layer, c .before .before .before .before .before .before .before .pre .marks-room, c .before .before .before .before .before .before .before .pre .work .within)
+    c .before .before .before .before .before .before .before .pre .marked
 
 same-length : tie.Need-same-length
 same-length c = search needs
@@ -20,7 +20,7 @@ same-length c = search needs
 returns : tie.Need-returns
 returns c =
     let s = c .before .before .before .before .before .before .before .before .before in
-    left-alone (s .args .root .now) (s .args .members .now) (s .args .j) (s .args .e) (s .args .tree .now) (s .args .marks .now) (s .args .out .now) (s .args .used .now) _
+    left-alone (s .args .kind) (s .args .root .now) (s .args .members .now) (s .args .j) (s .args .e) (s .args .tree .now) (s .args .marks .now) (s .args .out .now) (s .args .used .now) _
     (lt-leb (count (absentAt tree (s .args .marks .now) (s .args .j)) (s .args .members .now)) 1 (omega (arith, c .before .count-absent .ensures, c .if1 .taken)))
 
 form-requires : tie.Need-form-requires
@@ -42,12 +42,12 @@ same-length-5 c = search needs
 returns-2 : tie.Need-returns-2
 returns-2 c =
     let s = c .before .before .before .before .before .before .before .before .before .before .before .before .before .before .before .before .before .before .before .before .before .before .before in
-    taken (s .args .root .now) (s .args .members .now) (s .args .j) (s .args .e) (s .args .tree .now) (s .args .marks .now) (s .args .out .now) (s .args .used .now) _
+    taken (s .args .kind) (s .args .root .now) (s .args .members .now) (s .args .j) (s .args .e) (s .args .tree .now) (s .args .marks .now) (s .args .out .now) (s .args .used .now) _
     (le-leb (count (absentAt tree (s .args .marks .now) (s .args .j)) (s .args .members .now)) 1 (omega (arith, c .before .before .before .before .before .before .before .before .before .before .before .before .before .before .before .count-absent .ensures, c .before .before .before .before .before .before .before .before .before .before .before .before .before .if2 .taken))) _ _ _ _ _ (c .before .before .before .before .before .before .before .before .form .ensures)
 
 holds-requires : tie.Need-holds-requires
 holds-requires c κs =
-    (c .before .before .before .before .before .before .before .before .before .before .before .pre .work .layers, c .before .before .before .before .before .before .before .before .before .before .before .pre .work .within)
+    c .before .before .before .before .before .before .before .before .before .before .before .pre .work .members
 
 slice-write-used : tie.Need-slice-write-used
 slice-write-used c =
@@ -66,9 +66,9 @@ returns-3 : tie.Need-returns-3
 returns-3 c =
     let s = c .before .before .before .before .before .before .before .before .before .before .before .before .before in
     let none : count (absentAt tree (s .args .marks .now) (s .args .j)) (s .args .members .now) ≡ 0 = omega (arith, c .before .before .before .before .before .count-absent .ensures, c .before .before .before .before .if1 .left, c .before .before .before .if2 .left) in
-    taken (s .args .root .now) (s .args .members .now) (s .args .j) (s .args .e) (s .args .tree .now) (s .args .marks .now) (s .args .out .now) (s .args .used .now) _
+    taken (s .args .kind) (s .args .root .now) (s .args .members .now) (s .args .j) (s .args .e) (s .args .tree .now) (s .args .marks .now) (s .args .out .now) (s .args .used .now) _
     (le-leb (count (absentAt tree (s .args .marks .now) (s .args .j)) (s .args .members .now)) 1 (omega arith)) _ _ _ _ _
-    (act-uses (s .args .root .now) (s .args .members .now) (s .args .j) (s .args .e) (s .args .tree .now) (s .args .marks .now) (s .args .out .now) (s .args .used .now) none _ (sym (c .before .holds .ensures) ∙ c .if3 .taken) refl)
+    (act-uses (s .args .kind) (s .args .root .now) (s .args .members .now) (s .args .j) (s .args .e) (s .args .tree .now) (s .args .marks .now) (s .args .out .now) (s .args .used .now) none _ (sym (c .before .holds .ensures) ∙ c .if3 .taken) refl)
 
 refute-requires : tie.Need-refute-requires
 refute-requires c κs =
@@ -87,9 +87,9 @@ returns-4 : tie.Need-returns-4
 returns-4 c =
     let s = c .before .before .before .before .before .before .before .before .before .before .before .before .before .before .before .before .before .before in
     let none : count (absentAt tree (s .args .marks .now) (s .args .j)) (s .args .members .now) ≡ 0 = omega (arith, c .before .before .before .before .before .before .before .before .before .before .count-absent .ensures, c .before .before .before .before .before .before .before .before .before .if1 .left, c .before .before .before .before .before .before .before .before .if2 .left) in
-    taken (s .args .root .now) (s .args .members .now) (s .args .j) (s .args .e) (s .args .tree .now) (s .args .marks .now) (s .args .out .now) (s .args .used .now) _
+    taken (s .args .kind) (s .args .root .now) (s .args .members .now) (s .args .j) (s .args .e) (s .args .tree .now) (s .args .marks .now) (s .args .out .now) (s .args .used .now) _
     (le-leb (count (absentAt tree (s .args .marks .now) (s .args .j)) (s .args .members .now)) 1 (omega arith)) _ _ _ _ _
-    (act-refutes (s .args .root .now) (s .args .members .now) (s .args .j) (s .args .e) (s .args .tree .now) (s .args .marks .now) (s .args .out .now) (s .args .used .now) none _ _ (sym (c .before .before .before .before .before .before .holds .ensures) ∙ c .before .before .before .before .before .if3 .left) (c .before .before .refute .ensures))
+    (act-refutes (s .args .kind) (s .args .root .now) (s .args .members .now) (s .args .j) (s .args .e) (s .args .tree .now) (s .args .marks .now) (s .args .out .now) (s .args .used .now) none _ _ (sym (c .before .before .before .before .before .before .holds .ensures) ∙ c .before .before .before .before .before .if3 .left) (c .before .before .refute .ensures))
 
 pub take-spec : {M : Type 1} → statement M
 take-spec =

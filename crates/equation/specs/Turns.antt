@@ -7,14 +7,14 @@ use lib.ListN.{getD, set}
 use lib.Dec.{leb, eqb}
 use Rattle.octets.specs.Choice.{pick}
 use Rattle.parity_table.specs.Members.{lastOf}
-use Rattle.parity_table.specs.Table.{equationOf}
 use Rattle.model.specs.Shape.{tree, place}
 use Rattle.model.specs.Symbols.{count, others, xorOf, symAt}
 use Rattle.model.specs.Repair.{End, working, absentAt, refute, act}
 use Rattle.symbol_hash.specs.SymbolHash.{symbolHash}
-use Rattle.peeling.specs.declared.Turn.{Turn}
-use Rattle.peeling.specs.declared.Turn.the-variants.{Left, Used, Stored, Fault, Twins}
-use Rattle.peeling.specs.States.{state}
+use Rattle.symbol_hash.specs.declared.Kind.{Kind}
+use Rattle.equation.specs.declared.Turn.{Turn}
+use Rattle.equation.specs.declared.Turn.the-variants.{Left, Used, Stored, Fault, Twins}
+use Rattle.equation.specs.States.{state}
 use Rattle.model.specs.Repair as repair
 
 -- the symbols stored once a turn is over, and the end that it is, at equation e of layer j
@@ -41,14 +41,14 @@ Changed ms j e m u m′ u′ (Fault x n) = m′ ≡ m
 Changed ms j e m u m′ u′ (Twins x) = m′ ≡ m
 
 -- equation e, with members ms, was taken
-pub record Took (root ms : List ℕ) (j e : ℕ) (t m o u t′ m′ o′ u′ : List ℕ) (r : Turn) : Type 0 where
-  pub goes : (s d : ℕ) → act tree symbolHash root j e ms (state t m o u s d working) ≡ state t′ m′ o′ u′ (storedBy r s) d (endBy j e r)
+pub record Took (kind : Kind) (root ms : List ℕ) (j e : ℕ) (t m o u t′ m′ o′ u′ : List ℕ) (r : Turn) : Type 0 where
+  pub goes : (s d : ℕ) → act tree (symbolHash kind) root j e ms (state t m o u s d working) ≡ state t′ m′ o′ u′ (storedBy r s) d (endBy j e r)
   pub changed : Changed ms j e m u m′ u′ r
 
 -- it was refuted, none of its members being absent
-pub record Refuted (root ms : List ℕ) (j e : ℕ) (t o o′ : List ℕ) (r : Turn) : Type 0 where
+pub record Refuted (kind : Kind) (root ms : List ℕ) (j e : ℕ) (t o o′ : List ℕ) (r : Turn) : Type 0 where
   pub goes : (m u : List ℕ) (s d : ℕ)
-      → refute tree symbolHash root j e ms (lastOf ms 0) (xorOf (symAt tree t j) (others (lastOf ms 0) ms)) (state t m o u s d working)
+      → refute tree (symbolHash kind) root j e ms (lastOf ms 0) (xorOf (symAt tree t j) (others (lastOf ms 0) ms)) (state t m o u s d working)
       ≡ state t m o′ u (storedBy r s) d (endBy j e r)
   pub changed : (m u : List ℕ) → Changed ms j e m u m u r
 
@@ -60,9 +60,9 @@ Told b ms j e m u m′ u′ (Stored x) = (b ≡ true) × Changed ms j e m u m′
 Told b ms j e m u m′ u′ (Fault x n) = b ≡ true
 Told b ms j e m u m′ u′ (Twins x) = b ≡ true
 
-pub record Turned (b : Bool) (root ms : List ℕ) (j e : ℕ) (t m o u t′ m′ o′ u′ : List ℕ) (r : Turn) : Type 0 where
+pub record Turned (b : Bool) (kind : Kind) (root ms : List ℕ) (j e : ℕ) (t m o u t′ m′ o′ u′ : List ℕ) (r : Turn) : Type 0 where
   pub goes : (s d : ℕ)
-      → pick b (act tree symbolHash root j e ms (state t m o u s d working)) (state t m o u s d working)
+      → pick b (act tree (symbolHash kind) root j e ms (state t m o u s d working)) (state t m o u s d working)
       ≡ state t′ m′ o′ u′ (storedBy r s) d (endBy j e r)
   pub told : Told b ms j e m u m′ u′ r
 
@@ -70,6 +70,6 @@ pub record Turned (b : Bool) (root ms : List ℕ) (j e : ℕ) (t m o u t′ m′
 abbrev pub few : ℕ → List ℕ → List ℕ → Bool
 few j m ms = leb (count (absentAt tree m j) ms) 1
 
--- .. and equation e is unused
-abbrev pub can : List (List (List ℕ)) → ℕ → List ℕ → List ℕ → ℕ → Bool
-can tbl j m u e = eqb (getD u e 0) 0 && few j m (equationOf tbl j e)
+-- .. and equation e, which has the members ms, is unused
+abbrev pub can : ℕ → List ℕ → List ℕ → ℕ → List ℕ → Bool
+can j m u e ms = eqb (getD u e 0) 0 && few j m ms

@@ -1,0 +1,2 @@
+pub mod CommittedLaws
+pub mod TurnLaws

@@ -1,0 +1,51 @@
+-- `holds` meets its contract: the exclusive-or of all members, compared with zeros.
+use mathlib.Core.Path.{_∙_, refl}
+use native.Mathlib.Omega.{arith}
+use borrow.Author.Needs.{needs}
+use Rattle.model.specs.Symbols.{zeros}
+use Rattle.equation.proofs.TurnLaws.{holds-is, xor-there}
+use Rattle.equation.proofs.cases.holds.Statement.{statement}
+use Rattle.equation.proofs.cases.holds.Tie as tie
+
+slice-aggregate-xor-others : tie.Need-slice-aggregate-xor-others
+slice-aggregate-xor-others c = search needs
+
+first-place-requires : tie.Need-first-place-requires
+first-place-requires c κs = omega (arith, c .before .before .before .pre .layers .layer)
+
+xor-others-requires : tie.Need-xor-others-requires
+unfolding zeros
+xor-others-requires c κs =
+    let k = c .before .before .before .before .pre in
+    (refl, (k .symbols, omega (arith, c .first-place .ensures, k .layers .room), k .within))
+
+slice-aggregate-equal-at : tie.Need-slice-aggregate-equal-at
+slice-aggregate-equal-at c = search needs
+
+slice-aggregate-equal-at-2 : tie.Need-slice-aggregate-equal-at-2
+slice-aggregate-equal-at-2 c = search needs
+
+equal-at-requires : tie.Need-equal-at-requires
+equal-at-requires c κs = search needs
+
+returns : tie.Need-returns
+unfolding zeros
+returns c =
+    let x = c .before .before .before .before in
+    let p = x .before .first-place in
+    let s = x .before .before .before .before .before in
+    let a = s .args in
+    c .equal-at .ensures
+    ∙ holds-is (a .j) _ (a .tree .now) (a .members .now) _ (s .pre) (omega arith) (xor-there (a .tree .now) (a .members .now) _ (a .j) _ _ (p .ensures) (x .xor-others .ensures))
+
+pub holds-spec : {M : Type 1} → statement M
+holds-spec =
+    tie.close
+    (tie.spec
+    slice-aggregate-xor-others
+    first-place-requires
+    xor-others-requires
+    slice-aggregate-equal-at
+    slice-aggregate-equal-at-2
+    equal-at-requires
+    returns)
