@@ -1,61 +1,127 @@
 -- One layer of a repair on the lent buffers: sweep, peeling and (c) are the definition's layer.
 use mathlib.Core.Bool.{false}
 use mathlib.Core.List.{List, _∷_}
-use mathlib.Core.Path.{_∙_, _≡_, ap, refl, sym}
-use Prim.Native.Nat.{_*_, _-_, _<_, _^_, _≤_, suc, zero, ℕ}
+use mathlib.Core.Path.{_∙_, _≡_, ap, ap₂, refl, subst, sym}
+use Prim.Native.Nat.{_*_, _+_, _-_, _<_, _^_, _≤_, suc, zero, ℕ}
 use native.Mathlib.Omega.{arith}
 use lib.Dec.{ltb}
-use lib.ListN.{length, replicate, take}
+use lib.ListN.{drop, getD, length, length-replicate, replicate, take}
 use lib.Pow.{pow-mono}
 use borrow.Author.Tests.{le-ltb, lt-ltb}
-use Rattle.model.proofs.Frame.{room}
-use Rattle.model.proofs.Peel.{peeled}
-use Rattle.model.proofs.Shapes.{places-mono}
-use Rattle.model.specs.Repair.{absentAt, endAs, enter, fresh, gapsLeft, going, layer, layers, peel, settle, sweep, unavailable, working}
-use Rattle.model.specs.Shape.{tree}
-use Rattle.model.specs.Symbols.{lowest}
 use Rattle.octets.proofs.Choice.{by-test, pick-no, pick-yes}
 use Rattle.octets.specs.Choice.{pick}
-use Rattle.parity_table.proofs.Accepts.{accepted-depth, accepted-table}
-use Rattle.parity_table.specs.Parse.{tableOf}
-use Rattle.parity_table.specs.Shape.{kOf, maxDepth}
-use Rattle.parity_table.specs.Table.{layerOf}
-use Rattle.peeling.specs.Rooms.{Lent, Level}
-use Rattle.peeling.specs.States.{Came, Moved, state}
+use Rattle.parity_table.proofs.Accepts.{accepted-depth, accepted-table, located, start-inside, start-known}
+use Rattle.parity_table.proofs.Parse.{members-take}
+use Rattle.parity_table.proofs.Rules.{members-below}
+use Rattle.parity_table.specs.Members.{every}
+use Rattle.parity_table.specs.Parse.{HasEquation, numberIn, tableOf}
+use Rattle.parity_table.specs.Shape.{kOf, maxDepth, nOf}
+use Rattle.parity_table.specs.Table.{EquationOk, equationOf, layerOf}
+use Rattle.model.proofs.Shapes.{n-small, places-mono}
+use Rattle.model.specs.Fault.{proofLength}
+use Rattle.model.specs.Repair.{End, St, absentAt, endAs, enter, fresh, gapsLeft, going, layer, peel, settle, sweep, unavailable, working}
+use Rattle.model.specs.Shape.{places, tree}
+use Rattle.model.specs.Symbols.{lowest}
+use Rattle.symbol_hash.specs.SymbolHash.{symbolHash}
+use Rattle.symbol_hash.specs.declared.Kind.{Kind}
+use Rattle.equation.specs.Rooms.{Stands, membersAt}
+use Rattle.equation.specs.States.{state}
+use Rattle.peeling.proofs.FirstLaws.{within-longer}
+use Rattle.peeling.specs.Firsts.{NoneBefore}
+use Rattle.peeling.specs.Levels.{Lent, Level, Listed, Peelable, Reads}
+use Rattle.peeling.specs.States.{Came, Moved}
+use Rattle.peeling.specs.States.{endOf as endAfter}
+use Rattle.peeling.specs.declared.Outcome.{Outcome}
+use Rattle.peeling.specs.declared.Outcome.the-variants as outcome
 use Rattle.repair.specs.Buffers.{Given}
 use Rattle.repair.specs.Reports.{Layered, endOf, passes, settled}
 use Rattle.repair.specs.declared.layer.Passage.{Passage}
-use Rattle.symbol_hash.specs.SymbolHash.{symbolHash}
-use Rattle.model.specs.Repair.{End, St}
-use Rattle.peeling.specs.declared.Outcome.{Outcome}
-use Rattle.peeling.specs.declared.Outcome.the-variants as outcome
-use Rattle.peeling.specs.States.{endOf as endAfter}
 
 -- ---- what its calls ask
 
-pub given-keep : (d : ℕ) (ws starts root t m o t′ m′ o′ : List ℕ) → length t′ ≡ length t → length m′ ≡ length m → length o′ ≡ length o
+-- the data symbols of a layer are at most those of the lowest one
+pub k-low : (j : ℕ) → j < maxDepth → kOf j ≤ 4 * 2 ^ (maxDepth - 1)
+unfolding kOf
+k-low j h = omega (arith, pow-mono {i = j} {j = maxDepth - 1} (omega arith))
+
+-- the equations of the lowest layer of a tree of the largest depth
+abbrev pub mostEquations : ℕ
+mostEquations = 3 * (4 * 2 ^ (maxDepth - 1))
+
+pub given-keep : {d : ℕ} {ws starts root t m o t′ m′ o′ : List ℕ} → length t′ ≡ length t → length m′ ≡ length m → length o′ ≡ length o
     → Given d ws starts root t m o → Given d ws starts root t′ m′ o′
-given-keep d ws starts root t m o t′ m′ o′ lt lm lo k =
+given-keep lt lm lo k =
     record { indexed = k .indexed; root-full = k .root-full; tree-full = lt ∙ k .tree-full; marks-full = lm ∙ k .marks-full; out-full = lo ∙ k .out-full }
 
-module _ (d : ℕ) (ws starts root t m o : List ℕ) (k : Given d ws starts root t m o) (j : ℕ) (hj : j < d) where
+module _ {d : ℕ} {ws starts root t m o : List ℕ} (k : Given d ws starts root t m o) (j : ℕ) (hj : j < d) where
   pub layer-below : j < maxDepth
   layer-below = omega (arith, accepted-depth d ws (k .indexed .accepted) .1)
 
-  pub level : Level root t m j
+  pub level : Level root t m j (nOf j)
+  unfolding places nOf kOf
   level =
       record {
         layers = record { layer = layer-below; room = omega (arith, k .tree-full, places-mono tree (suc j) d hj) };
-        root-full = k .root-full;
+        rooted = record { top = λ z. omega (arith, k .root-full, ap nOf z); hung = λ z. omega arith };
         marks-room = omega (arith, k .marks-full, places-mono tree (suc j) d hj);
       }
 
-  pub lent : (u : List ℕ) → length u ≡ 3 * kOf j → Lent root ws starts t m o u j
-  lent u l =
-      record { depth = d; indexed = k .indexed; in-depth = hj; level = level; out-room = omega (arith, k .out-full); used-full = l }
+  pub equations : length (layerOf (tableOf ws) j) ≡ 3 * kOf j
+  equations = accepted-table d ws (k .indexed .accepted) .equations j hj
 
-  pub equations : 3 * kOf j ≡ length (layerOf (tableOf ws) j)
-  equations = sym (accepted-table d ws (k .indexed .accepted) .equations j hj)
+  -- its equations in the words, the first being number `from`
+  module _ (from : ℕ) (ef : from ≡ numberIn j 0) where
+    module _ (e : ℕ) (he : e < 3 * kOf j) where
+      has : HasEquation ws starts j e
+      has = record { depth = d; indexed = k .indexed; layer = hj; equation = he }
+
+      number : numberIn j e ≡ from + e
+      unfolding numberIn
+      number = omega arith
+
+      stands : Stands ws starts (from + e)
+      stands =
+          subst (Stands ws starts) number (record { listed = start-known ws starts j e has; inside = start-inside ws starts j e has })
+
+      there : membersAt ws starts (from + e) ≡ equationOf (tableOf ws) j e
+      there = ap (membersAt ws starts) (sym number) ∙ members-take (drop (getD starts (numberIn j e) 0) ws) ∙ located ws starts j e has .members
+
+      rules : EquationOk j e (equationOf (tableOf ws) j e)
+      rules = accepted-table d ws (k .indexed .accepted) .members j e hj he
+
+    pub listed : (n symbols : ℕ) → n ≡ 3 * kOf j → nOf j ≤ symbols → Listed ws starts from n symbols
+    listed n symbols en h =
+        record {
+          stands = λ e l. stands e (omega arith);
+          within = λ e l.
+              within-longer (nOf j) symbols (membersAt ws starts (from + e)) h
+              (ap (every (λ y. ltb y (nOf j))) (there e (omega arith)) ∙ members-below d (tableOf ws) (accepted-table d ws (k .indexed .accepted)) j e hj (omega arith));
+        }
+
+    pub reads : (n : ℕ) → n ≡ 3 * kOf j → Reads (tableOf ws) ws starts from j n
+    reads n en = record { count = equations ∙ sym en; members = λ e l. sym (there e (omega arith)) }
+
+    lent : (u : List ℕ) → length u ≡ 3 * kOf j → Lent root ws starts t m o u from j
+    unfolding proofLength
+    lent u l =
+        record {
+          symbols = nOf j;
+          numbered = omega (arith, n-small j layer-below);
+          level = level;
+          listed = listed (length u) (nOf j) l (omega arith);
+          low = omega (arith, k-low j layer-below);
+          most = 8;
+          sized = λ e h.
+              let he : e < 3 * kOf j = omega arith in
+              (omega (arith, ap length (there e he), rules e he .some), omega (arith, ap length (there e he), rules e he .few));
+          out-room = omega (arith, k .out-full);
+          twins-room = omega (arith, k .out-full);
+        }
+
+    pub peelable : (first u : List ℕ) → length u ≡ 3 * kOf j → nOf j ≤ length first → NoneBefore ws starts from (length u) first
+        → Peelable root ws starts first t m o u from j 0
+    unfolding lent
+    peelable first u l h nb = record { lent = lent u l; first-room = h; none-before = nb; passed = λ e b. absurd (omega arith) }
 
 -- the front of an array of zeros
 pub front-zeros : (n k : ℕ) → k ≤ n → take {A = ℕ} k (replicate n 0) ≡ replicate k 0
@@ -86,22 +152,19 @@ settle-is t m o u s d j (outcome.Twins x) = pick-no false _ _ refl
 
 -- ---- the layer
 
-module _ (root : List ℕ) (tbl : List (List (List ℕ))) (j n : ℕ) (en : n ≡ length (layerOf tbl j)) (t m o t₁ m₁ t′ m′ o′ u₁ u′ : List ℕ) (s s′ : ℕ) (z : Outcome)
-    (swept : Moved (sweep tree symbolHash root j 0 (tree .n j)) t m t₁ m₁) (eu : u₁ ≡ replicate n 0)
-    (peeled : Came (peel tree symbolHash root tbl j n) j t₁ m₁ o u₁ t′ m′ o′ u′ s s′ z) where
-  worked : (u : List ℕ) (d : ℕ) → layer tree symbolHash root tbl j (state t m o u s d working) ≡ state t′ m′ o′ u′ s′ (suc j) (settled z m′ j)
+module _ (kind : Kind) (root : List ℕ) (tbl : List (List (List ℕ))) (j n : ℕ) (en : n ≡ tree .n j) {t m o t₁ m₁ t′ m′ o′ u₁ u′ : List ℕ} {s s′ : ℕ} {z : Outcome}
+    (swept : Moved (sweep tree (symbolHash kind) root j 0 n) t m t₁ m₁) (eu : u₁ ≡ replicate (length (layerOf tbl j)) 0)
+    (peeled : Came (peel tree (symbolHash kind) root tbl j (length u₁)) j t₁ m₁ o u₁ t′ m′ o′ u′ s s′ z) where
+  worked : (u : List ℕ) (d : ℕ) → layer tree (symbolHash kind) root tbl j (state t m o u s d working) ≡ state t′ m′ o′ u′ s′ (suc j) (settled z m′ j)
   unfolding layer enter fresh going pick
   worked u d =
-      ap (λ (st : St). settle tree j (peel tree symbolHash root tbl j (length (layerOf tbl j)) st)) (swept .goes o (replicate (length (layerOf tbl j)) 0) s (suc j))
-      ∙ ap (λ (q : ℕ). settle tree j (peel tree symbolHash root tbl j q (state t₁ m₁ o (replicate q 0) s (suc j) working))) (sym en)
-      ∙ ap (λ (l : List ℕ). settle tree j (peel tree symbolHash root tbl j n (state t₁ m₁ o l s (suc j) working))) (sym eu)
+      let l : List ℕ = replicate (length (layerOf tbl j)) 0 in
+      let lu : length (layerOf tbl j) ≡ length u₁ = sym (ap length eu ∙ length-replicate (length (layerOf tbl j)) 0) in
+      ap (λ (q : ℕ). settle tree j (peel tree (symbolHash kind) root tbl j (length (layerOf tbl j)) (sweep tree (symbolHash kind) root j 0 q (state t m o l s (suc j) working)))) (sym en)
+      ∙ ap₂ (λ (st : St) (q : ℕ). settle tree j (peel tree (symbolHash kind) root tbl j q st)) (swept .goes o l s (suc j)) lu
+      ∙ ap (λ (v : List ℕ). settle tree j (peel tree (symbolHash kind) root tbl j (length u₁) (state t₁ m₁ o v s (suc j) working))) (sym eu)
       ∙ ap (settle tree j) (peeled .goes (suc j))
       ∙ settle-is t′ m′ o′ u′ s′ (suc j) j z
 
-  pub layered : (r : Passage) → passes r ≡ settled z m′ j → Layered root tbl j t m o t′ m′ o′ s s′ r
+  pub layered : (r : Passage) → passes r ≡ settled z m′ j → Layered kind root tbl j t m o t′ m′ o′ s s′ r
   layered r e = record { used = u′; goes = λ u d. worked u d ∙ ap (λ (q : End). state t′ m′ o′ u′ s′ (suc j) q) (sym e) }
-
--- the data symbols of a layer are at most those of the lowest one
-pub k-low : (j : ℕ) → j < maxDepth → kOf j ≤ 4 * 2 ^ (maxDepth - 1)
-unfolding kOf
-k-low j h = omega (arith, pow-mono {i = j} {j = maxDepth - 1} (omega arith))

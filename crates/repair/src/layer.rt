@@ -2,12 +2,14 @@
 use crate::End;
 use parity_table::MAX_DEPTH;
 use parity_table::data_count;
+use parity_table::index;
 use peeling::Outcome;
 use peeling::first;
 use peeling::peel_layer;
 use peeling::sweep_layer;
+use symbol_hash::Kind;
 ghost use mathlib.Core.Path.{_≡_};
-ghost use Prim.Native.Nat.{suc, _+_, _*_, _^_, _<_, _≤_};
+ghost use Prim.Native.Nat.{ℕ, suc, _+_, _*_, _^_, _<_, _≤_};
 ghost use lib.ListN.{length};
 ghost use Rattle.parity_table.specs.Shape.{maxDepth, kOf};
 ghost use Rattle.parity_table.specs.Parse.{tableOf};
@@ -62,7 +64,7 @@ fn settle(outcome: Outcome, marks: &[u8], j: usize) -> Passage
 
 // Repairs layer j, with so many symbols stored before.
 pub fn repair_layer(
-    depth: usize,
+    kind: Kind,
     words: &[u32],
     starts: &[usize],
     root: &[u8],
@@ -72,27 +74,32 @@ pub fn repair_layer(
     j: usize,
     stored: usize,
 ) -> Passed
-    requires { ⌜ Given depth (now words) (now starts) (now root) (now tree) (now marks) (now out) × (j < depth) × (stored ≤ 2 ^ 20) ⌝ }
+    requires { ⌜ ((depth : ℕ) × Given depth (now words) (now starts) (now root) (now tree) (now marks) (now out) × (j < depth)) × (stored ≤ 2 ^ 20) ⌝ }
     ensures { λ r.
-        ⌜ Layered (now (root .entry)) (tableOf (now (words .entry))) j (now (tree .entry)) (now (marks .entry)) (now (out .entry))
+        ⌜ Layered kind (now (root .entry)) (tableOf (now (words .entry))) j (now (tree .entry)) (now (marks .entry)) (now (out .entry))
         (now (tree .exit)) (now (marks .exit)) (now (out .exit)) stored (r .stored) (r .passage)
         × (r .stored ≤ stored + 3 * kOf j) ⌝ }
 {
-    let n = 3 * data_count(j);
+    let k = data_count(j);
+    let n = 3 * k;
+    let from = index::number_of(j, 0);
     let mut first = [0usize; 4 * MAX_DATA];
     let mut used = [0u8; 3 * MAX_DATA];
-    first::fill(depth, words, starts, j, &mut first);
-    sweep_layer(root, tree, marks, j);
+    first::fill(words, starts, from, n, &mut first);
+    sweep_layer(kind, root, tree, marks, j, 4 * k);
     let run = peel_layer(
+        kind,
         root,
         words,
         starts,
+        from,
         &first,
         tree,
         marks,
         out,
         &mut used[..n],
         j,
+        0,
         stored,
     );
     let outcome = run.outcome;

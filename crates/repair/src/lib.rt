@@ -3,6 +3,7 @@ mod layer; // one layer: (a), (b), (c)
 
 use layer::Passage;
 use layer::repair_layer;
+use symbol_hash::Kind;
 ghost use Prim.Native.Nat.{_≤_};
 ghost use Rattle.parity_table.specs.Parse.{tableOf, equationsAbove};
 ghost use Rattle.repair.specs.Buffers.{Given};
@@ -33,8 +34,9 @@ pub struct Report {
     pub end: End,
 }
 
-// Repairs a tree.
+// Repairs a tree whose symbols are hashed by their volume's kind.
 pub fn repair(
+    kind: Kind,
     depth: usize,
     words: &[u32],
     starts: &[usize],
@@ -45,13 +47,13 @@ pub fn repair(
 ) -> Report
     requires { ⌜ Given depth (now words) (now starts) (now root) (now tree) (now marks) (now out) ⌝ }
     ensures { λ r.
-        ⌜ Repaired (now (root .entry)) (tableOf (now (words .entry))) (now (tree .entry)) (now (marks .entry)) (now (out .entry))
+        ⌜ Repaired kind (now (root .entry)) (tableOf (now (words .entry))) (now (tree .entry)) (now (marks .entry)) (now (out .entry))
         (now (tree .exit)) (now (marks .exit)) (now (out .exit)) (r .stored) (r .end)
         × (r .stored ≤ equationsAbove depth) ⌝ }
 {
     let mut stored: usize = 0;
     for j in 0..depth {
-        let r = repair_layer(depth, words, starts, root, tree, marks, out, j, stored);
+        let r = repair_layer(kind, words, starts, root, tree, marks, out, j, stored);
         stored = r.stored;
         let passage = r.passage;
         if let Passage::Stop(end) = passage {

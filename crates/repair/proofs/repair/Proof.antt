@@ -14,24 +14,23 @@ use Rattle.repair.proofs.repair.Statement.{statement}
 use Rattle.repair.proofs.repair.Tie as tie
 
 abbrev Inv-loop : tie.InvT-loop
-Inv-loop depth words starts root tree₀ marks₀ out₀ stored₀ j₀ tree marks out stored j =
-    (j ≤ depth) × (length tree ≡ length tree₀) × (length marks ≡ length marks₀) × (length out ≡ length out₀) × (stored ≤ equationsAbove j) × Deep root (tableOf words) tree₀ marks₀ out₀ j tree marks out stored
+Inv-loop kind depth words starts root tree₀ marks₀ out₀ stored₀ j₀ tree marks out stored j =
+    (j ≤ depth) × (length tree ≡ length tree₀) × (length marks ≡ length marks₀) × (length out ≡ length out₀) × (stored ≤ equationsAbove j) × Deep kind root (tableOf words) tree₀ marks₀ out₀ j tree marks out stored
 
 abbrev μ-loop : tie.MeasureT-loop
-μ-loop depth words starts root tree₀ marks₀ out₀ stored₀ j₀ tree marks out stored j = depth - j
+μ-loop kind depth words starts root tree₀ marks₀ out₀ stored₀ j₀ tree marks out stored j = depth - j
 
 loop-holds : tie.Need-loop-holds Inv-loop μ-loop
 loop-holds c =
     let s = c .before .before .before .before .before .before in
-    (omega arith, refl, refl, refl, stored-start, deep-start (s .args .root .now) (tableOf (s .args .words .now)) (s .args .tree .now) (s .args .marks .now) (s .args .out .now))
+    (omega arith, refl, refl, refl, stored-start, deep-start (s .args .kind) (s .args .root .now) (tableOf (s .args .words .now)) (s .args .tree .now) (s .args .marks .now) (s .args .out .now))
 
 repair-layer-requires : tie.Need-repair-layer-requires Inv-loop μ-loop
 repair-layer-requires c κs =
     let s = c .before .before .before .before .before .before .before .before .before .before .before in
     let i = c .before .before .before .before .loop .inv in
     let d = accepted-depth (s .args .depth) (s .args .words .now) (s .pre .indexed .accepted) .1 in (
-      given-keep (s .args .depth) (s .args .words .now) (s .args .starts .now) (s .args .root .now) (s .args .tree .now) (s .args .marks .now) (s .args .out .now) _ _ _ (i .1) (i .2) (i .3) (s .pre),
-      c .before .before .before .loop-test .taken,
+      (s .args .depth, given-keep (i .1) (i .2) (i .3) (s .pre), c .before .before .before .loop-test .taken),
       omega (arith, stored-small (c .before .before .before .before .loop .j) (omega (arith, d, i .0)), i .4),
     )
 
@@ -55,7 +54,7 @@ returns c =
     let s = c .before .before .before .before .before .before .before .before .before .before .before .before .before .before .before .before .before .before .before .before .before in
     let l = c .before .before .before .before .before .before .before .before .before .before .before .before .before .before .loop in
     let h = depth-is (s .args .depth) (s .args .words .now) (s .pre .indexed .accepted) in (
-      deep-stop (s .args .root .now) (tableOf (s .args .words .now)) (s .args .tree .now) (s .args .marks .now) (s .args .out .now) (l .j) (omega (arith, h, c .before .before .before .before .before .before .before .before .before .before .before .before .before .loop-test .taken)) (l .tree) (l .marks) (l .out) (l .stored) (l .inv .5) _ _ _ _ _ (c .before .before .before .before .before .before .before .before .before .repair-layer .ensures .0) _ (c .before .passage .given .1),
+      deep-stop (s .args .kind) (s .args .root .now) (tableOf (s .args .words .now)) (s .args .tree .now) (s .args .marks .now) (s .args .out .now) (l .j) (omega (arith, h, c .before .before .before .before .before .before .before .before .before .before .before .before .before .loop-test .taken)) (l .tree) (l .marks) (l .out) (l .stored) (l .inv .5) _ _ _ _ _ (c .before .before .before .before .before .before .before .before .before .repair-layer .ensures .0) _ (c .before .passage .given .1),
       stored-below (l .j + 1) (s .args .depth) _ (omega (arith, c .before .before .before .before .before .before .before .before .before .before .before .before .before .loop-test .taken)) (stored-on (l .j) (l .stored) _ (l .inv .4) (c .before .before .before .before .before .before .before .before .before .repair-layer .ensures .1)),
     )
 
@@ -78,7 +77,7 @@ loop-again c =
       c .before .before .before .before .before .before .before .before .repair-layer .kept .1 .1 .1 .1 .1 .0 ∙ l .inv .2,
       c .before .before .before .before .before .before .before .before .repair-layer .kept .1 .1 .1 .1 .1 .1 .0 ∙ l .inv .3,
       stored-on (l .j) (l .stored) _ (l .inv .4) (c .before .before .before .before .before .before .before .before .repair-layer .ensures .1),
-      deep-on (s .args .root .now) (tableOf (s .args .words .now)) (s .args .tree .now) (s .args .marks .now) (s .args .out .now) (l .j) (omega (arith, h, c .before .before .before .before .before .before .before .before .before .before .before .before .loop-test .taken)) (l .tree) (l .marks) (l .out) (l .stored) (l .inv .5) _ _ _ _ _ (c .before .before .before .before .before .before .before .before .repair-layer .ensures .0) (c .enum-told .given .1),
+      deep-on (s .args .kind) (s .args .root .now) (tableOf (s .args .words .now)) (s .args .tree .now) (s .args .marks .now) (s .args .out .now) (l .j) (omega (arith, h, c .before .before .before .before .before .before .before .before .before .before .before .before .loop-test .taken)) (l .tree) (l .marks) (l .out) (l .stored) (l .inv .5) _ _ _ _ _ (c .before .before .before .before .before .before .before .before .repair-layer .ensures .0) (c .enum-told .given .1),
     )
 
 same-length-4 : tie.Need-same-length-4 Inv-loop μ-loop
@@ -95,7 +94,7 @@ returns-2 c =
     let s = c .before .before .before .before .before .before .before .before in
     let l = c .before .loop in
     let h = depth-is (s .args .depth) (s .args .words .now) (s .pre .indexed .accepted) in (
-      deep-end (s .args .root .now) (tableOf (s .args .words .now)) (s .args .tree .now) (s .args .marks .now) (s .args .out .now) (l .j) (l .tree) (l .marks) (l .out) (l .stored) (omega (arith, h)) (l .inv .5),
+      deep-end (s .args .kind) (s .args .root .now) (tableOf (s .args .words .now)) (s .args .tree .now) (s .args .marks .now) (s .args .out .now) (l .j) (l .tree) (l .marks) (l .out) (l .stored) (omega (arith, h)) (l .inv .5),
       stored-below (l .j) (s .args .depth) (l .stored) (l .inv .0) (l .inv .4),
     )
 

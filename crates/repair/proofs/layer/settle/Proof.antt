@@ -6,7 +6,7 @@ use borrow.Author.Needs.{needs}
 use Rattle.model.specs.Repair.{absentAt}
 use Rattle.model.specs.Shape.{places, tree}
 use Rattle.model.specs.Symbols.{lowest}
-use Rattle.parity_table.proofs.Parse.{k-small}
+use Rattle.parity_table.proofs.Shape.{k-small}
 use Rattle.parity_table.specs.Shape.{nOf}
 use Rattle.peeling.specs.declared.Outcome.{Outcome}
 use Rattle.repair.proofs.LayerLaws.{settled-full, settled-gaps}
