@@ -23,8 +23,3 @@ answer m d = pick (fits m d) Done Length
 -- what the digest holds afterwards
 unfoldable pub after : List ℕ → List ℕ → List ℕ
 after m d = pick (fits m d) (sha256 m) d
-
--- the number of an answer: 0 done, 2 a wrong length
-abbrev pub number : Answer → ℕ
-number Done = 0
-number Length = 2

@@ -1,0 +1,4 @@
+pub mod MarkLaws
+pub mod LengthLaws
+pub mod TestLaws
+pub mod AdmissionLaws

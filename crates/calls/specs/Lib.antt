@@ -1,0 +1,4 @@
+pub mod Stops
+pub mod Marks
+pub mod Lengths
+pub mod Tests

@@ -1,0 +1,70 @@
+-- The tests that calls share, in the order of their list: 1, 2, 3, then 4, then 5. Definitions only.
+use mathlib.Core.Bool.{Bool, _&&_}
+use mathlib.Core.List.{List}
+use Prim.Native.Nat.{ℕ, _-_}
+use lib.ListN.{length}
+use lib.Dec.{ltb}
+use Rattle.octets.specs.Choice.{pick}
+use Rattle.parity_table.specs.Shape.{depthFits, nOf}
+use Rattle.parity_table.specs.declared.Answer.{Answer as Read}
+use Rattle.parity_table.specs.declared.Answer.the-variants as read
+use Rattle.parity_table.specs.Reader.{readOf}
+use Rattle.parity_table.specs.Parse.{over, indexedBy}
+use Rattle.table_bytes.specs.Bytes.{wordsOf, lengthFits}
+use Rattle.calls.specs.declared.Stop.the-variants.{Depth, Length, Table, Mark, Number}
+use Rattle.calls.specs.declared.Answer.{Answer}
+use Rattle.calls.specs.declared.Answer.the-variants.{Done, Stopped}
+use Rattle.calls.specs.Marks.{lowestBad}
+
+infixr 20 _then_
+-- a test, then those after it: the first that fails stops the call
+abbrev pub _then_ : Answer → Answer → Answer
+Done then b = b
+(Stopped s) then b = Stopped s
+
+-- what a buffer holds after a call that answers a: `new` where it is done, else what it held
+abbrev pub left : Answer → List ℕ → List ℕ → List ℕ
+left Done new old = new
+left (Stopped s) new old = old
+
+-- ---- the tests
+
+-- 1: "depth not 1 to 5"
+unfoldable pub testDepth : ℕ → Answer
+testDepth d = pick (depthFits d) Done (Stopped Depth)
+
+-- 2: "a buffer's length wrong"
+unfoldable pub testLengths : Bool → Answer
+testLengths sized = pick sized Done (Stopped Length)
+
+-- 3: "a table breaks a rule", with the first wrong word
+abbrev pub readAnswer : Read → Answer
+readAnswer read.Depth = Stopped Depth
+readAnswer read.Length = Stopped Length
+readAnswer (read.Wrong i) = Stopped (Table i)
+readAnswer read.Whole = Done
+
+-- 4: "a mark neither 0 nor 1", with the lowest place
+unfoldable pub testMarks : List ℕ → Answer
+testMarks m = pick (ltb (lowestBad m) (length m)) (Stopped (Mark (lowestBad m))) Done
+
+-- 5: "base symbol number not below n"
+unfoldable pub testNumber : ℕ → ℕ → Answer
+testNumber d i = pick (ltb i (nOf (d - 1))) Done (Stopped Number)
+
+-- ---- every call begins with these
+
+-- 1, 2; `sized` says whether the call's own buffers have their lengths
+abbrev pub opened : ℕ → Bool → Answer
+opened d sized = testDepth d then testLengths sized
+
+-- of a call that is lent a table as bytes: 1, 2, 3
+abbrev pub admitted : ℕ → Bool → List ℕ → Answer
+admitted d sized table = opened d (sized && lengthFits (length table)) then readAnswer (readOf d (wordsOf table))
+
+-- what a call's own buffers for words and index hold then: they are used once tests 1 and 2 have passed
+abbrev pub wordsLeft : ℕ → Bool → List ℕ → List ℕ → List ℕ
+wordsLeft d sized table lent = left (opened d (sized && lengthFits (length table))) (over (wordsOf table) lent) lent
+
+abbrev pub startsLeft : ℕ → Bool → List ℕ → List ℕ → List ℕ
+startsLeft d sized table lent = left (opened d (sized && lengthFits (length table))) (indexedBy (readOf d (wordsOf table)) (wordsOf table) lent) lent

@@ -1,0 +1,50 @@
+// What a call answers, and the tests that calls share, in the order of their list.
+mod admission; // 1, 2, 3: depth, lengths, table
+mod base; // 5: the number of a base symbol
+mod lengths; // 2: the lengths of a tree and its marks
+mod marks; // 4: the marks of a tree
+mod numbering; // an answer as numbers
+
+pub use admission::admit;
+pub use admission::answer_of;
+pub use admission::enter;
+pub use base::test_number;
+pub use lengths::tree_fits;
+pub use marks::test_marks;
+pub use numbering::numbers_of;
+
+// Why a call stopped: 01, "What stops a call". A stop has at most two values.
+pub enum Stop {
+    // the depth is not 1 to the largest
+    Depth,
+    // a buffer's length is wrong
+    Length,
+    // the table breaks a rule: the first wrong word, or the number of words where it is short
+    Table(usize),
+    // a mark neither 0 nor 1: the lowest place
+    Mark(usize),
+    // the base has no symbol of this number
+    Number,
+    // a proof's head: wrong kind, layer, equation, or no member
+    Head,
+    // a hash doesn't lead to the root
+    Hash,
+    // a proof whose withheld hash fits: no fault shown
+    NoFault,
+    // a needed symbol is absent: the index in the sample of the first, or its base number
+    Absent(usize),
+}
+
+// What a call answers.
+pub enum Answer {
+    // done, or accepted
+    Done,
+    Stopped(Stop),
+}
+
+// The number of an answer and the values that go with it, 0 where there is none.
+pub struct Numbers {
+    pub number: usize,
+    pub first: usize,
+    pub second: usize,
+}

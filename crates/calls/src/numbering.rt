@@ -1,0 +1,44 @@
+// An answer as numbers.
+use crate::Answer;
+use crate::Numbers;
+use crate::Stop;
+ghost use mathlib.Core.Path.{_≡_};
+ghost use Rattle.calls.specs.Stops.{numberOf, valuesOf};
+
+// A number alone, or with one value.
+fn with(number: usize, first: usize) -> Numbers
+    ensures { λ r. ⌜ (r .number ≡ number) × (r .first ≡ first) × (r .second ≡ 0) ⌝ }
+{
+    Numbers {
+        number,
+        first,
+        second: 0,
+    }
+}
+
+fn of_stop(s: Stop) -> Numbers
+    ensures { λ r.
+        ⌜ (r .number ≡ numberOf (Answer.Stopped s)) × (r .first ≡ valuesOf (Answer.Stopped s) .0)
+        × (r .second ≡ valuesOf (Answer.Stopped s) .1) ⌝ }
+{
+    match s {
+        Stop::Depth => with(1, 0),
+        Stop::Length => with(2, 0),
+        Stop::Table(i) => with(3, i),
+        Stop::Mark(p) => with(4, p),
+        Stop::Number => with(5, 0),
+        Stop::Head => with(6, 0),
+        Stop::Hash => with(7, 0),
+        Stop::NoFault => with(8, 0),
+        Stop::Absent(x) => with(9, x),
+    }
+}
+
+pub fn numbers_of(a: Answer) -> Numbers
+    ensures { λ r. ⌜ (r .number ≡ numberOf a) × (r .first ≡ valuesOf a .0) × (r .second ≡ valuesOf a .1) ⌝ }
+{
+    match a {
+        Answer::Done => with(0, 0),
+        Answer::Stopped(s) => of_stop(s),
+    }
+}
