@@ -1,9 +1,0 @@
-pub mod Stops
-pub mod Marks
-pub mod Tables
-pub mod Sample
-pub mod Volume
-pub mod Proof
-pub mod Repairs
-pub mod Sound
-pub mod Ends

@@ -1,0 +1,68 @@
+-- What is known of a call that checks a fault proof.
+use mathlib.Core.Path.{_≡_, refl, ap}
+use mathlib.Core.Bool.{true}
+use mathlib.Core.List.{List}
+use Prim.Native.Nat.{ℕ, _≤_}
+use lib.ListN.{length}
+use lib.Dec.{leb}
+use borrow.Author.Tests.{eqb-true, leb-true}
+use Rattle.octets.proofs.Choice.{and-yes}
+use Rattle.table_bytes.specs.Bytes.{wordsOf}
+use Rattle.parity_table.specs.Parse.{tableOf}
+use Rattle.symbol_hash.specs.SymbolHash.{symbolHash}
+use Rattle.symbol_hash.specs.declared.Kind.the-variants.{Plain}
+use Rattle.model.specs.Shape.{tree}
+use Rattle.model.specs.Fault.{Verdict, accepted, wrongHead, wrongLength, broken, noFault, verdict}
+use Rattle.calls.specs.declared.Answer.{Answer}
+use Rattle.calls.specs.declared.Answer.the-variants.{Done}
+use Rattle.calls.specs.Lengths.{rootSized}
+use Rattle.calls.specs.Tests.{_then_, admitted}
+use Rattle.calls.specs.Stops.{Small}
+use Rattle.calls.proofs.TestLaws.{stopped-not, then-done, small-plain, small-then}
+use Rattle.calls.proofs.AdmissionLaws.{Admitted, admission, small-admitted}
+use Rattle.fault_calls.specs.Checking.{proofSized, judged, proofChecked}
+
+-- the lengths, where their test passes
+pub sizes : (root b : ℕ) → proofSized root b ≡ true → (root ≡ 512) × (12 ≤ b)
+sizes root b e = let (p, q) = and-yes (rootSized root) (leb 12 b) e in (eqb-true root 512 p, leb-true 12 b q)
+
+done-judged : (v : Verdict) → judged v ≡ Done → v ≡ accepted
+done-judged accepted e = refl
+done-judged wrongHead e = absurd (stopped-not _ e)
+done-judged wrongLength e = absurd (stopped-not _ e)
+done-judged (broken j) e = absurd (stopped-not _ e)
+done-judged noFault e = absurd (stopped-not _ e)
+
+module _ (d : ℕ) (root table b : List ℕ) where
+  abbrev found : Verdict
+  found = verdict tree (symbolHash Plain) root (tableOf (wordsOf table)) b
+
+  -- once tests 1, 2 and 3 have passed, the verdict decides
+  pub judged-so : Done ≡ admitted d (proofSized (length root) (length b)) table → judged found ≡ proofChecked d root table b
+  unfolding proofChecked
+  judged-so e = ap (λ (a : Answer). a then judged found) e
+
+  -- the tests that an accepted proof has passed
+  pub record Passed : Type 0 where
+    pub admits : Admitted d (proofSized (length root) (length b)) table
+    pub accepts : verdict tree (symbolHash Plain) root (tableOf (wordsOf table)) b ≡ accepted
+
+  pub passed : proofChecked d root table b ≡ Done → Passed
+  unfolding proofChecked
+  passed e =
+      let (a, v) = then-done (admitted d (proofSized (length root) (length b)) table) (judged found) e in
+      record { admits = admission d (proofSized (length root) (length b)) table a; accepts = done-judged found v }
+
+  -- its value is small
+  small-judged : (v : Verdict) → Small (judged v)
+  small-judged accepted = small-plain refl
+  small-judged wrongHead = small-plain refl
+  small-judged wrongLength = small-plain refl
+  small-judged (broken j) = small-plain refl
+  small-judged noFault = small-plain refl
+
+  pub small : Small (proofChecked d root table b)
+  unfolding proofChecked
+  small =
+      small-then (admitted d (proofSized (length root) (length b)) table) (judged found) (small-admitted d (proofSized (length root) (length b)) table)
+      (λ e. small-judged found)

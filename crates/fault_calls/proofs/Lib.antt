@@ -1,0 +1,4 @@
+pub mod CheckingLaws
+pub mod RepairingLaws
+pub mod Sound
+pub mod Ends

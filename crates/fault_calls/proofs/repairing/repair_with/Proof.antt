@@ -1,0 +1,56 @@
+-- `repair_with` meets its contract: refused by a mark, or repaired.
+use mathlib.Core.Path.{sym, _∙_}
+use borrow.Author.Needs.{needs}
+use Rattle.parity_table.specs.Parse.{tableOf}
+use Rattle.fault_calls.proofs.RepairingLaws.{marks-refuse, repairs}
+use Rattle.fault_calls.proofs.repairing.repair_with.Statement.{statement}
+use Rattle.fault_calls.proofs.repairing.repair_with.Tie as tie
+
+test-marks-requires : tie.Need-test-marks-requires
+test-marks-requires c κs = search needs
+
+enum-known-s : tie.Need-enum-known-s
+enum-known-s c = search needs
+
+same-length : tie.Need-same-length
+same-length c = search needs
+
+returns : tie.Need-returns
+returns c =
+    let g = c .before .before .before .before .before .before .before .before .before .before .before .args in
+    marks-refuse (g .root .now) (tableOf (g .words .now)) (g .tree .now) (g .marks .now) (g .out .now) _ (sym (c .before .s .given .1) ∙ c .before .before .before .test-marks .ensures)
+
+enum-told : tie.Need-enum-told
+enum-told c = search needs
+
+repair-requires : tie.Need-repair-requires
+repair-requires c κs = search needs
+
+same-length-2 : tie.Need-same-length-2
+same-length-2 c = search needs
+
+same-length-3 : tie.Need-same-length-3
+same-length-3 c = search needs
+
+same-length-4 : tie.Need-same-length-4
+same-length-4 c = search needs
+
+returns-2 : tie.Need-returns-2
+returns-2 c =
+    let g = c .before .before .before .before .before .before .before .before .before .before .before .before .before .before .before .before .before .before .before .before .args in
+    repairs (g .root .now) (tableOf (g .words .now)) (g .tree .now) (g .marks .now) (g .out .now) _ _ _ _ _ (c .before .before .before .before .before .before .repair .ensures .0) (sym (c .before .before .before .before .before .before .before .before .before .before .enum-told .given .1) ∙ c .before .before .before .before .before .before .before .before .before .before .before .before .test-marks .ensures)
+
+pub repair-with-spec : {M : Type 1} → statement M
+repair-with-spec =
+    tie.close
+    (tie.spec
+    test-marks-requires
+    enum-known-s
+    same-length
+    returns
+    enum-told
+    repair-requires
+    same-length-2
+    same-length-3
+    same-length-4
+    returns-2)

@@ -1,0 +1,4 @@
+pub mod Checking
+pub mod Repairing
+pub mod Sound
+pub mod Ends

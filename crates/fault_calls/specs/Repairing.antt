@@ -1,0 +1,93 @@
+-- What a call that repairs a tree answers and leaves, for every input. Definitions only.
+use mathlib.Core.Bool.{Bool, _&&_}
+use mathlib.Core.List.{List}
+use Prim.Native.Nat.{ℕ, _+_, _-_, _*_, _^_, _<_}
+use lib.ListN.{length}
+use lib.Dec.{eqb}
+use Rattle.table_bytes.specs.Bytes.{wordsOf}
+use Rattle.parity_table.specs.Parse.{tableOf}
+use Rattle.symbol_hash.specs.SymbolHash.{symbolHash}
+use Rattle.symbol_hash.specs.declared.Kind.the-variants.{Plain}
+use Rattle.model.specs.Shape.{tree}
+use Rattle.model.specs.Repair.{End, working, whole, fault, unavailable, twins, St, repair}
+use Rattle.repair.specs.Reports.{endOf}
+use Rattle.calls.specs.declared.Stop.{Stop}
+use Rattle.calls.specs.declared.Answer.{Answer}
+use Rattle.calls.specs.declared.Answer.the-variants as answer
+use Rattle.calls.specs.Stops.{numberOf, valuesOf, Small}
+use Rattle.calls.specs.Lengths.{treeSized, rootSized}
+use Rattle.calls.specs.Tests.{_then_, admitted, testMarks}
+use Rattle.fault_calls.specs.declared.Outcome.{Outcome}
+use Rattle.fault_calls.specs.declared.Outcome.the-variants as outcome
+
+-- how a repair comes out: the end with the number of symbols stored, or why it stopped
+pub data Result : Type 0 where
+  ended : (stored : ℕ) (end : End) → Result
+  stopped : Stop → Result
+
+-- the answer, and the lent buffers as they are left
+pub record RepairLeft (A : Type 0) : Type 0 where
+  pub answer : A
+  pub tree : List ℕ
+  pub marks : List ℕ
+  pub out : List ℕ
+
+abbrev pub leaves : {A : Type 0} → A → List ℕ → List ℕ → List ℕ → RepairLeft A
+leaves a t m o = record { answer = a; tree = t; marks = m; out = o }
+
+-- root, tree, marks and output have the lengths of depth d: "The output buffer has 12+256·(8D−1) bytes"
+abbrev pub repairSized : ℕ → ℕ → ℕ → ℕ → ℕ → Bool
+repairSized d root t m o = treeSized d t m && (rootSized root && eqb o (12 + 256 * (8 * d - 1)))
+
+-- tests 1, 2, 3, 4: "Input to a repair is well-formed when no numbered test turns it away before layer 0 is entered."
+unfoldable pub repairTested : ℕ → List ℕ → List ℕ → List ℕ → List ℕ → List ℕ → Answer
+repairTested d root table t m o = admitted d (repairSized d (length root) (length t) (length m) (length o)) table then testMarks m
+
+-- 01's steps of repair, on the lent tree, marks and output
+unfoldable pub repairOf : List ℕ → List ℕ → List ℕ → List ℕ → List ℕ → St
+repairOf root table t m o = repair tree (symbolHash Plain) root (tableOf (wordsOf table)) t m o
+
+-- by the tests' answer: what the steps come to, or everything left
+abbrev pub repairedBy : Answer → St → List ℕ → List ℕ → List ℕ → RepairLeft Result
+repairedBy answer.Done st t m o = leaves (ended (st .stored) (st .end)) (st .tree) (st .marks) (st .out)
+repairedBy (answer.Stopped s) st t m o = leaves (stopped s) t m o
+
+unfoldable pub repaired : ℕ → List ℕ → List ℕ → List ℕ → List ℕ → List ℕ → RepairLeft Result
+repaired d root table t m o = repairedBy (repairTested d root table t m o) (repairOf root table t m o) t m o
+
+-- the answer's own form
+abbrev pub outcomeOf : Outcome → Result
+outcomeOf (outcome.Ended r) = ended (r .stored) (endOf (r .end))
+outcomeOf (outcome.Stopped s) = stopped s
+
+-- ---- numbers
+
+-- the ends by number; a repair that has ended is not working
+abbrev pub endNumber : End → ℕ
+endNumber whole = 0
+endNumber (fault j e x n) = 1
+endNumber (unavailable j) = 2
+endNumber (twins j x) = 3
+endNumber working = 4
+
+-- "a fault [..] reports the proof's length", unavailable its layer; 0 where there is nothing to report beside the symbols stored
+abbrev pub endValue : End → ℕ
+endValue whole = 0
+endValue (fault j e x n) = n
+endValue (unavailable j) = j
+endValue (twins j x) = 0
+endValue working = 0
+
+-- the number of a result, 0 where the repair ended; its values are then the end, and above the symbols stored the end's value
+abbrev pub resultNumber : Result → ℕ
+resultNumber (ended s z) = 0
+resultNumber (stopped w) = numberOf (answer.Stopped w)
+
+abbrev pub resultValues : Result → ℕ × ℕ
+resultValues (ended s z) = (endNumber z, s + endValue z * 2 ^ 16)
+resultValues (stopped w) = valuesOf (answer.Stopped w)
+
+-- the numbers that are reported have room: symbols stored and value in 16 bits each, an end and a stop's values as those of any call
+abbrev pub Fits : Result → Type 0
+Fits (ended s z) = (s < 2 ^ 16) × (endValue z < 2 ^ 16) × (endNumber z < 2 ^ 24)
+Fits (stopped w) = Small (answer.Stopped w)

@@ -1,0 +1,49 @@
+// Checking a fault proof.
+use calls::Answer;
+use calls::Stop;
+use calls::admit;
+use fault_proof::Verdict;
+use parity_table::MAX_EQUATIONS;
+use symbol_hash::Kind;
+use table_bytes::MAX_WORDS;
+ghost use mathlib.Core.Path.{_≡_};
+ghost use Rattle.fault_proof.specs.Verdicts.{verdictOf};
+ghost use Rattle.fault_calls.specs.Checking.{proofSized, judged, proofChecked};
+
+// The checker's verdict as an answer.
+fn answer_of(v: Verdict) -> Answer
+    ensures { λ r. ⌜ r ≡ judged (verdictOf v) ⌝ }
+{
+    match v {
+        Verdict::Accepted => Answer::Done,
+        Verdict::WrongHead => Answer::Stopped(Stop::Head),
+        Verdict::WrongLength => Answer::Stopped(Stop::Length),
+        Verdict::Broken(_) => Answer::Stopped(Stop::Hash),
+        Verdict::NoFault => Answer::Stopped(Stop::NoFault),
+    }
+}
+
+// Whether a root has its length, and a proof is long enough for a head.
+fn sizes_fit(root: usize, proof: usize) -> bool
+    ensures { λ r. ⌜ r ≡ proofSized root proof ⌝ }
+{
+    if root != 512 {
+        return false;
+    }
+    12 <= proof
+}
+
+// Checks a fault proof against a root and a table that comes as bytes: tests 1, 2, 3, 6, then 2 again for the length its head demands, 7, 8.
+// Done: a fault is shown.
+pub fn check(depth: usize, root: &[u8], table: &[u8], proof: &[u8]) -> Answer
+    ensures { λ r. ⌜ r ≡ proofChecked depth (now (root .entry)) (now (table .entry)) (now (proof .entry)) ⌝ }
+{
+    let sized = sizes_fit(root.len(), proof.len());
+    let mut words = [0u32; MAX_WORDS];
+    let mut starts = [0usize; MAX_EQUATIONS];
+    if let Answer::Stopped(s) = admit(depth, sized, table, &mut words, &mut starts) {
+        return Answer::Stopped(s);
+    }
+    let n = table.len() / 4;
+    answer_of(fault_proof::check(Kind::Plain, depth, &words[..n], &starts, root, proof))
+}

@@ -1,0 +1,57 @@
+-- `check` meets its contract: refused by a test, or as the hashes say.
+use mathlib.Core.Path.{sym, ap, _∙_}
+use lib.ListN.{length}
+use borrow.Author.Needs.{needs}
+use Rattle.calls.specs.declared.Answer.{Answer}
+use Rattle.calls.specs.Tests.{_then_}
+use Rattle.model.specs.Shape.{tree}
+use Rattle.model.specs.SampleCheck.{sampleCheck}
+use Rattle.symbol_hash.specs.SymbolHash.{symbolHash}
+use Rattle.symbol_hash.specs.declared.Kind.the-variants.{Plain}
+use Rattle.sample_calls.specs.Checking.{led, sampleChecked}
+use Rattle.sample_calls.proofs.CheckingLaws.{passed, sizes}
+use Rattle.sample_calls.proofs.checking.check.Statement.{statement}
+use Rattle.sample_calls.proofs.checking.check.Tie as tie
+
+tests-requires : tie.Need-tests-requires
+tests-requires c κs = search needs
+
+enum-known-s : tie.Need-enum-known-s
+enum-known-s c = search needs
+
+returns : tie.Need-returns
+unfolding sampleChecked
+returns c =
+    let g = c .before .before .before .before .before .before .args in
+    ap (λ (a : Answer). a then led (sampleCheck tree (symbolHash Plain) (g .root .now) (g .depth) (g .number) (g .sample .now))) (sym (c .before .s .given .1) ∙ c .before .before .before .tests .ensures)
+
+enum-told : tie.Need-enum-told
+enum-told c = search needs
+
+check-requires : tie.Need-check-requires
+check-requires c κs =
+    let g = c .before .before .before .before .before .args in
+    let (k, b) = passed (g .depth) (g .number) (length (g .root .now)) (length (g .sample .now)) (sym (sym (c .enum-told .given .1) ∙ c .before .before .tests .ensures)) in
+    let n = sizes (g .depth) (length (g .root .now)) (length (g .sample .now)) (k .lengths) in
+    (b, n .0, n .1)
+
+answer-of-requires : tie.Need-answer-of-requires
+answer-of-requires c κs = search needs
+
+returns-2 : tie.Need-returns-2
+unfolding sampleChecked
+returns-2 c =
+    let g = c .before .before .before .before .before .before .before .args in
+    c .answer-of .ensures ∙ ap led (c .before .check .ensures) ∙ ap (λ (a : Answer). a then led (sampleCheck tree (symbolHash Plain) (g .root .now) (g .depth) (g .number) (g .sample .now))) (sym (c .before .before .enum-told .given .1) ∙ c .before .before .before .before .tests .ensures)
+
+pub check-spec : {M : Type 1} → statement M
+check-spec =
+    tie.close
+    (tie.spec
+    tests-requires
+    enum-known-s
+    returns
+    enum-told
+    check-requires
+    answer-of-requires
+    returns-2)

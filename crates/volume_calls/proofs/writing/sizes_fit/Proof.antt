@@ -1,0 +1,62 @@
+-- `sizes_fit` meets its contract: tree and marks, the block, then the root.
+use mathlib.Core.Path.{sym, ap, _∙_}
+use mathlib.Core.Bool.{Bool, _&&_}
+use Prim.Native.Nat.{ℕ, _-_, _*_}
+use native.Mathlib.Omega.{arith}
+use lib.Dec.{eqb}
+use borrow.Author.Needs.{needs}
+use borrow.Author.Tests.{eq-eqb, ne-eqb}
+use Rattle.octets.proofs.Choice.{not-yes, not-no}
+use Rattle.parity_table.specs.Shape.{depthFits}
+use Rattle.parity_table.proofs.Shape.{k-small}
+use Rattle.calls.specs.Lengths.{treeSized, blockSized, rootSized}
+use Rattle.calls.proofs.LengthLaws.{fit-no, fit-yes, fit-depth}
+use Rattle.volume_calls.proofs.writing.sizes_fit.Statement.{statement}
+use Rattle.volume_calls.proofs.writing.sizes_fit.Tie as tie
+
+tree-fits-requires : tie.Need-tree-fits-requires
+tree-fits-requires c κs = search needs
+
+returns : tie.Need-returns
+returns c =
+    let g = c .before .before .args in
+    fit-no (depthFits (g .depth)) (treeSized (g .depth) (g .tree) (g .marks)) (blockSized (g .depth) (g .block) && rootSized (g .root)) (sym (c .before .tree-fits .ensures) ∙ not-yes _ (c .if1 .taken))
+
+sub-data-count : tie.Need-sub-data-count
+sub-data-count c =
+    let g = c .before .before .args in
+    omega (arith, fit-depth (g .depth) (treeSized (g .depth) (g .tree) (g .marks)) (sym (c .before .tree-fits .ensures) ∙ not-no _ (c .if1 .left)) .0)
+
+data-count-requires : tie.Need-data-count-requires
+data-count-requires c κs =
+    let g = c .before .before .args in
+    let h = fit-depth (g .depth) (treeSized (g .depth) (g .tree) (g .marks)) (sym (c .before .tree-fits .ensures) ∙ not-no _ (c .if1 .left)) in
+    omega (arith, h .0, h .1)
+
+mul-if2 : tie.Need-mul-if2
+mul-if2 c =
+    let g = c .before .before .before .args in
+    let h = fit-depth (g .depth) (treeSized (g .depth) (g .tree) (g .marks)) (sym (c .before .before .tree-fits .ensures) ∙ not-no _ (c .before .if1 .left)) in
+    omega (arith, c .data-count .ensures, k-small (g .depth - 1) (omega (arith, h .0, h .1)))
+
+returns-2 : tie.Need-returns-2
+returns-2 c =
+    let g = c .before .before .before .before .args in
+    sym (ap (λ (x : Bool). x && rootSized (g .root)) (ap (λ (q : ℕ). eqb (g .block) (256 * q)) (sym (c .before .data-count .ensures)) ∙ ne-eqb (g .block) _ (c .if2 .taken))) ∙ fit-yes (depthFits (g .depth)) (treeSized (g .depth) (g .tree) (g .marks)) (blockSized (g .depth) (g .block) && rootSized (g .root)) (sym (c .before .before .before .tree-fits .ensures) ∙ not-no _ (c .before .before .if1 .left))
+
+returns-3 : tie.Need-returns-3
+returns-3 c =
+    let g = c .before .before .before .before .args in
+    sym (ap (λ (x : Bool). x && rootSized (g .root)) (ap (λ (q : ℕ). eqb (g .block) (256 * q)) (sym (c .before .data-count .ensures)) ∙ eq-eqb (g .block) _ (c .if2 .left))) ∙ fit-yes (depthFits (g .depth)) (treeSized (g .depth) (g .tree) (g .marks)) (blockSized (g .depth) (g .block) && rootSized (g .root)) (sym (c .before .before .before .tree-fits .ensures) ∙ not-no _ (c .before .before .if1 .left))
+
+pub sizes-fit-spec : {M : Type 1} → statement M
+sizes-fit-spec =
+    tie.close
+    (tie.spec
+    tree-fits-requires
+    returns
+    sub-data-count
+    data-count-requires
+    mul-if2
+    returns-2
+    returns-3)

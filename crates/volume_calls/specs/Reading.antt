@@ -1,0 +1,48 @@
+-- What a call that reads a block back answers and leaves, for every input. Definitions only.
+use mathlib.Core.Bool.{Bool, _&&_}
+use mathlib.Core.List.{List}
+use Prim.Native.Nat.{ℕ, _-_}
+use lib.ListN.{length}
+use lib.Dec.{ltb}
+use Rattle.octets.specs.Choice.{pick}
+use Rattle.parity_table.specs.Shape.{kOf}
+use Rattle.model.specs.Shape.{tree}
+use Rattle.model.specs.Symbols.{lowest}
+use Rattle.model.specs.Repair.{absentAt}
+use Rattle.model.specs.Writer.{blockOf}
+use Rattle.calls.specs.declared.Stop.the-variants.{Absent}
+use Rattle.calls.specs.declared.Answer.{Answer}
+use Rattle.calls.specs.declared.Answer.the-variants.{Done, Stopped}
+use Rattle.calls.specs.Lengths.{treeSized, blockSized}
+use Rattle.calls.specs.Tests.{_then_, left, opened, testMarks}
+
+-- the answer, and the lent block as it is left
+pub record BlockLeft (A : Type 0) : Type 0 where
+  pub answer : A
+  pub block : List ℕ
+
+abbrev pub leaves : {A : Type 0} → A → List ℕ → BlockLeft A
+leaves a b = record { answer = a; block = b }
+
+-- tree, marks and block have the lengths of depth d
+abbrev pub readSized : ℕ → ℕ → ℕ → ℕ → Bool
+readSized d t m b = treeSized d t m && blockSized d b
+
+-- the number of the base's first absent data symbol, or k
+abbrev pub lowestAbsent : ℕ → List ℕ → ℕ
+lowestAbsent d m = lowest (absentAt tree m (d - 1)) 0 (kOf (d - 1))
+
+-- 9: "a needed symbol absent", with "its base number"
+unfoldable pub testBase : ℕ → List ℕ → Answer
+testBase d m = pick (ltb (lowestAbsent d m) (kOf (d - 1))) (Stopped (Absent (lowestAbsent d m))) Done
+
+-- tests 1, 2, 4, 9, tree and block having so many bytes
+abbrev pub blockTested : ℕ → ℕ → List ℕ → ℕ → Answer
+blockTested d t m b = opened d (readSized d t (length m) b) then testMarks m then testBase d m
+
+-- by the tests' answer a: the base's data symbols are copied, or the block is left
+abbrev pub readBy : Answer → ℕ → List ℕ → List ℕ → BlockLeft Answer
+readBy a d t b = leaves a (left a (blockOf tree d t) b)
+
+unfoldable pub blockRead : ℕ → List ℕ → List ℕ → List ℕ → BlockLeft Answer
+blockRead d t m b = readBy (blockTested d (length t) m (length b)) d t b

@@ -1,0 +1,6 @@
+// Writing a tree, and reading its block back: every numbered test in its order, then the core. Neither has a `requires`.
+mod reading;
+mod writing;
+
+pub use reading::read_block;
+pub use writing::write_tree;
