@@ -1,25 +1,45 @@
 -- The one number that a call returns to C. Definitions only.
 use Prim.Native.Nat.{ℕ, _+_, _*_, _^_}
-use Rattle.parity_table.specs.declared.Answer.{Answer}
-use Rattle.parity_table.specs.Right.{numberOf, valueOf}
-use Rattle.cedunmi.specs.declared.Answer.{Answer as Called}
-use Rattle.cedunmi.specs.declared.Answer.the-variants.{Stopped}
-use Rattle.cedunmi.specs.Stops as stops
-use Rattle.cedunmi.specs.Repairs.{Result, ended, stopped, endNumber, endValue}
+use Rattle.sha256.specs.declared.Answer.{Answer as Hashed}
+use Rattle.sha256.specs.declared.Answer.the-variants as hashed
+use Rattle.calls.specs.declared.Stop.the-variants.{Length}
+use Rattle.calls.specs.declared.Answer.{Answer}
+use Rattle.calls.specs.declared.Answer.the-variants.{Done, Stopped}
+use Rattle.calls.specs.Stops.{numberOf, valuesOf}
+use Rattle.volume_calls.specs.Writing.{TreeLeft}
+use Rattle.volume_calls.specs.Writing as writing
+use Rattle.volume_calls.specs.Reading.{BlockLeft}
+use Rattle.volume_calls.specs.Reading as reading
+use Rattle.sample_calls.specs.Taking.{SampleLeft}
+use Rattle.sample_calls.specs.Taking as taking
+use Rattle.fault_calls.specs.Repairing.{Result, RepairLeft, resultNumber, resultValues}
+use Rattle.fault_calls.specs.Repairing as repairing
 
--- 01's number in the lowest eight bits, the value that goes with it above them
-abbrev pub packed : ℕ → ℕ → ℕ
-packed number value = number + value * 2 ^ 8
+-- 01's number in the lowest eight bits, the first value that goes with it in the 24 above them, the second in the upper 32
+abbrev pub packed : ℕ → ℕ × ℕ → ℕ
+packed number values = number + values .0 * 2 ^ 8 + values .1 * 2 ^ 32
 
--- the result of a call that reads or writes a table
-abbrev pub tableResult : Answer → ℕ
-tableResult a = packed (numberOf a) (valueOf a)
+abbrev pub callResult : Answer → ℕ
+callResult a = packed (numberOf a) (valuesOf a)
 
--- the result of any other call
-abbrev pub callResult : Called → ℕ
-callResult a = packed (stops.numberOf a) (stops.valueOf a)
-
--- the result of a repair: of one that ended, its end above the number 0, and above both the symbols stored with the value of the end
+-- a repair that ended has number 0
 abbrev pub repairResult : Result → ℕ
-repairResult (ended s z) = packed 0 (endNumber z) + (s + endValue z * 2 ^ 16) * 2 ^ 32
-repairResult (stopped w) = callResult (Stopped w)
+repairResult r = packed (resultNumber r) (resultValues r)
+
+-- the hasher's answer as a call's
+abbrev pub hashAnswer : Hashed → Answer
+hashAnswer hashed.Done = Done
+hashAnswer hashed.Length = Stopped Length
+
+-- what a call leaves, its answer as that number
+abbrev pub treeInC : TreeLeft Answer → TreeLeft ℕ
+treeInC w = writing.leaves (callResult (w .answer)) (w .tree) (w .marks) (w .root)
+
+abbrev pub blockInC : BlockLeft Answer → BlockLeft ℕ
+blockInC w = reading.leaves (callResult (w .answer)) (w .block)
+
+abbrev pub sampleInC : SampleLeft Answer → SampleLeft ℕ
+sampleInC w = taking.leaves (callResult (w .answer)) (w .sample)
+
+abbrev pub repairInC : RepairLeft Result → RepairLeft ℕ
+repairInC w = repairing.leaves (repairResult (w .answer)) (w .tree) (w .marks) (w .out)

@@ -1,27 +1,25 @@
--- `call_result` meets its contract.
-use mathlib.Core.Path.{sym, ap, _∙_, subst}
-use Prim.Native.Nat.{_≤_}
+-- `call_result` meets its contract: the answer's numbers, packed.
+use mathlib.Core.Path.{_∙_}
+use native.Mathlib.Omega.{arith}
 use borrow.Author.Needs.{needs}
-use Rattle.cedunmi_c.specs.Result.{callResult}
-use Rattle.cedunmi.specs.Stops.{valueOf}
+use Rattle.calls.proofs.TestLaws.{number-low}
+use Rattle.cedunmi_c.specs.Result.{packed}
+use Rattle.cedunmi_c.proofs.ResultLaws.{packed-is}
 use Rattle.cedunmi_c.proofs.call_result.Statement.{statement}
 use Rattle.cedunmi_c.proofs.call_result.Tie as tie
 
-enum-told : tie.Need-enum-told
-enum-told c = search needs
+numbers-of-requires : tie.Need-numbers-of-requires
+numbers-of-requires c κs = search needs
 
-enum-known-a : tie.Need-enum-known-a
-enum-known-a c = search needs
-
-stop-result-requires : tie.Need-stop-result-requires
-stop-result-requires c κs = subst (λ q. valueOf q ≤ 4096) (c .before .a .given .1) (c .before .before .before .pre)
+pack-requires : tie.Need-pack-requires
+pack-requires c κs =
+    let n = c .numbers-of .ensures in
+    let a = c .before .args .a in
+    let h = c .before .pre in
+    (omega (arith, n .0, number-low a), omega (arith, n .1, h .first), omega (arith, n .2, h .second))
 
 returns : tie.Need-returns
-returns c = sym (ap callResult (c .enum-told .given .1))
-
-returns-2 : tie.Need-returns-2
-returns-2 c = c .stop-result .ensures ∙ sym (ap callResult (c .before .before .a .given .1))
+returns c = let n = c .before .numbers-of .ensures in c .pack .ensures ∙ packed-is _ _ _ _ _ _ (n .0) (n .1) (n .2)
 
 pub call-result-spec : {M : Type 1} → statement M
-call-result-spec =
-    tie.close (tie.spec enum-told enum-known-a stop-result-requires returns returns-2)
+call-result-spec = tie.close (tie.spec numbers-of-requires pack-requires returns)

@@ -1,11 +1,11 @@
--- `cmt_block_read` meets its contract: the answer, packed, and what each lent buffer holds.
-use mathlib.Core.Path.{sym, ap, _∙_, subst}
-use Prim.Native.Nat.{_≤_}
+-- `cmt_block_read` meets its contract: what the call answers, packed, and leaves.
+use mathlib.Core.Path.{sym, ap, subst}
 use borrow.Author.Needs.{needs}
-use Rattle.cedunmi.specs.Volume.{blockLeft}
-use Rattle.cedunmi.proofs.ValueLaws.{block-small}
-use Rattle.cedunmi_c.specs.Result.{callResult}
-use Rattle.cedunmi.specs.Stops.{valueOf}
+use Rattle.calls.specs.Stops.{Small}
+use Rattle.volume_calls.proofs.ReadingLaws.{small}
+use Rattle.calls.specs.declared.Answer.{Answer}
+use Rattle.volume_calls.specs.Reading.{BlockLeft, leaves}
+use Rattle.cedunmi_c.proofs.ResultLaws.{block-left}
 use Rattle.cedunmi_c.proofs.cmt_block_read.Statement.{statement}
 use Rattle.cedunmi_c.proofs.cmt_block_read.Tie as tie
 
@@ -14,15 +14,14 @@ read-block-requires c κs = search needs
 
 call-result-requires : tie.Need-call-result-requires
 call-result-requires c κs =
-    subst (λ q. valueOf q ≤ 4096) (sym (c .before .before .read-block .ensures .0))
-    (block-small (c .before .before .before .before .before .before .before .args .depth) (c .before .before .before .before .before .before .before .args .tree .now) (c .before .before .before .before .before .before .before .args .marks .now) (c .before .before .before .before .before .before .before .args .block .now))
+    let g = c .before .before .before .before .before .before .before .args in
+    subst Small (sym (ap (λ (w : BlockLeft Answer). w .answer) (c .before .before .read-block .ensures))) (small (g .depth) (g .tree .now) (g .marks .now) (g .block .now))
 
 same-length : tie.Need-same-length
 same-length c = search needs
 
 returns : tie.Need-returns
-returns c =
-    (c .call-result .ensures ∙ ap callResult (c .before .before .before .read-block .ensures .0), c .before .before .before .read-block .ensures .1 ∙ ap (λ a. blockLeft a (c .before .before .before .before .before .before .before .before .args .depth) (c .before .before .before .before .before .before .before .before .args .tree .now) (c .before .before .before .before .before .before .before .before .args .block .now)) (c .before .before .before .read-block .ensures .0))
+returns c = block-left _ _ (c .call-result .ensures) _ _ (c .before .before .before .read-block .ensures)
 
 pub cmt-block-read-spec : {M : Type 1} → statement M
 cmt-block-read-spec =

@@ -1,9 +1,9 @@
--- `cmt_repair` meets its contract: the entry point's answer, packed.
-use mathlib.Core.Path.{_∙_, ap, subst, sym}
+-- `cmt_repair` meets its contract: what the call answers, packed, and leaves.
+use mathlib.Core.Path.{sym, ap, subst}
 use borrow.Author.Needs.{needs}
-use Rattle.cedunmi.proofs.Ends.{repair-fits}
-use Rattle.cedunmi.specs.Repairs.{Fits}
-use Rattle.cedunmi_c.specs.Result.{repairResult}
+use Rattle.fault_calls.specs.Repairing.{Result, RepairLeft, leaves, Fits}
+use Rattle.fault_calls.proofs.Ends.{repair-fits}
+use Rattle.cedunmi_c.proofs.ResultLaws.{repair-left}
 use Rattle.cedunmi_c.proofs.cmt_repair.Statement.{statement}
 use Rattle.cedunmi_c.proofs.cmt_repair.Tie as tie
 
@@ -12,8 +12,8 @@ repair-tree-requires c κs = search needs
 
 repair-result-requires : tie.Need-repair-result-requires
 repair-result-requires c κs =
-    let a = c .before .before .before .before .before .before .before .before .before .before .before .before .before .before .before .args in
-    subst Fits (sym (c .before .before .before .before .before .before .repair-tree .ensures .0)) (repair-fits (a .depth) (a .root .now) (a .table .now) (a .tree .now) (a .marks .now) (a .output .now))
+    let g = c .before .before .before .before .before .before .before .before .before .before .before .before .before .before .before .args in
+    subst Fits (sym (ap (λ (w : RepairLeft Result). w .answer) (c .before .before .before .before .before .before .repair-tree .ensures))) (repair-fits (g .depth) (g .root .now) (g .table .now) (g .tree .now) (g .marks .now) (g .output .now))
 
 same-length : tie.Need-same-length
 same-length c = search needs
@@ -25,8 +25,7 @@ same-length-3 : tie.Need-same-length-3
 same-length-3 c = search needs
 
 returns : tie.Need-returns
-returns c =
-    (c .repair-result .ensures ∙ ap repairResult (c .before .before .before .before .before .before .before .repair-tree .ensures .0), c .before .before .before .before .before .before .before .repair-tree .ensures .1, c .before .before .before .before .before .before .before .repair-tree .ensures .2, c .before .before .before .before .before .before .before .repair-tree .ensures .3)
+returns c = repair-left _ _ (c .repair-result .ensures) _ _ _ _ (c .before .before .before .before .before .before .before .repair-tree .ensures)
 
 pub cmt-repair-spec : {M : Type 1} → statement M
 cmt-repair-spec =

@@ -1,11 +1,11 @@
--- `cmt_sample_take` meets its contract: the answer, packed, and what each lent buffer holds.
-use mathlib.Core.Path.{sym, ap, _∙_, subst}
-use Prim.Native.Nat.{_≤_}
+-- `cmt_sample_take` meets its contract: what the call answers, packed, and leaves.
+use mathlib.Core.Path.{sym, ap, subst}
 use borrow.Author.Needs.{needs}
-use Rattle.cedunmi.specs.Sample.{sampleLeft}
-use Rattle.cedunmi.proofs.ValueLaws.{take-small}
-use Rattle.cedunmi_c.specs.Result.{callResult}
-use Rattle.cedunmi.specs.Stops.{valueOf}
+use Rattle.calls.specs.Stops.{Small}
+use Rattle.sample_calls.proofs.TakingLaws.{small}
+use Rattle.calls.specs.declared.Answer.{Answer}
+use Rattle.sample_calls.specs.Taking.{SampleLeft, leaves}
+use Rattle.cedunmi_c.proofs.ResultLaws.{sample-left}
 use Rattle.cedunmi_c.proofs.cmt_sample_take.Statement.{statement}
 use Rattle.cedunmi_c.proofs.cmt_sample_take.Tie as tie
 
@@ -14,15 +14,14 @@ take-requires c κs = search needs
 
 call-result-requires : tie.Need-call-result-requires
 call-result-requires c κs =
-    subst (λ q. valueOf q ≤ 4096) (sym (c .before .before .take .ensures .0))
-    (take-small (c .before .before .before .before .before .before .before .args .depth) (c .before .before .before .before .before .before .before .args .number) (c .before .before .before .before .before .before .before .args .tree .now) (c .before .before .before .before .before .before .before .args .marks .now) (c .before .before .before .before .before .before .before .args .sample .now))
+    let g = c .before .before .before .before .before .before .before .args in
+    subst Small (sym (ap (λ (w : SampleLeft Answer). w .answer) (c .before .before .take .ensures))) (small (g .depth) (g .number) (g .tree .now) (g .marks .now) (g .sample .now))
 
 same-length : tie.Need-same-length
 same-length c = search needs
 
 returns : tie.Need-returns
-returns c =
-    (c .call-result .ensures ∙ ap callResult (c .before .before .before .take .ensures .0), c .before .before .before .take .ensures .1 ∙ ap (λ a. sampleLeft a (c .before .before .before .before .before .before .before .before .args .depth) (c .before .before .before .before .before .before .before .before .args .number) (c .before .before .before .before .before .before .before .before .args .tree .now) (c .before .before .before .before .before .before .before .before .args .sample .now)) (c .before .before .before .take .ensures .0))
+returns c = sample-left _ _ (c .call-result .ensures) _ _ (c .before .before .before .take .ensures)
 
 pub cmt-sample-take-spec : {M : Type 1} → statement M
 cmt-sample-take-spec = tie.close (tie.spec take-requires call-result-requires same-length returns)

@@ -1,12 +1,11 @@
--- `cmt_tree_write` meets its contract: the answer, packed, and what each lent buffer holds.
-use mathlib.Core.Path.{sym, ap, _∙_, subst}
-use Prim.Native.Nat.{_≤_}
+-- `cmt_tree_write` meets its contract: what the call answers, packed, and leaves.
+use mathlib.Core.Path.{sym, ap, subst}
 use borrow.Author.Needs.{needs}
-use Rattle.cedunmi.specs.Volume.{treeLeft, marksLeft, rootLeft}
-use Rattle.cedunmi.proofs.ValueLaws.{write-small}
-use Rattle.cedunmi_c.specs.Result.{callResult}
-use Rattle.parity_table.specs.Bytes.{wordsOf}
-use Rattle.cedunmi.specs.Stops.{valueOf}
+use Rattle.calls.specs.Stops.{Small}
+use Rattle.volume_calls.proofs.WritingLaws.{small}
+use Rattle.calls.specs.declared.Answer.{Answer}
+use Rattle.volume_calls.specs.Writing.{TreeLeft, leaves}
+use Rattle.cedunmi_c.proofs.ResultLaws.{tree-left}
 use Rattle.cedunmi_c.proofs.cmt_tree_write.Statement.{statement}
 use Rattle.cedunmi_c.proofs.cmt_tree_write.Tie as tie
 
@@ -15,8 +14,8 @@ write-tree-requires c κs = search needs
 
 call-result-requires : tie.Need-call-result-requires
 call-result-requires c κs =
-    subst (λ q. valueOf q ≤ 4096) (sym (c .before .before .before .before .before .before .write-tree .ensures .0))
-    (write-small (c .before .before .before .before .before .before .before .before .before .before .before .before .before .before .before .args .depth) (c .before .before .before .before .before .before .before .before .before .before .before .before .before .before .before .args .table .now) (c .before .before .before .before .before .before .before .before .before .before .before .before .before .before .before .args .block .now) (c .before .before .before .before .before .before .before .before .before .before .before .before .before .before .before .args .tree .now) (c .before .before .before .before .before .before .before .before .before .before .before .before .before .before .before .args .marks .now) (c .before .before .before .before .before .before .before .before .before .before .before .before .before .before .before .args .root .now))
+    let g = c .before .before .before .before .before .before .before .before .before .before .before .before .before .before .before .args in
+    subst Small (sym (ap (λ (w : TreeLeft Answer). w .answer) (c .before .before .before .before .before .before .write-tree .ensures))) (small (g .depth) (g .table .now) (g .block .now) (g .tree .now) (g .marks .now) (g .root .now))
 
 same-length : tie.Need-same-length
 same-length c = search needs
@@ -28,8 +27,7 @@ same-length-3 : tie.Need-same-length-3
 same-length-3 c = search needs
 
 returns : tie.Need-returns
-returns c =
-    (c .call-result .ensures ∙ ap callResult (c .before .before .before .before .before .before .before .write-tree .ensures .0), c .before .before .before .before .before .before .before .write-tree .ensures .1 ∙ ap (λ a. treeLeft a (wordsOf (c .before .before .before .before .before .before .before .before .before .before .before .before .before .before .before .before .args .table .now)) (c .before .before .before .before .before .before .before .before .before .before .before .before .before .before .before .before .args .block .now) (c .before .before .before .before .before .before .before .before .before .before .before .before .before .before .before .before .args .tree .now)) (c .before .before .before .before .before .before .before .write-tree .ensures .0), c .before .before .before .before .before .before .before .write-tree .ensures .2 ∙ ap (λ a. marksLeft a (c .before .before .before .before .before .before .before .before .before .before .before .before .before .before .before .before .args .depth) (c .before .before .before .before .before .before .before .before .before .before .before .before .before .before .before .before .args .marks .now)) (c .before .before .before .before .before .before .before .write-tree .ensures .0), c .before .before .before .before .before .before .before .write-tree .ensures .3 ∙ ap (λ a. rootLeft a (c .before .before .before .before .before .before .before .write-tree .last .1 .1 .1 .0) (c .before .before .before .before .before .before .before .before .before .before .before .before .before .before .before .before .args .root .now)) (c .before .before .before .before .before .before .before .write-tree .ensures .0))
+returns c = tree-left _ _ (c .call-result .ensures) _ _ _ _ (c .before .before .before .before .before .before .before .write-tree .ensures)
 
 pub cmt-tree-write-spec : {M : Type 1} → statement M
 cmt-tree-write-spec =
