@@ -1,5 +1,5 @@
 -- A call that stops at a test, and one that passes it.
-use mathlib.Core.Path.{_≡_, refl, sym, _∙_, subst}
+use mathlib.Core.Path.{_≡_, refl, sym, subst}
 use Prim.Native.Nat.{ℕ}
 use Rattle.guarantees.specs.Answers.{done, test, fails, holds, unless, JustWhen}
 

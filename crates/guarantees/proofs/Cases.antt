@@ -3,7 +3,7 @@ use mathlib.Core.Path.{_≡_, refl, sym, ap, _∙_}
 use mathlib.Core.Logic.{_↔_}
 use mathlib.Core.Bool.{true}
 use mathlib.Core.List.{List}
-use Prim.Native.Nat.{ℕ, suc, _+_, _-_, _*_, _≤_, _<_}
+use Prim.Native.Nat.{ℕ, suc, _-_, _*_, _≤_, _<_}
 use native.Mathlib.Nat.{mul-le-mul-right}
 use native.Mathlib.Omega.{arith}
 use lib.ListN.{length}
@@ -11,18 +11,18 @@ use Rattle.octets.specs.BigEndian.{bytesOf}
 use Rattle.parity_table.specs.Shape.{depthFits, kOf, nOf}
 use Rattle.parity_table.specs.Members.{lastOf}
 use Rattle.parity_table.specs.Table.{layerOf, equationOf, equationsWords, layersWords, tableWords}
-use Rattle.parity_table.specs.Bytes.{wordsOf}
-use Rattle.parity_table.specs.House.{houseEquation, houseEquations, houseLayers, houseTable, houseWords}
+use Rattle.table_bytes.specs.Bytes.{wordsOf}
+use Rattle.house_table.specs.House.{houseEquation, houseEquations, houseLayers, houseTable, houseWords}
 use Rattle.parity_table.proofs.Accepts.{accepted-table}
-use Rattle.parity_table.proofs.ByteForm.{bytes-accepted}
-use Rattle.parity_table.proofs.RoundTrip.{house-bytes-accepted}
+use Rattle.house_table.proofs.HouseBytes.{house-bytes-accepted}
 use Rattle.symbol_hash.specs.SymbolHash.{symbolHash}
+use Rattle.symbol_hash.specs.declared.Kind.the-variants.{Plain}
 use Rattle.model.specs.Shape.{tree, place, places}
 use Rattle.model.specs.Symbols.{symbolIn, symAt}
 use Rattle.model.specs.Fault.{proofLength, proofLayer, proofEquation, proofMembers}
 use Rattle.model.proofs.Sound.{accepted-is}
-use Rattle.cedunmi.proofs.LoadLaws.{table-laws-of}
-use Rattle.cedunmi.proofs.Sound.{passed}
+use Rattle.calls.proofs.AdmissionLaws.{table-laws-of}
+use Rattle.fault_calls.proofs.CheckingLaws.{passed}
 use Rattle.guarantees.specs.Terms.{equationsOf}
 use Rattle.guarantees.specs.Cases.{coded, EveryCall, Depths, Has, Longest, Stands, none, _also_, CasesHold}
 use Rattle.guarantees.specs.Layouts.{bytesFrom, symbolAt, hashFor, kindValue}
@@ -130,11 +130,11 @@ longest =
       none-accepted = λ root table b e.
           let p = passed 5 root table b e in
           let tbl : List (List (List ℕ)) = equationsOf table in
-          let a = accepted-is tree symbolHash root tbl b (p .accepts) in
+          let a = accepted-is tree (symbolHash Plain) root tbl b (p .accepts) in
           let j : ℕ = proofLayer b in
           let ms : List ℕ = equationOf tbl j (proofEquation b) in
-          let deep : length tbl ≡ 5 = accepted-table 5 (wordsOf table) (bytes-accepted 5 table (p .whole)) .depth in
-          let few : length ms ≤ 8 = table-laws-of 5 table (p .whole) .few-members j (proofEquation b) (a .named .layer-ok) (a .named .equation-ok) in
+          let deep : length tbl ≡ 5 = accepted-table 5 (wordsOf table) (p .admits .accepted) .depth in
+          let few : length ms ≤ 8 = table-laws-of 5 table (p .admits .accepted) .few-members j (proofEquation b) (a .named .layer-ok) (a .named .equation-ok) in
           omega (arith, a .exact, longer j (length ms) (omega (arith, deep, a .named .layer-ok)) few);
     }
 

@@ -3,39 +3,43 @@ use mathlib.Core.Path.{_≡_, refl, sym, ap, _∙_}
 use mathlib.Core.List.{List}
 use Prim.Native.Nat.{ℕ}
 use native.Mathlib.Omega.{arith}
+use lib.ListN.{length}
 use Rattle.octets.proofs.Choice.{by-test, pick-yes, pick-no}
 use Rattle.sha256.specs.Hash.{sha256}
-use Rattle.sha256.specs.Call.{fits, answer, after, number}
+use Rattle.sha256.specs.Call.{fits, answer, after}
+use Rattle.sha256.specs.declared.Answer.{Answer as Hashed}
 use Rattle.sha256.specs.declared.Answer.the-variants as hashed
 use Rattle.parity_table.specs.declared.Answer.{Answer as Read}
 use Rattle.parity_table.specs.declared.Answer.the-variants as read
-use Rattle.parity_table.specs.Right as reader
-use Rattle.parity_table.specs.Bytes.{wordsOf}
 use Rattle.model.specs.Shape.{tree}
 use Rattle.model.specs.Symbols.{symAt}
 use Rattle.model.specs.Writer.{blockOf, writeTree, writtenMarks, writtenRoot}
 use Rattle.model.specs.Repair.{St}
 use Rattle.model.specs.Sampling.{sampleBytes}
 use Rattle.symbol_hash.specs.SymbolHash.{symbolHash}
-use Rattle.cedunmi.specs.declared.Stop.{Stop}
-use Rattle.cedunmi.specs.declared.Answer.{Answer}
-use Rattle.cedunmi.specs.declared.Answer.the-variants.{Done, Stopped}
-use Rattle.cedunmi.specs.Volume.{treeWritten, treeLeft, marksLeft, rootLeft, blockRead, blockLeft}
-use Rattle.cedunmi.specs.Sample.{sampleTaken, sampleLeft}
-use Rattle.cedunmi.specs.Repairs.{repairTested, repairOf, leftBy}
+use Rattle.symbol_hash.specs.declared.Kind.the-variants.{Plain}
+use Rattle.calls.specs.declared.Stop.{Stop}
+use Rattle.calls.specs.declared.Answer.{Answer}
+use Rattle.calls.specs.declared.Answer.the-variants.{Done, Stopped}
+use Rattle.calls.specs.Stops.{numberOf}
+use Rattle.calls.specs.Tests.{readAnswer}
+use Rattle.calls.proofs.TestLaws.{stopped-not}
+use Rattle.cedunmi_c.specs.Result.{hashAnswer}
+use Rattle.volume_calls.specs.Reading.{blockTested, readBy, blockRead}
+use Rattle.volume_calls.specs.Writing.{writtenBy, writeTested, treeWritten}
+use Rattle.sample_calls.specs.Taking.{takeTested, takenBy, sampleTaken}
+use Rattle.fault_calls.specs.Repairing.{repairTested, repairOf, repairedBy, repaired}
 use Rattle.guarantees.specs.Terms.{equationsOf}
 use Rattle.guarantees.specs.Demand1.{Condition, HouseWriter, TreeWriter, Repairer, Demand1}
 use Rattle.guarantees.proofs.Refusals.{refusals}
 use Rattle.guarantees.proofs.FaultProofs.{fault-proofs}
 
-pub stopped-not : (s : Stop) → Stopped s ≡ Done → ⊥
-stopped-not s e = let z : _≡_ {A = ℕ} 0 1 = cc in omega arith
+-- a buffer that a done call makes new, and one that a stopped call leaves
+made : (old new : List ℕ) → Condition (Done ≡ Done) old new new
+made old new = record { described = λ e. refl; untouched = λ n. absurd (n refl) }
 
--- a buffer that a done call makes new, and a stopped one leaves
-condition : (left : Answer → List ℕ) (old new : List ℕ) → left Done ≡ new → ((s : Stop) → left (Stopped s) ≡ old) → (a : Answer)
-    → Condition (a ≡ Done) old new (left a)
-condition left old new d s Done = record { described = λ e. d; untouched = λ n. absurd (n refl) }
-condition left old new d s (Stopped w) = record { described = λ e. absurd (stopped-not w e); untouched = λ n. s w }
+kept : (s : Stop) (old new : List ℕ) → Condition (Stopped s ≡ Done) old new old
+kept s old new = record { described = λ e. absurd (stopped-not s e); untouched = λ n. refl }
 
 hasher : (m d : List ℕ) → Condition (answer m d ≡ hashed.Done) d (sha256 m) (after m d)
 unfolding answer after
@@ -45,36 +49,42 @@ hasher m d =
     record { described = λ q. pick-yes (fits m d) (sha256 m) d t; untouched = λ n. absurd (n (pick-yes (fits m d) hashed.Done hashed.Length t)) })
     (λ t.
     record {
-      described = λ q. absurd (omega (arith, ap number (sym (pick-no (fits m d) hashed.Done hashed.Length t) ∙ q)));
+      described = λ q. absurd (omega (arith, ap (λ (a : Hashed). numberOf (hashAnswer a)) (sym (pick-no (fits m d) hashed.Done hashed.Length t) ∙ q)));
       untouched = λ n. pick-no (fits m d) (sha256 m) d t;
     })
 
 house : (new lent : List ℕ) (a : Read) → HouseWriter new lent a
-house new lent read.Depth = record { described = λ e. absurd (omega (arith, ap reader.numberOf e)); untouched = λ n. refl }
-house new lent read.Length = record { described = λ e. absurd (omega (arith, ap reader.numberOf e)); untouched = λ n. refl }
-house new lent (read.Wrong i) = record { described = λ e. absurd (omega (arith, ap reader.numberOf e)); untouched = λ n. refl }
+house new lent read.Depth = record { described = λ e. absurd (omega (arith, ap (λ (r : Read). numberOf (readAnswer r)) e)); untouched = λ n. refl }
+house new lent read.Length = record { described = λ e. absurd (omega (arith, ap (λ (r : Read). numberOf (readAnswer r)) e)); untouched = λ n. refl }
+house new lent (read.Wrong i) = record { described = λ e. absurd (omega (arith, ap (λ (r : Read). numberOf (readAnswer r)) e)); untouched = λ n. refl }
 house new lent read.Whole = record { described = λ e. refl; untouched = λ n. absurd (n refl) }
 
-tree-writer : (depth : ℕ) (table block t m root : List ℕ) (a : Answer) → TreeWriter depth table block t m root a
-tree-writer depth table block t m root a =
-    record {
-      tree-bytes = condition (λ r. treeLeft r (wordsOf table) block t) t (writeTree tree symbolHash (equationsOf table) block t) refl (λ s. refl) a;
-      mark-bytes = condition (λ r. marksLeft r depth m) m (writtenMarks tree depth) refl (λ s. refl) a;
-      root-bytes = λ w. condition (λ r. rootLeft r w root) root (writtenRoot tree symbolHash w) refl (λ s. refl) a;
-    }
+tree-writer : (depth : ℕ) (table block t m root : List ℕ) (a : Answer)
+    → TreeWriter depth table block t m root (writtenBy a depth (equationsOf table) block t m root)
+tree-writer depth table block t m root Done =
+    let new : List ℕ = writeTree tree (symbolHash Plain) (equationsOf table) block t in
+    record { tree-bytes = made t new; mark-bytes = made m (writtenMarks tree depth); root-bytes = made root (writtenRoot tree (symbolHash Plain) new) }
+tree-writer depth table block t m root (Stopped s) = record { tree-bytes = kept s t _; mark-bytes = kept s m _; root-bytes = kept s root _ }
 
-repairer : (root table t m o : List ℕ) (a : Answer) → Repairer root table t m o a
-repairer root table t m o a =
+block-reader : (depth : ℕ) (t b : List ℕ) (a : Answer) → Condition (readBy a depth t b .answer ≡ Done) b (blockOf tree depth t) (readBy a depth t b .block)
+block-reader depth t b Done = made b (blockOf tree depth t)
+block-reader depth t b (Stopped s) = kept s b _
+
+sampler : (depth i : ℕ) (t s : List ℕ) (a : Answer)
+    → Condition (takenBy a depth i t s .answer ≡ Done) s (sampleBytes tree (symAt tree t) depth i) (takenBy a depth i t s .sample)
+sampler depth i t s Done = made s (sampleBytes tree (symAt tree t) depth i)
+sampler depth i t s (Stopped w) = kept w s _
+
+repairer : (root table t m o : List ℕ) (a : Answer) → Repairer root table t m o a (repairedBy a (repairOf root table t m o) t m o)
+repairer root table t m o Done =
     let st : St = repairOf root table t m o in
-    record {
-      tree-bytes = condition (λ r. leftBy r (st .tree) t) t (st .tree) refl (λ s. refl) a;
-      mark-bytes = condition (λ r. leftBy r (st .marks) m) m (st .marks) refl (λ s. refl) a;
-      out-bytes = condition (λ r. leftBy r (st .out) o) o (st .out) refl (λ s. refl) a;
-    }
+    record { tree-bytes = made t (st .tree); mark-bytes = made m (st .marks); out-bytes = made o (st .out) }
+repairer root table t m o (Stopped s) = record { tree-bytes = kept s t _; mark-bytes = kept s m _; out-bytes = kept s o _ }
 
 -- ---- the demand
 
 pub demand-1 : Demand1
+unfolding treeWritten blockRead sampleTaken repaired
 demand-1 =
     record {
       refusals = refusals;
@@ -82,9 +92,8 @@ demand-1 =
       hasher = hasher;
       house-words = λ depth lent. house _ lent _;
       house-bytes = λ depth lent. house _ lent _;
-      tree-writer = λ depth table block t m root. tree-writer depth table block t m root (treeWritten depth table block t m root);
-      block-reader = λ depth t m b. condition (λ r. blockLeft r depth t b) b (blockOf tree depth t) refl (λ s. refl) (blockRead depth t m b);
-      sampler = λ depth i t m s.
-          condition (λ r. sampleLeft r depth i t s) s (sampleBytes tree (symAt tree t) depth i) refl (λ w. refl) (sampleTaken depth i t m s);
+      tree-writer = λ depth table block t m root. tree-writer depth table block t m root (writeTested depth table block t m root);
+      block-reader = λ depth t m b. block-reader depth t b (blockTested depth (length t) m (length b));
+      sampler = λ depth i t m s. sampler depth i t s (takeTested depth i (length t) m (length s));
       repairer = λ depth root table t m o. repairer root table t m o (repairTested depth root table t m o);
     }

@@ -1,24 +1,25 @@
 -- Demand 2: what is written, read back, sampled and accepted.
 use mathlib.Core.Path.{_≡_, refl, sym, ap, ap₂, _∙_, subst}
 use mathlib.Core.Logic.{_⊎_, inl, inr, ⊎-elim}
-use mathlib.Core.Bool.{true, _&&_}
+use mathlib.Core.Bool.{true}
 use mathlib.Core.List.{List}
 use Prim.Native.Nat.{ℕ, _+_, _-_, _*_, _≤_, _<_}
 use native.Mathlib.Omega.{arith}
 use native.Mathlib.Nat.{zero-add}
 use lib.ListN.{length, getD, drop, length-take, length-drop}
-use lib.Dec.{ltb, eqb}
-use borrow.Author.Tests.{eqb-true, eq-eqb, ltb-true, ltb-false}
-use Rattle.octets.proofs.Choice.{pick-ind, and-yes, yes-and}
+use borrow.Author.Tests.{eq-eqb}
+use Rattle.octets.proofs.Choice.{yes-and}
 use Rattle.parity_table.specs.Shape.{depthFits, kOf, nOf}
 use Rattle.parity_table.specs.Table.{TableOk}
-use Rattle.parity_table.specs.Bytes.{wordsOf, readBytesOf}
+use Rattle.table_bytes.specs.Bytes.{wordsOf, readBytesOf}
 use Rattle.parity_table.specs.declared.Answer.the-variants.{Whole}
 use Rattle.sha256.specs.Hash.{sha256}
-use Rattle.parity_table.proofs.Accepts.{depth-is, accepted-formed, accepted-depth, accepted-table}
+use Rattle.parity_table.proofs.Shape.{depth-is}
+use Rattle.parity_table.proofs.Accepts.{accepted-formed, accepted-depth, accepted-table}
 use Rattle.parity_table.proofs.Parse.{formed-words}
-use Rattle.parity_table.proofs.ByteForm.{bytes-accepted}
+use Rattle.table_bytes.proofs.ByteForm.{bytes-accepted}
 use Rattle.symbol_hash.specs.SymbolHash.{symbolHash}
+use Rattle.symbol_hash.specs.declared.Kind.the-variants.{Plain}
 use Rattle.symbol_hash.proofs.Laws.{length-symbolHash}
 use Rattle.model.specs.Shape.{tree, place, places}
 use Rattle.model.specs.Symbols.{symbolIn, symAt}
@@ -38,16 +39,21 @@ use Rattle.model.proofs.Binding.{root-length, original-block}
 use Rattle.sampling.specs.Lent.{BaseSymbol}
 use Rattle.sampling.proofs.SymbolLaws.{in-tree, sample-place-lt}
 use Rattle.model.proofs.Samples.{accepted-leads, leads-accepted, taken-length, taken-accepted, accepted-true}
-use Rattle.cedunmi.specs.declared.Answer.{Answer}
-use Rattle.cedunmi.specs.declared.Answer.the-variants.{Done}
-use Rattle.cedunmi.specs.Stops.{numberOf}
-use Rattle.cedunmi.specs.Marks.{lowestBad}
-use Rattle.cedunmi.specs.Volume.{treeWritten, blockLengths, lowestAbsent, blockRead}
-use Rattle.cedunmi.specs.Sample.{led, needed, sampleTaken, sampleChecked}
-use Rattle.cedunmi.proofs.LoadLaws.{table-done}
-use Rattle.cedunmi.proofs.SampleLaws.{at-end, sample-end}
-use Rattle.cedunmi.proofs.WriteLaws.{write-read}
-use Rattle.cedunmi.proofs.VolumeLaws.{tree-lengths, read-done, base-room}
+use Rattle.calls.specs.declared.Answer.{Answer}
+use Rattle.calls.specs.declared.Answer.the-variants.{Done}
+use Rattle.calls.specs.Stops.{numberOf}
+use Rattle.calls.specs.Marks.{lowestBad}
+use Rattle.volume_calls.specs.Reading.{BlockLeft, readSized, lowestAbsent, testBase, blockRead}
+use Rattle.volume_calls.specs.Writing.{TreeLeft, leaves, writeSized, treeWritten}
+use Rattle.sample_calls.specs.Checking.{checkTested, led, sampleChecked}
+use Rattle.sample_calls.specs.Taking.{SampleLeft, needed, sampleTaken}
+use Rattle.calls.specs.Tests.{_then_, opened, testMarks}
+use Rattle.calls.proofs.TestLaws.{then-done}
+use Rattle.calls.proofs.AdmissionLaws.{admission, admits}
+use Rattle.volume_calls.proofs.WritingLaws.{answer-is as write-answer, tests-passed as write-passed, when-done as write-done, sizes as write-sizes}
+use Rattle.volume_calls.proofs.ReadingLaws.{base-room, base-passed, passed as read-passed, sizes as read-sizes, tests-passed as read-tests, when-done as read-left, done-when as read-when}
+use Rattle.sample_calls.proofs.CheckingLaws.{passed as check-passed, sizes as check-sizes, at-end}
+use Rattle.sample_calls.proofs.TakingLaws.{passed as take-passed, sizes as take-sizes, tests-passed as take-tests, when-done as take-left, needs-held}
 use Rattle.guarantees.specs.Terms.{equationsOf}
 use Rattle.guarantees.specs.Layouts.{bytesFrom, allSymbols, symbolAt, sampledLayer, sampledNumber}
 use Rattle.guarantees.specs.Tables.{listed}
@@ -83,45 +89,41 @@ pub record WriterInput (depth : ℕ) (table block t m root : List ℕ) : Type 0 
   pub marks-full : length m ≡ places tree depth
   pub root-full : length root ≡ 512
 
-pub coding : (d : ℕ) (table block t m root : List ℕ) → treeWritten d table block t m root ≡ Done → WriterInput d table block t m root
-unfolding treeWritten
-coding d table block t m root =
-    let P : Answer → Type 0 = λ a. a ≡ Done → WriterInput d table block t m root in
-    pick-ind P (depthFits d)
-    (λ f.
-    pick-ind P
-    (eqb (length block) (256 * kOf (d - 1)) && ((eqb (length t) (256 * places tree d) && eqb (length m) (places tree d)) && eqb (length root) 512))
-    (λ l e.
-    let (b, q) = and-yes (eqb (length block) (256 * kOf (d - 1))) ((eqb (length t) (256 * places tree d) && eqb (length m) (places tree d)) && eqb (length root) 512) l in
-    let (tm, r) = and-yes (eqb (length t) (256 * places tree d) && eqb (length m) (places tree d)) (eqb (length root) 512) q in
-    let n = tree-lengths d (length t) (length m) tm in
-    record {
-      fit-depth = f;
-      whole-table = table-done (readBytesOf d table) Done e .0;
-      block-full = eqb-true (length block) (256 * kOf (d - 1)) b;
-      tree-full = n .0;
-      marks-full = n .1;
-      root-full = eqb-true (length root) 512 r;
-    })
-    (λ l e. absurd (omega (arith, ap numberOf e))))
-    (λ f e. absurd (omega (arith, ap numberOf e)))
+pub coding : (d : ℕ) (table block t m root : List ℕ) → treeWritten d table block t m root .answer ≡ Done → WriterInput d table block t m root
+coding d table block t m root e =
+    let a = admission d (writeSized d (length block) (length t) (length m) (length root)) table (write-passed d table block t m root e) in
+    let (b, v, w, r) = write-sizes d (length block) (length t) (length m) (length root) (a .lengths) in
+    record { fit-depth = a .deep; whole-table = a .whole; block-full = b; tree-full = v; marks-full = w; root-full = r }
 
-pub written-when : (d : ℕ) (table block t m root : List ℕ) → WriterInput d table block t m root → treeWritten d table block t m root ≡ Done
+pub written-when : (d : ℕ) (table block t m root : List ℕ) → WriterInput d table block t m root → treeWritten d table block t m root .answer ≡ Done
 written-when d table block t m root k =
-    sym (write-read d table block t m root (k .fit-depth) (eq-eqb (length block) (256 * kOf (d - 1)) (k .block-full))
-    (yes-and (eq-eqb (length t) (256 * places tree d) (k .tree-full)) (eq-eqb (length m) (places tree d) (k .marks-full))) (k .root-full) Whole
-    (sym (k .whole-table)))
+    write-answer d table block t m root
+    ∙ sym (admits d (writeSized d (length block) (length t) (length m) (length root)) table (k .fit-depth)
+    (yes-and (yes-and (eq-eqb (length t) (256 * places tree d) (k .tree-full)) (eq-eqb (length m) (places tree d) (k .marks-full)))
+    (yes-and (eq-eqb (length block) (256 * kOf (d - 1)) (k .block-full)) (eq-eqb (length root) 512 (k .root-full)))) (k .whole-table))
 
 module _ (depth : ℕ) (table block : List ℕ) where
   abbrev tbl : List (List (List ℕ))
   tbl = equationsOf table
 
-  module _ (t m root : List ℕ) (e : treeWritten depth table block t m root ≡ Done) where
+  module _ (t m root : List ℕ) (e : treeWritten depth table block t m root .answer ≡ Done) where
     abbrev new : List ℕ
-    new = writeTree tree symbolHash tbl block t
+    new = writeTree tree (symbolHash Plain) tbl block t
 
     c : WriterInput depth table block t m root
     c = coding depth table block t m root e
+
+    left : treeWritten depth table block t m root ≡ leaves Done new (writtenMarks tree depth) (writtenRoot tree (symbolHash Plain) new)
+    left = write-done depth table block t m root e
+
+    pub tree-left : treeAfter depth table block t m root ≡ new
+    tree-left = ap (λ (w : TreeLeft Answer). w .tree) left
+
+    pub marks-left : marksAfter depth table block t m root ≡ writtenMarks tree depth
+    marks-left = ap (λ (w : TreeLeft Answer). w .marks) left
+
+    pub root-left : rootAfter depth table block t m root ≡ writtenRoot tree (symbolHash Plain) new
+    root-left = ap (λ (w : TreeLeft Answer). w .root) left
 
     deep : length tbl ≡ depth
     deep = rules depth table (c .whole-table) .depth
@@ -135,8 +137,8 @@ module _ (depth : ℕ) (table block : List ℕ) where
     pub lent-length : length t ≡ 256 * places tree (length tbl)
     lent-length = c .tree-full ∙ ap (λ (d : ℕ). 256 * places tree d) (sym deep)
 
-    so : Written tree symbolHash tbl block new
-    so = written tree tree-ok symbolHash length-symbolHash tbl fits block block-length t lent-length
+    so : Written tree (symbolHash Plain) tbl block new
+    so = written tree tree-ok (symbolHash Plain) (length-symbolHash Plain) tbl fits block block-length t lent-length
 
     new-length : length new ≡ 256 * places tree depth
     new-length = so .sized ∙ ap (λ (d : ℕ). 256 * places tree d) deep
@@ -147,8 +149,8 @@ module _ (depth : ℕ) (table block : List ℕ) where
     ok : TableOk depth tbl
     ok = rules depth table (c .whole-table)
 
-    agrees-so : AgreesWith depth tbl (writtenRoot tree symbolHash new) (symbolAt new)
-    agrees-so = rw (symbols-are new) (agrees-with depth tbl ok (writtenRoot tree symbolHash new) (symAt tree new) (so .agrees))
+    agrees-so : AgreesWith depth tbl (writtenRoot tree (symbolHash Plain) new) (symbolAt new)
+    agrees-so = rw (symbols-are new) (agrees-with depth tbl ok (writtenRoot tree (symbolHash Plain) new) (symAt tree new) (so .agrees))
 
     block-so : HasBlock depth (symbolAt new) block
     block-so i h =
@@ -161,7 +163,7 @@ module _ (depth : ℕ) (table block : List ℕ) where
         symbol-at new j i
         ∙ so .only f (right-coded depth tbl ok f k) (subst (λ (d : ℕ). BaseOf tree d f block) (sym deep) (block-base depth f block b)) j i (omega (arith, deep), hi)
 
-    root-so : (f : ℕ → ℕ → List ℕ) → CorrectlyCoded depth tbl f → HasBlock depth f block → RootOf f (writtenRoot tree symbolHash new)
+    root-so : (f : ℕ → ℕ → List ℕ) → CorrectlyCoded depth tbl f → HasBlock depth f block → RootOf f (writtenRoot tree (symbolHash Plain) new)
     root-so f k b =
         record {
           full = agrees-so .root-of .full;
@@ -173,27 +175,31 @@ module _ (depth : ℕ) (table block : List ℕ) where
         record {
           by-rules = ok-rules depth tbl ok;
           table-words = words-listed depth table (c .whole-table);
-          agrees = rw e agrees-so;
-          has-block = rw e block-so;
-          only = rw e only-so;
-          only-root = rw e root-so;
-          marked = rw e (λ p h. marks-one tree depth p (omega (arith, tree-symbols depth)));
-          lengths = rw e
+          agrees = rw (tree-left, root-left) agrees-so;
+          has-block = rw tree-left block-so;
+          only = rw tree-left only-so;
+          only-root = rw root-left root-so;
+          marked = rw marks-left (λ p h. marks-one tree depth p (omega (arith, tree-symbols depth)));
+          lengths = rw (tree-left, marks-left)
               (record {
                 tree-bytes = new-length ∙ ap (λ (n : ℕ). 256 * n) (sym (tree-symbols depth));
                 mark-bytes = marks-length tree depth ∙ sym (tree-symbols depth);
               });
         }
 
-  same-again : (t m root t′ m′ root′ : List ℕ) (e : treeWritten depth table block t m root ≡ Done) (e′ : treeWritten depth table block t′ m′ root′ ≡ Done)
+  same-again : (t m root t′ m′ root′ : List ℕ) (e : treeWritten depth table block t m root .answer ≡ Done)
+      (e′ : treeWritten depth table block t′ m′ root′ .answer ≡ Done)
       → (treeAfter depth table block t m root ≡ treeAfter depth table block t′ m′ root′)
       × (marksAfter depth table block t m root ≡ marksAfter depth table block t′ m′ root′)
       × (rootAfter depth table block t m root ≡ rootAfter depth table block t′ m′ root′)
   same-again t m root t′ m′ root′ e e′ =
       let q : new t m root e ≡ new t′ m′ root′ e′ =
-      written-same tree tree-ok symbolHash length-symbolHash tbl (fits t m root e) block t t′ (block-length t m root e) (lent-length t m root e)
-      (lent-length t′ m′ root′ e′) in
-      (rw (e, e′) q, rw (e, e′) refl, rw (e, e′) (ap (writtenRoot tree symbolHash) q))
+      written-same tree tree-ok (symbolHash Plain) (length-symbolHash Plain) tbl (fits t m root e) block t t′ (block-length t m root e) (lent-length t m root e)
+      (lent-length t′ m′ root′ e′) in (
+        tree-left t m root e ∙ q ∙ sym (tree-left t′ m′ root′ e′),
+        marks-left t m root e ∙ sym (marks-left t′ m′ root′ e′),
+        root-left t m root e ∙ ap (writtenRoot tree (symbolHash Plain)) q ∙ sym (root-left t′ m′ root′ e′),
+      )
 
 -- ---- reading back
 
@@ -203,34 +209,21 @@ record Reading (d : ℕ) (t m b : List ℕ) : Type 0 where
   tree-full : length t ≡ 256 * places tree d
   base-held : kOf (d - 1) ≤ lowestAbsent d m
 
-reading : (d : ℕ) (t m b : List ℕ) → blockRead d t m b ≡ Done → Reading d t m b
-unfolding blockRead blockLengths
-reading d t m b =
-    let P : Answer → Type 0 = λ a. a ≡ Done → Reading d t m b in
-    pick-ind P (depthFits d)
-    (λ f.
-    pick-ind P ((eqb (length t) (256 * places tree d) && eqb (length m) (places tree d)) && eqb (length b) (256 * kOf (d - 1)))
-    (λ l.
-    pick-ind P (ltb (lowestBad m) (length m)) (λ w e. absurd (omega (arith, ap numberOf e)))
-    (λ w.
-    pick-ind P (ltb (lowestAbsent d m) (kOf (d - 1))) (λ z e. absurd (omega (arith, ap numberOf e)))
-    (λ z e.
-    let (tm, q) = and-yes (eqb (length t) (256 * places tree d) && eqb (length m) (places tree d)) (eqb (length b) (256 * kOf (d - 1))) l in
-    record {
-      fit-depth = f;
-      tree-full = tree-lengths d (length t) (length m) tm .0;
-      base-held = ltb-false (lowestAbsent d m) (kOf (d - 1)) z;
-    })))
-    (λ l e. absurd (omega (arith, ap numberOf e))))
-    (λ f e. absurd (omega (arith, ap numberOf e)))
+reading : (d : ℕ) (t m b : List ℕ) → blockRead d t m b .answer ≡ Done → Reading d t m b
+reading d t m b e =
+    let q = read-tests d t m b e in
+    let k = read-passed d (length t) m (length b) q in
+    let r = then-done (opened d (readSized d (length t) (length m) (length b))) (testMarks m then testBase d m) q .1 in
+    record { fit-depth = k .deep; tree-full = read-sizes d (length t) (length m) (length b) (k .lengths) .0; base-held = base-passed d m (then-done (testMarks m) (testBase d m) r .1) }
 
 reads-base : ReadsBase
 unfolding blockOf place kOf symbolIn bytesFrom
 reads-base depth t m b e =
     let r = reading depth t m b e in
+    let l = ap (λ (w : BlockLeft Answer). w .block) (read-left depth t m b e) in
     let k = depth-is depth (r .fit-depth) .0 in
     let low = lowest-is (absentAt tree m (depth - 1)) 0 (kOf (depth - 1)) in (
-      rw e
+      rw l
           (omega (
             arith,
             length-take (256 * kOf (depth - 1)) (drop (256 * (places tree (depth - 1) + 0)) t),
@@ -239,7 +232,7 @@ reads-base depth t m b e =
             base-room depth k,
           )),
       λ i h. (
-        rw e (block-symbol tree depth t i h ∙ sym (symbol-at t (depth - 1) i)),
+        rw l (block-symbol tree depth t i h ∙ sym (symbol-at t (depth - 1) i)),
         mark-at m (depth - 1) i ∙ held-marked m (depth - 1) i (low .before i (omega arith) (omega (arith, r .base-held))),
       ),
     )
@@ -254,30 +247,32 @@ module _ (depth : ℕ) (t m : List ℕ) (k : CompleteTree depth t m) where
   held : (p : ℕ) → p < places tree depth → getD m p 0 ≡ 1
   held p h = k .all-held p (omega (arith, tree-symbols depth))
 
-  complete-read : (b : List ℕ) → BlockLength depth b → blockRead depth t m b ≡ Done
+  complete-read : (b : List ℕ) → BlockLength depth b → blockRead depth t m b .answer ≡ Done
   unfolding kOf
   complete-read b l =
-      sym (read-done depth t m b fit (size-tests depth t m (k .lengths)) (eq-eqb (length b) (256 * kOf (depth - 1)) l) no-bad
-      (none-absent depth (k .depth-right .0) m held))
+      read-when depth t m b fit (yes-and (size-tests depth t m (k .lengths)) (eq-eqb (length b) (256 * kOf (depth - 1)) l)) no-bad
+      (none-absent depth (k .depth-right .0) m held)
 
-  complete-sampled : (i : ℕ) (s : List ℕ) → InBase depth i → SampleLength depth s → sampleTaken depth i t m s ≡ Done
+  complete-sampled : (i : ℕ) (s : List ℕ) → InBase depth i → SampleLength depth s → sampleTaken depth i t m s .answer ≡ Done
   unfolding kOf nOf
   complete-sampled i s h l =
-      sym (sample-end depth i t m s fit (size-tests depth t m (k .lengths)) l no-bad h)
+      needs-held depth i t m s fit (yes-and (size-tests depth t m (k .lengths)) (eq-eqb (length s) (256 * sampleSize depth) l)) no-bad h
       ∙ ap needed (none-needed depth (k .depth-right .0) m held i (k .depth-right .0, k .depth-right .1, h))
 
 reads-written : ReadsWritten
 reads-written depth table block t m root b e l =
     let x = exactly depth table block t m root e in
-    let done : blockRead depth (new depth table block t m root e) (writtenMarks tree depth) b ≡ Done =
+    let tl = tree-left depth table block t m root e in
+    let ml = marks-left depth table block t m root e in
+    let done : blockRead depth (new depth table block t m root e) (writtenMarks tree depth) b .answer ≡ Done =
     complete-read depth (new depth table block t m root e) (writtenMarks tree depth)
     (record {
       depth-right = depth-is depth (c depth table block t m root e .fit-depth);
-      lengths = rw e at (x .lengths);
-      all-held = rw e at (x .marked);
+      lengths = rw (tl, ml) at (x .lengths);
+      all-held = rw ml at (x .marked);
     })
     b l in
-    (rw e done, rw (e, done) (back depth table block t m root e))
+    (rw (tl, ml) done, rw (tl, ml) (ap (λ (w : BlockLeft Answer). w .block) (read-left depth _ _ b done) ∙ back depth table block t m root e))
 
 reads-original : ReadsOriginal
 unfolding kOf nOf
@@ -285,15 +280,15 @@ reads-original depth table block t m root e u w b q a =
     let d = deep depth table block t m root e in
     let tb : List (List (List ℕ)) = equationsOf table in
     let v : List ℕ = new depth table block t m root e in
-    let a′ : AgreesWith depth tb (writtenRoot tree symbolHash v) (symbolAt u) = rw e at a in
+    let a′ : AgreesWith depth tb (writtenRoot tree (symbolHash Plain) v) (symbolAt u) = rw (root-left depth table block t m root e) at a in
     let sized-u = a′ .correctly-coded .sized in
     let sized-v = agrees-so depth table block t m root e .correctly-coded .sized in
-    ⊎-elim (λ s. inl (rw q (ap (λ (n : ℕ). blockOf tree n u) (sym d) ∙ s)))
+    ⊎-elim (λ s. inl (ap (λ (x : BlockLeft Answer). x .block) (read-left depth u w b q) ∙ ap (λ (n : ℕ). blockOf tree n u) (sym d) ∙ s))
     (λ x.
     let j : ℕ = x .layer in
     let i : ℕ = x .number in
     let hj : j < depth = omega (arith, x .inside .0) in
-    inr (rw e
+    inr (rw (tree-left depth table block t m root e)
     (record {
       layer = j;
       number = i;
@@ -302,9 +297,9 @@ reads-original depth table block t m root e u w b q a =
           (twins-of j i (symAt tree u j i) (symAt tree v j i) (ap length (sym (symbol-at u j i)) ∙ sized-u j i hj (x .inside .1))
           (ap length (sym (symbol-at v j i)) ∙ sized-v j i hj (x .inside .1)) (x .collide));
     })))
-    (original-block tree (tree-ok .shape) symbolHash length-symbolHash tb block v (so depth table block t m root e) u
+    (original-block tree (tree-ok .shape) (symbolHash Plain) (length-symbolHash Plain) tb block v (so depth table block t m root e) u
     (reading depth u w b q .tree-full ∙ ap (λ (n : ℕ). 256 * places tree n) (sym d))
-    (with-agrees depth tb (ok depth table block t m root e) (writtenRoot tree symbolHash v) (symAt tree u) (rw (symbols-are u) at a′)))
+    (with-agrees depth tb (ok depth table block t m root e) (writtenRoot tree (symbolHash Plain) v) (symAt tree u) (rw (symbols-are u) at a′)))
 
 -- ---- samples
 
@@ -314,34 +309,27 @@ done-led (breaks j) e = absurd (omega (arith, ap numberOf e))
 
 sample-right : (depth i : ℕ) (root s : List ℕ) → sampleChecked depth i root s ≡ Done → SampleRight depth i root s
 unfolding sampleChecked kOf nOf
-sample-right depth i root s =
-    let P : Answer → Type 0 = λ a. a ≡ Done → SampleRight depth i root s in
-    pick-ind P (depthFits depth)
-    (λ f.
-    pick-ind P (eqb (length root) 512 && eqb (length s) (256 * sampleSize depth))
-    (λ l.
-    pick-ind P (ltb i (nOf (depth - 1)))
-    (λ z e.
-    let (r, q) = and-yes (eqb (length root) 512) (eqb (length s) (256 * sampleSize depth)) l in
+sample-right depth i root s e =
+    let last : Answer = led (sampleCheck tree (symbolHash Plain) root depth i s) in
+    let (q, l) = then-done (checkTested depth i (length root) (length s)) last e in
+    let (k, b) = check-passed depth i (length root) (length s) q in
     record {
-      depth-right = depth-is depth f;
-      root-length = eqb-true (length root) 512 r;
-      sample-length = eqb-true (length s) (256 * sampleSize depth) q;
-      in-base = ltb-true i (nOf (depth - 1)) z;
-      all-lead = leads-so depth i root s
-          (accepted-leads tree symbolHash root depth i (depth-is depth f .0) s (done-led (sampleCheck tree symbolHash root depth i s) e));
-    })
-    (λ z e. absurd (omega (arith, ap numberOf e))))
-    (λ l e. absurd (omega (arith, ap numberOf e))))
-    (λ f e. absurd (omega (arith, ap numberOf e)))
+      depth-right = (k .some, k .shallow);
+      root-length = check-sizes depth (length root) (length s) (k .lengths) .0;
+      sample-length = check-sizes depth (length root) (length s) (k .lengths) .1;
+      in-base = b .2;
+      all-lead = leads-so depth i root s (accepted-leads tree (symbolHash Plain) root depth i (k .some) s (done-led (sampleCheck tree (symbolHash Plain) root depth i s) l));
+    }
 
-sample-leads : (depth i : ℕ) (root s : List ℕ) → SampleRight depth i root s → sampleCheck tree symbolHash root depth i s ≡ leads
-sample-leads depth i root s r = leads-accepted tree symbolHash root depth i (r .depth-right .0) s (so-leads depth i root s (r .all-lead))
+sample-leads : (depth i : ℕ) (root s : List ℕ) → SampleRight depth i root s → sampleCheck tree (symbolHash Plain) root depth i s ≡ leads
+sample-leads depth i root s r = leads-accepted tree (symbolHash Plain) root depth i (r .depth-right .0) s (so-leads depth i root s (r .all-lead))
 
 right-sample : (depth i : ℕ) (root s : List ℕ) → SampleRight depth i root s → sampleChecked depth i root s ≡ Done
 unfolding kOf nOf
 right-sample depth i root s r =
-    sym (at-end depth i root s (depth-fits depth (r .depth-right)) (r .root-length) (r .sample-length) (r .in-base)) ∙ ap led (sample-leads depth i root s r)
+    sym (at-end depth i root s (depth-fits depth (r .depth-right))
+    (yes-and (eq-eqb (length root) 512 (r .root-length)) (eq-eqb (length s) (256 * sampleSize depth) (r .sample-length))) (r .in-base))
+    ∙ ap led (sample-leads depth i root s r)
 
 -- a sample that was taken is of a symbol of the base of a tree of its lengths, at a depth that fits
 record Taking (depth i : ℕ) (t m : List ℕ) : Type 0 where
@@ -349,23 +337,10 @@ record Taking (depth i : ℕ) (t m : List ℕ) : Type 0 where
   tree-full : length t ≡ 256 * places tree depth
   in-base : i < nOf (depth - 1)
 
-taking : (depth i : ℕ) (t m s : List ℕ) → sampleTaken depth i t m s ≡ Done → Taking depth i t m
-unfolding sampleTaken
-taking depth i t m s =
-    let P : Answer → Type 0 = λ a. a ≡ Done → Taking depth i t m in
-    pick-ind P (depthFits depth)
-    (λ f.
-    pick-ind P ((eqb (length t) (256 * places tree depth) && eqb (length m) (places tree depth)) && eqb (length s) (256 * sampleSize depth))
-    (λ l.
-    pick-ind P (ltb (lowestBad m) (length m)) (λ w e. absurd (omega (arith, ap numberOf e)))
-    (λ w.
-    pick-ind P (ltb i (nOf (depth - 1)))
-    (λ z e.
-    let (tm, q) = and-yes (eqb (length t) (256 * places tree depth) && eqb (length m) (places tree depth)) (eqb (length s) (256 * sampleSize depth)) l in
-    record { fit-depth = f; tree-full = tree-lengths depth (length t) (length m) tm .0; in-base = ltb-true i (nOf (depth - 1)) z })
-    (λ z e. absurd (omega (arith, ap numberOf e)))))
-    (λ l e. absurd (omega (arith, ap numberOf e))))
-    (λ f e. absurd (omega (arith, ap numberOf e)))
+taking : (depth i : ℕ) (t m s : List ℕ) → sampleTaken depth i t m s .answer ≡ Done → Taking depth i t m
+taking depth i t m s e =
+    let (k, b) = take-passed depth i (length t) m (length s) (take-tests depth i t m s e) in
+    record { fit-depth = k .deep; tree-full = take-sizes depth (length t) (length m) (length s) (k .lengths) .0; in-base = b .2 }
 
 -- symbol x of a sample, by either numbering
 sampled-symbol : (depth i x : ℕ) (f : ℕ → ℕ → List ℕ) → f (sampledLayer depth x) (sampledNumber depth i x) ≡ f (sampleLayer depth x) (sampleNumber tree depth i x)
@@ -375,19 +350,20 @@ takes-exactly : TakesExactly
 unfolding sampleBytes symbolIn bytesFrom
 takes-exactly depth i t m s e =
     let k = taking depth i t m s e in
+    let l = ap (λ (w : SampleLeft Answer). w .sample) (take-left depth i t m s e) in
     let base : BaseSymbol depth i = (depth-is depth (k .fit-depth) .0, depth-is depth (k .fit-depth) .1, k .in-base) in
     let g : ℕ → List ℕ = λ x. symAt tree t (sampleLayer depth x) (sampleNumber tree depth i x) in
     let full : (x : ℕ) → x < sampleSize depth → length (g x) ≡ 256 =
     λ x h. symAt-length tree t (sampleLayer depth x) (sampleNumber tree depth i x) (omega (arith, sample-place-lt depth i x base h, k .tree-full)) in
     let from-zero : (x : ℕ) → x < sampleSize depth → length (g (0 + x)) ≡ 256 = λ x h. ap (λ (y : ℕ). length (g y)) (zero-add x) ∙ full x h in (
-      rw e (joined-length g 256 (sampleSize depth) 0 from-zero),
+      rw l (joined-length g 256 (sampleSize depth) 0 from-zero),
       λ x h.
-          rw e
+          rw l
           (joined-piece g 256 (sampleSize depth) 0 x h from-zero ∙ ap g (zero-add x) ∙ sym (symbol-at t (sampleLayer depth x) (sampleNumber tree depth i x))
           ∙ sym (sampled-symbol depth i x (symbolAt t))),
     )
 
-module _ (depth i : ℕ) (root : List ℕ) (tb : List (List (List ℕ))) (keeps : TableOk depth tb) (f : ℕ → ℕ → List ℕ) (agr : Agrees tree symbolHash tb root f)
+module _ (depth i : ℕ) (root : List ℕ) (tb : List (List (List ℕ))) (keeps : TableOk depth tb) (f : ℕ → ℕ → List ℕ) (agr : Agrees tree (symbolHash Plain) tb root f)
     (fit : depthFits depth ≡ true) (hi : i < nOf (depth - 1)) where
   layered : length tb ≡ depth
   layered = keeps .depth
@@ -401,24 +377,25 @@ module _ (depth i : ℕ) (root : List ℕ) (tb : List (List (List ℕ))) (keeps 
   taken-good : sampleChecked depth i root (sampleBytes tree f depth i) ≡ Done
   taken-good =
       sym (at-end depth i root (sampleBytes tree f depth i) fit
-      (ap length (agr .rooted) ∙ root-length tree symbolHash length-symbolHash f ∙ tree-root)
+      (yes-and (eq-eqb (length root) 512 (ap length (agr .rooted) ∙ root-length tree (symbolHash Plain) (length-symbolHash Plain) f ∙ tree-root))
+      (eq-eqb (length (sampleBytes tree f depth i)) (256 * sampleSize depth)
       (subst (λ (d : ℕ). length (sampleBytes tree f d i) ≡ 256 * sampleSize d) layered
-      (taken-length tree tree-ok symbolHash length-symbolHash tb some root f agr i inside)) hi)
+      (taken-length tree tree-ok (symbolHash Plain) (length-symbolHash Plain) tb some root f agr i inside)))) hi)
       ∙ ap led
-      (subst (λ (d : ℕ). sampleCheck tree symbolHash root d i (sampleBytes tree f d i) ≡ leads) layered
-      (taken-accepted tree tree-ok symbolHash length-symbolHash tb some root f agr i inside))
+      (subst (λ (d : ℕ). sampleCheck tree (symbolHash Plain) root d i (sampleBytes tree f d i) ≡ leads) layered
+      (taken-accepted tree tree-ok (symbolHash Plain) (length-symbolHash Plain) tb some root f agr i inside))
 
-  accepted-good : (s : List ℕ) → sampleCheck tree symbolHash root depth i s ≡ leads → SampleTrue tree f depth i s ⊎ SampleCollision tree symbolHash f depth i s
+  accepted-good : (s : List ℕ) → sampleCheck tree (symbolHash Plain) root depth i s ≡ leads → SampleTrue tree f depth i s ⊎ SampleCollision tree (symbolHash Plain) f depth i s
   accepted-good s e =
-      subst (λ (d : ℕ). SampleTrue tree f d i s ⊎ SampleCollision tree symbolHash f d i s) layered
-      (accepted-true tree tree-ok symbolHash length-symbolHash tb some root f agr i inside s
-      (subst (λ (d : ℕ). sampleCheck tree symbolHash root d i s ≡ leads) (sym layered) e))
+      subst (λ (d : ℕ). SampleTrue tree f d i s ⊎ SampleCollision tree (symbolHash Plain) f d i s) layered
+      (accepted-true tree tree-ok (symbolHash Plain) (length-symbolHash Plain) tb some root f agr i inside s
+      (subst (λ (d : ℕ). sampleCheck tree (symbolHash Plain) root d i s ≡ leads) (sym layered) e))
 
 accepts-taken : AcceptsTaken
 accepts-taken depth i root t m s tbl r a e =
     let k = taking depth i t m s e in
     let keeps = rules-ok depth tbl r in
-    rw e
+    rw (ap (λ (w : SampleLeft Answer). w .sample) (take-left depth i t m s e))
     (taken-good depth i root tbl keeps (symAt tree t) (with-agrees depth tbl keeps root (symAt tree t) (rw (symbols-are t) at a)) (k .fit-depth) (k .in-base))
 
 accepted-is-true : AcceptedIsTrue

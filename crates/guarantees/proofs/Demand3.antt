@@ -7,20 +7,21 @@ use Prim.Native.Nat.{ℕ, zero, suc, _+_, _*_, _≤_, _<_}
 use native.Mathlib.Omega.{arith}
 use lib.ListN.{length, getD}
 use lib.Dec.{ltb, eqb}
-use borrow.Author.Tests.{ltb-true, ltb-false, eqb-false, eq-eqb, ne-eqb}
+use borrow.Author.Tests.{ltb-true, eqb-false, eq-eqb, ne-eqb}
 use Rattle.octets.specs.Choice.{pick}
 use Rattle.octets.specs.ByteLists.{same}
-use Rattle.octets.proofs.Choice.{by-test, pick-ind, and-yes, yes-and, both, not-yes}
+use Rattle.octets.proofs.Choice.{by-test, and-yes, yes-and, both, not-yes}
 use Rattle.sha256.specs.Hash.{sha256}
 use Rattle.parity_table.specs.Shape.{depthFits, kOf, nOf}
 use Rattle.parity_table.specs.Members.{every, lastOf}
 use Rattle.parity_table.specs.Table.{layerOf, equationOf, TableOk}
-use Rattle.parity_table.specs.Bytes.{wordsOf, readBytesOf}
+use Rattle.table_bytes.specs.Bytes.{wordsOf, readBytesOf}
 use Rattle.parity_table.specs.declared.Answer.the-variants.{Whole}
-use Rattle.parity_table.proofs.Accepts.{depth-is, accepted-depth}
-use Rattle.parity_table.proofs.ByteForm.{bytes-accepted}
+use Rattle.parity_table.proofs.Shape.{depth-is}
+use Rattle.parity_table.proofs.Accepts.{accepted-depth}
 use Rattle.parity_table.proofs.Rules.{members-below}
 use Rattle.symbol_hash.specs.SymbolHash.{symbolHash}
+use Rattle.symbol_hash.specs.declared.Kind.the-variants.{Plain}
 use Rattle.model.specs.Shape.{tree, place, places}
 use Rattle.model.specs.Symbols.{bit, count, others, symbolIn, xorOf, zeros, committed, symAt}
 use Rattle.model.specs.Repair.{End, working, whole, fault, unavailable, twins, St, absentAt}
@@ -31,15 +32,16 @@ use Rattle.model.proofs.Members.{every-below}
 use Rattle.model.proofs.Counts.{isIt, firstOf-passes, every-others, ascending-once, none-absent, others-held, last-member, first-member}
 use Rattle.model.proofs.Shapes.{place-lt}
 use Rattle.model.proofs.Flat.{symAt-length}
-use Rattle.cedunmi.specs.declared.Answer.{Answer}
-use Rattle.cedunmi.specs.declared.Answer.the-variants.{Done, Stopped}
-use Rattle.cedunmi.specs.Repairs.{repairLengths, repairTested, repairOf, repaired, resultBy, leftBy}
-use Rattle.cedunmi.specs.declared.Stop.the-variants.{Mark}
-use Rattle.cedunmi.specs.Stops.{numberOf}
-use Rattle.cedunmi.specs.Marks.{lowestBad}
-use Rattle.cedunmi.proofs.LoadLaws.{table-done}
-use Rattle.cedunmi.proofs.Sound.{passed, checker-sound}
-use Rattle.cedunmi.proofs.Ends.{formed, four-ways, fault-accepted}
+use Rattle.calls.specs.declared.Answer.{Answer}
+use Rattle.calls.specs.declared.Answer.the-variants.{Done}
+use Rattle.fault_calls.specs.Repairing.{repairSized, repairTested, repairOf, repairedBy, repaired}
+use Rattle.calls.specs.Marks.{lowestBad}
+use Rattle.fault_calls.proofs.Sound.{checker-sound}
+use Rattle.calls.specs.Tests.{testMarks, admitted}
+use Rattle.calls.proofs.TestLaws.{then-done, marks-passed}
+use Rattle.fault_calls.proofs.CheckingLaws.{passed}
+use Rattle.fault_calls.proofs.RepairingLaws.{formed}
+use Rattle.fault_calls.proofs.Ends.{four-ways, fault-accepted}
 use Rattle.guarantees.specs.Layouts.{bytesFrom, symbolNo, dataSymbols, allSymbols, symbolAt, markAt, hashFor, XorOf}
 use Rattle.guarantees.specs.Tables.{IsMember}
 use Rattle.guarantees.specs.Trees.{members, EquationHolds}
@@ -61,11 +63,11 @@ unfolding kOf nOf
 checker depth root table f agr b e =
     let tbl : List (List (List ℕ)) = equationsOf table in
     let p = passed depth root table b e in
-    let ok = rules depth table (p .whole) in
+    let ok = rules depth table (p .admits .whole) in
     let x = checker-sound depth root table b e f (with-agrees depth tbl ok root f agr) in
     let y = x .collision in
     let n = fault-proofs .accepts-just-when depth root table b .0 e .named in
-    let shallow = accepted-depth depth (wordsOf table) (bytes-accepted depth table (p .whole)) .1 in
+    let shallow = accepted-depth depth (wordsOf table) (p .admits .accepted) .1 in
     let hj : y .layer < depth = omega (arith, y .inside .0, ok .depth) in
     record {
       named = n;
@@ -82,16 +84,8 @@ checker depth root table f agr b e =
 -- the marks of input that passed its tests
 marks-tested : (d : ℕ) (root table t m o : List ℕ) → repairTested d root table t m o ≡ Done → length m ≤ lowestBad m
 unfolding repairTested
-marks-tested d root table t m o =
-    let P : Answer → Type 0 = λ a. a ≡ Done → length m ≤ lowestBad m in
-    pick-ind P (depthFits d)
-    (λ f.
-    pick-ind P (repairLengths d root t m o)
-    (λ l e.
-    pick-ind P (ltb (lowestBad m) (length m)) (λ w q. absurd (omega (arith, ap numberOf q))) (λ w q. ltb-false (lowestBad m) (length m) w)
-    (table-done (readBytesOf d table) (pick (ltb (lowestBad m) (length m)) (Stopped (Mark (lowestBad m))) Done) e .1))
-    (λ l e. absurd (omega (arith, ap numberOf e))))
-    (λ f e. absurd (omega (arith, ap numberOf e)))
+marks-tested d root table t m o e =
+    marks-passed m (then-done (admitted d (repairSized d (length root) (length t) (length m) (length o)) table) (testMarks m) e .1)
 
 -- depth, lengths and table are right, and every mark is 0 or 1
 record RepairInput (depth : ℕ) (root table t m o : List ℕ) : Type 0 where
@@ -104,8 +98,8 @@ module _ (d : ℕ) (root table t m o : List ℕ) where
   input-of e =
       let k = formed d root table t m o e in
       record {
-        fit-depth = k .fit-depth;
-        whole-table = k .whole-table;
+        fit-depth = k .admits .deep;
+        whole-table = k .admits .whole;
         marks-right = λ p h. all-right m (marks-tested d root table t m o e) p (omega (arith, k .marks-full));
       }
 
@@ -165,13 +159,13 @@ module _ (depth : ℕ) (root table t m o : List ℕ) (e : repairTested depth roo
   unfolding repaired
   as-steps =
       record {
-        reports = ap (λ (a : Answer). resultBy a st) e;
-        tree-left = ap (λ (a : Answer). leftBy a (st .tree) t) e;
-        marks-left = ap (λ (a : Answer). leftBy a (st .marks) m) e;
-        out-left = ap (λ (a : Answer). leftBy a (st .out) o) e;
+        reports = ap (λ (a : Answer). repairedBy a st t m o .answer) e;
+        tree-left = ap (λ (a : Answer). repairedBy a st t m o .tree) e;
+        marks-left = ap (λ (a : Answer). repairedBy a st t m o .marks) e;
+        out-left = ap (λ (a : Answer). repairedBy a st t m o .out) e;
       }
 
-  so : Ended tree symbolHash root tbl t m o st
+  so : Ended tree (symbolHash Plain) root tbl t m o st
   so = four-ways depth root table t m o e
 
   input : RepairInput depth root table t m o
@@ -202,7 +196,7 @@ module _ (depth : ℕ) (root table t m o : List ℕ) (e : repairTested depth roo
     lent-low : getD m (place tree j i) 0 ≤ 1
     lent-low = input .marks-right (place tree j i) (place-lt tree depth j i hj hi)
 
-    gap-is : gapAt tree symbolHash root t m (st .tree) j i ≡ true → Gap depth root table t m o j i
+    gap-is : gapAt tree (symbolHash Plain) root t m (st .tree) j i ≡ true → Gap depth root table t m o j i
     unfolding gapAt symbolHash
     gap-is g =
         by-test (absentAt tree m j i) (λ a. inl (mark-at m j i ∙ absent-said m j i lent-low a))
@@ -212,23 +206,23 @@ module _ (depth : ℕ) (root table t m o : List ℕ) (e : repairTested depth roo
         (yes-same (ap sha256 (sym (symbol-at t j i)) ∙ q ∙ committed-is j i))
         (not-yes (same (sha256 (symAt tree t j i)) (committed tree root (symAt tree (st .tree)) j i)) (or-right (absentAt tree m j i) _ a g))))
 
-    is-gap : Gap depth root table t m o j i → gapAt tree symbolHash root t m (st .tree) j i ≡ true
+    is-gap : Gap depth root table t m o j i → gapAt tree (symbolHash Plain) root t m (st .tree) j i ≡ true
     unfolding gapAt symbolHash
     is-gap (inl z) = or-first (absentAt tree m j i) _ (absent-seen m j i lent-low (sym (mark-at m j i) ∙ z))
     is-gap (inr n) =
         or-yes (absentAt tree m j i) _
         (ap not (no-same (λ q. n (ap sha256 (symbol-at t j i) ∙ q ∙ sym (committed-is j i)))))
 
-  gap-no : (j i : ℕ) → j < depth → i < nOf j → (Gap depth root table t m o j i → ⊥) → gapAt tree symbolHash root t m (st .tree) j i ≡ false
-  gap-no j i hj hi n = by-test (gapAt tree symbolHash root t m (st .tree) j i) (λ g. absurd (n (gap-is j i hj hi g))) (λ g. g)
+  gap-no : (j i : ℕ) → j < depth → i < nOf j → (Gap depth root table t m o j i → ⊥) → gapAt tree (symbolHash Plain) root t m (st .tree) j i ≡ false
+  gap-no j i hj hi n = by-test (gapAt tree (symbolHash Plain) root t m (st .tree) j i) (λ g. absurd (n (gap-is j i hj hi g))) (λ g. g)
 
   -- ---- what holds at every end
 
   -- a gap that is now held
   abbrev stored-at : ℕ → ℕ → Bool
-  stored-at j i = gapAt tree symbolHash root t m (st .tree) j i && not (absent j i)
+  stored-at j i = gapAt tree (symbolHash Plain) root t m (st .tree) j i && not (absent j i)
 
-  layers-count : (d : ℕ) → inLayers stored-at d ≡ filled tree symbolHash root t m (st .tree) (st .marks) d
+  layers-count : (d : ℕ) → inLayers stored-at d ≡ filled tree (symbolHash Plain) root t m (st .tree) (st .marks) d
   unfolding inLayers filled filledIn kOf nOf
   layers-count zero = refl
   layers-count (suc d) = ap₂ (λ (a b : ℕ). a + b) (how-many (stored-at d) (stored-at d) (allSymbols d) (λ i h. refl)) (layers-count d)
@@ -278,7 +272,7 @@ module _ (depth : ℕ) (root table t m o : List ℕ) (e : repairTested depth roo
     λ (p, n). e ∙ yes-and p (ap not (ne-eqb y x n)),
   )
 
-  peeled-so : (j : ℕ) → j < depth → {a : ℕ → Bool} → Peels tree tbl (st .tree) j (gapAt tree symbolHash root t m (st .tree) j) a
+  peeled-so : (j : ℕ) → j < depth → {a : ℕ → Bool} → Peels tree tbl (st .tree) j (gapAt tree (symbolHash Plain) root t m (st .tree) j) a
       → Peeled (allSymbols j) (3 * dataSymbols j) (Gap depth root table t m o j) (symbolAt (st .tree) j) (members tbl j) a
   unfolding kOf nOf layerOf equationOf
   peeled-so j hj (model.none-stored h) =
@@ -316,19 +310,19 @@ module _ (depth : ℕ) (root table t m o : List ℕ) (e : repairTested depth roo
         tells-stored = λ j i hj hi.
             let lj : j < depth = omega (arith, in-depth) in (
               λ q.
-                  let (g, h) = and-yes (gapAt tree symbolHash root t m (st .tree) j i) (not (absent j i)) q in
+                  let (g, h) = and-yes (gapAt tree (symbolHash Plain) root t m (st .tree) j i) (not (absent j i)) q in
                   (gap-is j i lj hi g, marked-1 (st .marks) j i (not-yes (absent j i) h)),
               λ (g, h). yes-and (is-gap j i lj hi g) (ap not (is-held (st .marks) j i h)),
             );
         counted = a .counted ∙ sym (layers-count (st .entered));
         absent = absent;
         tells-absent = told;
-        peeled = λ j hj. peeled-so j (omega (arith, in-depth)) (a .peels j hj);
+        peeled = λ j hj. peeled-so j (omega (arith, in-depth)) (so .peels j hj);
       }
 
   -- ---- the equation that was taken
 
-  module _ (j q x : ℕ) (k : Taken tree symbolHash root tbl (st .tree) (st .marks) j q x) (en : st .entered ≡ suc j) where
+  module _ (j q x : ℕ) (k : Taken tree (symbolHash Plain) root tbl (st .tree) (st .marks) j q x) (en : st .entered ≡ suc j) where
     hj : j < depth
     hj = omega (arith, in-depth, en)
 
@@ -383,7 +377,7 @@ module _ (depth : ℕ) (root table t m o : List ℕ) (e : repairTested depth roo
   shallow : depth ≤ 5
   shallow = depth-is depth (input .fit-depth) .1
 
-  ends-whole : st .end ≡ whole → WholeEnd tree symbolHash root tbl t m o st → EndsWhole depth root table t m o
+  ends-whole : st .end ≡ whole → WholeEnd tree (symbolHash Plain) root tbl t m o st → EndsWhole depth root table t m o
   unfolding kOf nOf
   ends-whole q x =
       record {
@@ -394,7 +388,7 @@ module _ (depth : ℕ) (root table t m o : List ℕ) (e : repairTested depth roo
         out-untouched = x .out-kept;
       }
 
-  ends-fault : (j q w n : ℕ) → st .end ≡ fault j q w n → FaultEnd tree symbolHash root tbl o j q w n st → EndsFault depth root table t m o
+  ends-fault : (j q w n : ℕ) → st .end ≡ fault j q w n → FaultEnd tree (symbolHash Plain) root tbl o j q w n st → EndsFault depth root table t m o
   unfolding kOf nOf layerOf equationOf
   ends-fault j q w n z x =
       let k = x .taken in
@@ -418,7 +412,7 @@ module _ (depth : ℕ) (root table t m o : List ℕ) (e : repairTested depth roo
         out-rest = x .out-rest;
       }
 
-  ends-unavailable : (j : ℕ) → st .end ≡ unavailable j → UnavailableEnd tree symbolHash root tbl t m o j st → EndsUnavailable depth root table t m o
+  ends-unavailable : (j : ℕ) → st .end ≡ unavailable j → UnavailableEnd tree (symbolHash Plain) root tbl t m o j st → EndsUnavailable depth root table t m o
   unfolding kOf nOf Stopping layerOf equationOf
   ends-unavailable j q x =
       let lj : j < depth = omega (arith, in-depth, x .last) in
@@ -445,7 +439,7 @@ module _ (depth : ℕ) (root table t m o : List ℕ) (e : repairTested depth roo
         out-untouched = x .out-kept;
       }
 
-  ends-twins : (j n : ℕ) → st .end ≡ twins j n → TwinsEnd tree symbolHash root tbl o j n st → EndsTwins depth root table t m o
+  ends-twins : (j n : ℕ) → st .end ≡ twins j n → TwinsEnd tree (symbolHash Plain) root tbl o j n st → EndsTwins depth root table t m o
   unfolding symbolIn bytesFrom symbolHash layerOf equationOf
   ends-twins j n q x =
       let k = x .taken in
@@ -478,7 +472,7 @@ module _ (depth : ℕ) (root table t m o : List ℕ) (e : repairTested depth roo
         out-rest = x .out-rest;
       }
 
-  four : (z : End) → st .end ≡ z → EndOk tree symbolHash root tbl t m o st z
+  four : (z : End) → st .end ≡ z → EndOk tree (symbolHash Plain) root tbl t m o st z
       → EndsWhole depth root table t m o ⊎ (EndsFault depth root table t m o ⊎ (EndsUnavailable depth root table t m o ⊎ EndsTwins depth root table t m o))
   four working q x = absurd x
   four whole q x = inl (ends-whole q x)

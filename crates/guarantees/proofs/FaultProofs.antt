@@ -1,50 +1,49 @@
 -- Fault proofs by their bytes: what the checker answers, what a proof holds, and what is written.
 use mathlib.Core.Path.{_≡_, refl, sym, ap, ap₂, _∙_, subst}
 use mathlib.Core.Logic.{_⊎_, inl, inr, ⊎-elim}
-use mathlib.Core.Bool.{true, false, not, _&&_}
+use mathlib.Core.Bool.{true, false, not}
 use mathlib.Core.List.{List, []}
-use Prim.Native.Nat.{ℕ, suc, _+_, _*_, _%_, _≤_}
+use Prim.Native.Nat.{ℕ, suc, _+_, _*_, _≤_}
 use native.Mathlib.Omega.{arith}
 use lib.ListN.{length, getD, drop}
-use lib.Dec.{leb, eqb}
-use borrow.Author.Tests.{eqb-true, leb-true, eq-eqb, le-leb}
+use lib.Dec.{eqb}
+use borrow.Author.Tests.{eqb-true, eq-eqb, le-leb}
 use Rattle.octets.specs.Choice.{pick}
 use Rattle.octets.specs.ByteLists.{same}
-use Rattle.octets.proofs.Choice.{by-test, pick-no, pick-ind, and-yes, yes-and, both, not-yes, not-no}
+use Rattle.octets.proofs.Choice.{by-test, pick-no, pick-ind, yes-and, both, not-yes, not-no}
 use Rattle.sha256.specs.Hash.{sha256}
 use Rattle.parity_table.specs.Shape.{depthFits}
 use Rattle.parity_table.specs.Table.{layerOf, equationOf, TableOk, WellFormed}
-use Rattle.parity_table.specs.Bytes.{wordsOf, lengthFits, readBytesOf}
-use Rattle.parity_table.specs.Reader.{readOf}
-use Rattle.parity_table.specs.Right.{Right}
-use Rattle.parity_table.specs.declared.Answer.{Answer as Read}
-use Rattle.parity_table.specs.declared.Answer.the-variants as read
-use Rattle.parity_table.proofs.Accepts.{depth-is, read-right, formed-accepted}
+use Rattle.table_bytes.specs.Bytes.{wordsOf, readBytesOf}
+use Rattle.parity_table.specs.declared.Answer.the-variants.{Whole}
+use Rattle.parity_table.proofs.Shape.{depth-is}
+use Rattle.parity_table.proofs.Accepts.{accepted-formed, formed-accepted}
 use Rattle.parity_table.proofs.Parse.{formed-rules}
-use Rattle.parity_table.proofs.ByteForm.{bytes-length, bytes-words}
+use Rattle.table_bytes.proofs.ByteForm.{bytes-words}
 use Rattle.symbol_hash.specs.SymbolHash.{symbolHash}
+use Rattle.symbol_hash.specs.declared.Kind.the-variants.{Plain}
 use Rattle.model.specs.Shape.{tree}
 use Rattle.model.specs.Climb.{Climb, leads, breaks}
 use Rattle.model.specs.Fault.{proofLayer, proofMembers, proofLength, body, givenXor, afterGiven, headOk, Verdict, accepted, noFault, firstBreak, ruling, givenCheck, pathCheck, pathHash, proofCheck, withheldFits, verdict, InGiven, InPath, ProofHolds}
 use Rattle.model.proofs.Bytes.{same-yes, yes-same}
 use Rattle.model.proofs.Sound.{both-lead}
 use Rattle.model.proofs.Ways.{after-at}
-use Rattle.cedunmi.specs.declared.Stop.{Stop}
-use Rattle.cedunmi.specs.declared.Stop.the-variants.{Depth, Length, Head, Hash, NoFault}
-use Rattle.cedunmi.specs.declared.Answer.{Answer}
-use Rattle.cedunmi.specs.declared.Answer.the-variants.{Done, Stopped}
-use Rattle.cedunmi.specs.Stops.{numberOf, valueOf}
-use Rattle.cedunmi.specs.Tables.{byTable}
-use Rattle.cedunmi.specs.Proof.{judged, proofChecked}
-use Rattle.cedunmi.proofs.ProofLaws.{proof-read}
+use Rattle.calls.specs.declared.Stop.{Stop}
+use Rattle.calls.specs.declared.Stop.the-variants.{Length, Head, Hash, NoFault}
+use Rattle.calls.specs.declared.Answer.{Answer}
+use Rattle.calls.specs.declared.Answer.the-variants.{Done, Stopped}
+use Rattle.calls.specs.Stops.{numberOf, valueOf}
+use Rattle.fault_calls.specs.Checking.{proofSized, judged, proofChecked}
+use Rattle.calls.proofs.AdmissionLaws.{admits}
+use Rattle.fault_calls.proofs.CheckingLaws.{sizes, judged-so, passed}
 use Rattle.guarantees.specs.Layouts.{bytesFrom, hashFor, XorOf}
-use Rattle.guarantees.specs.Tables.{FirstWrongWord}
+use Rattle.guarantees.specs.Refusals.{TableLength}
 use Rattle.guarantees.specs.Answers.{Answered, done, test, unless, JustWhen}
 use Rattle.guarantees.specs.Terms.{equationsOf}
 use Rattle.guarantees.specs.FaultProofs.{givenSymbol, Named, given, Exact, path, AllLead, Fits, ProofLengths, ProofRight, AcceptsProofJustWhen, proofTests, ProofCheckerAnswers, Holds, HoldsExactly, HoldsItsSymbols, FaultProofs}
 use Rattle.guarantees.proofs.Answers.{all-done, stops-unless, passes-unless}
-use Rattle.guarantees.proofs.Tables.{rules-ok, first-wrong, right-formed, formed-right}
-use Rattle.guarantees.proofs.Refusals.{depth-fits, stops-wrong, passes-right}
+use Rattle.guarantees.proofs.Tables.{rules-ok, right-formed, formed-right}
+use Rattle.guarantees.proofs.Refusals.{depth-fits, Just, table-long, long-table, by-admitted}
 use Rattle.guarantees.proofs.Layouts.{xor-one}
 use Rattle.guarantees.proofs.ProofPlaces.{fromMember, given-xor-of, given-held, held-given, given-lead, lead-given, way-leads, leads-way, way-held, held-way, path-leads, leads-path, path-hash, path-held, held-path}
 use Rattle.guarantees.proofs.ProofHeads.{named-fitting, as-named, as-read, length-named, named-ok, ok-named}
@@ -90,23 +89,23 @@ module _ (depth : ℕ) (tbl : List (List (List ℕ))) (b : List ℕ) (shallow : 
   module _ (root : List ℕ) where
     checks : ℕ → ℕ → List ℕ → Type 0
     checks i y ys =
-        firstBreak (givenCheck tree symbolHash root i ys (drop 12 b)) (pathCheck tree symbolHash root i y (afterGiven i ys (drop 12 b))) ≡ leads
+        firstBreak (givenCheck tree (symbolHash Plain) root i ys (drop 12 b)) (pathCheck tree (symbolHash Plain) root i y (afterGiven i ys (drop 12 b))) ≡ leads
 
-    lead-named : proofCheck tree symbolHash root tbl b ≡ leads → AllLead root h
+    lead-named : proofCheck tree (symbolHash Plain) root tbl b ≡ leads → AllLead root h
     unfolding proofCheck body checks
     lead-named e =
-        let (a, c) = both-lead (givenCheck tree symbolHash root j (given h) (drop 12 b)) _ (as-named depth tbl b shallow o h checks e) in
+        let (a, c) = both-lead (givenCheck tree (symbolHash Plain) root j (given h) (drop 12 b)) _ (as-named depth tbl b shallow o h checks e) in
         record {
           given-lead = λ p k. way-leads root b j p (getD (given h) p 0) (given-lead b j root (given h) 12 a p k);
-          withheld-leads = path-leads root b j g (h .withheld) (ap (pathCheck tree symbolHash root j (h .withheld)) (sym path-there) ∙ c);
+          withheld-leads = path-leads root b j g (h .withheld) (ap (pathCheck tree (symbolHash Plain) root j (h .withheld)) (sym path-there) ∙ c);
         }
 
-    named-lead : AllLead root h → proofCheck tree symbolHash root tbl b ≡ leads
+    named-lead : AllLead root h → proofCheck tree (symbolHash Plain) root tbl b ≡ leads
     unfolding proofCheck body checks firstBreak
     named-lead a =
         as-read depth tbl b shallow o h checks
         (ap₂ firstBreak (lead-given b j root (given h) 12 (λ p k. leads-way root b j p (getD (given h) p 0) (a .given-lead p k)))
-        (ap (pathCheck tree symbolHash root j (h .withheld)) path-there ∙ leads-path root b j g (h .withheld) (a .withheld-leads)))
+        (ap (pathCheck tree (symbolHash Plain) root j (h .withheld)) path-there ∙ leads-path root b j g (h .withheld) (a .withheld-leads)))
 
     -- ---- its exclusive-or
 
@@ -122,14 +121,14 @@ module _ (depth : ℕ) (tbl : List (List (List ℕ))) (b : List ℕ) (shallow : 
       committed-is = ap (pathHash tree root j (h .withheld)) path-there ∙ path-hash root b j g (h .withheld)
 
       equals : ℕ → ℕ → List ℕ → Type 0
-      equals i y ys = same (symbolHash i y (givenXor i ys (drop 12 b))) (pathHash tree root i y (afterGiven i ys (drop 12 b))) ≡ true
+      equals i y ys = same (symbolHash Plain i y (givenXor i ys (drop 12 b))) (pathHash tree root i y (afterGiven i ys (drop 12 b))) ≡ true
 
-      fits-named : withheldFits tree symbolHash root tbl b ≡ true → Fits root h
+      fits-named : withheldFits tree (symbolHash Plain) root tbl b ≡ true → Fits root h
       unfolding withheldFits body equals symbolHash
       fits-named t s y =
           ap sha256 (xor-one _ g s _ y xor-is) ∙ same-yes _ _ (as-named depth tbl b shallow o h equals t) ∙ committed-is
 
-      named-fits : Fits root h → withheldFits tree symbolHash root tbl b ≡ true
+      named-fits : Fits root h → withheldFits tree (symbolHash Plain) root tbl b ≡ true
       unfolding withheldFits body equals symbolHash
       named-fits f = as-read depth tbl b shallow o h equals (yes-same (f _ xor-is ∙ sym committed-is))
 
@@ -154,9 +153,6 @@ module _ (depth : ℕ) (root table b : List ℕ) where
 
   abbrev from6 : Answered
   from6 = test 6 (unless (Named depth tbl b)) from2
-
-  abbrev from3 : Answered
-  from3 = test 3 (FirstWrongWord depth ws) from6
 
   -- an answer by these tests, which is Done of a right proof only
   record By (tests : Answered) (a : Answer) : Type 0 where
@@ -183,9 +179,9 @@ module _ (depth : ℕ) (root table b : List ℕ) where
       exact-of : (z : Named depth tbl b) → Exact z
       exact-of z = x ∙ length-named depth tbl b (dr .1) rules z
 
-      at-8 : AllLead root h → Judged from8 (pick (withheldFits tree symbolHash root tbl b) noFault accepted)
+      at-8 : AllLead root h → Judged from8 (pick (withheldFits tree (symbolHash Plain) root tbl b) noFault accepted)
       at-8 a =
-          pick-ind (Judged from8) (withheldFits tree symbolHash root tbl b)
+          pick-ind (Judged from8) (withheldFits tree (symbolHash Plain) root tbl b)
           (λ t. stop NoFault 7 _ done refl refl (λ (z, n). n (fits-named depth tbl b (dr .1) rules z root (exact-of z) t)))
           (λ t.
           let n : Fits root h → ⊥ = λ y. both (named-fits depth tbl b (dr .1) rules h root (exact-of h) y) t in
@@ -195,7 +191,7 @@ module _ (depth : ℕ) (root table b : List ℕ) where
             only = λ e. record { depth-right = dr; lengths-right = lr; table-right = formed-right depth ws f; named = h; exact = exact-of h; all-lead = a; differs = n };
           }))
 
-      at-7 : (c : Climb) → proofCheck tree symbolHash root tbl b ≡ c → Judged from7 (ruling c (withheldFits tree symbolHash root tbl b))
+      at-7 : (c : Climb) → proofCheck tree (symbolHash Plain) root tbl b ≡ c → Judged from7 (ruling c (withheldFits tree (symbolHash Plain) root tbl b))
       unfolding ruling
       at-7 leads e =
           let a : AllLead root h = lead-named depth tbl b (dr .1) rules h root e in
@@ -204,7 +200,7 @@ module _ (depth : ℕ) (root table b : List ℕ) where
           stop Hash 6 _ from8 refl refl
           (λ (z, a). let q = named-lead depth tbl b (dr .1) rules z root a in let zero-one : _≡_ {A = ℕ} 0 1 = cc in omega arith)
 
-    at-6 : Judged from6 (verdict tree symbolHash root tbl b)
+    at-6 : Judged from6 (verdict tree (symbolHash Plain) root tbl b)
     unfolding verdict
     at-6 =
         pick-ind (Judged from6) (not (headOk tbl b))
@@ -218,69 +214,46 @@ module _ (depth : ℕ) (root table b : List ℕ) where
         (λ (z, x). both (eq-eqb (length b) n (x ∙ sym (length-named depth tbl b (dr .1) rules z))) (not-yes (eqb (length b) n) u)))
         (λ u.
         let x : length b ≡ n = eqb-true (length b) n (not-no (eqb (length b) n) u) in
-        pass _ 2 _ from7 (h, exact-of h x h) (at-7 h x (proofCheck tree symbolHash root tbl b) refl))))
+        pass _ 2 _ from7 (h, exact-of h x h) (at-7 h x (proofCheck tree (symbolHash Plain) root tbl b) refl))))
 
   abbrev ruled : Answer
-  ruled = judged (verdict tree symbolHash root tbl b)
+  ruled = judged (verdict tree (symbolHash Plain) root tbl b)
 
-  at-3 : (1 ≤ depth) × (depth ≤ 5) → depthFits depth ≡ true → ProofLengths root table b → (r : Read) → Right depth ws r → By from3 (byTable r ruled)
-  at-3 dr t lr read.Depth x = both t x
-  at-3 dr t lr read.Length x = absurd x
-  at-3 dr t lr (read.Wrong i) x =
-      record {
-        just = stops-wrong depth ws i (first-wrong depth ws i (x .1));
-        only = λ e. absurd (omega (arith, ap numberOf e));
-      }
-  at-3 dr t lr read.Whole x =
-      let y = at-6 dr lr (x .1) in
-      record { just = passes-right depth ws (formed-right depth ws (x .1)) (y .just); only = y .only }
+  -- the lengths of root, proof and table
+  lengths-own : proofSized (length root) (length b) ≡ true → TableLength table → ProofLengths root table b
+  lengths-own l t =
+      let (r, s) = sizes (length root) (length b) l in
+      record { root-full = r; table-length = t; head-there = s }
 
-  -- the lengths: the root's and the proof's, then the table's
-  at-2 : (1 ≤ depth) × (depth ≤ 5) → depthFits depth ≡ true
-      → By (test 2 (unless (ProofLengths root table b)) from3)
-      (pick (eqb (length root) 512 && leb 12 (length b)) (byTable (readBytesOf depth table) ruled) (Stopped Length))
-  unfolding lengthFits
-  at-2 dr t =
-      pick-ind (By (test 2 (unless (ProofLengths root table b)) from3)) (eqb (length root) 512 && leb 12 (length b))
-      (λ l.
-      let (r, s) = and-yes (eqb (length root) 512) (leb 12 (length b)) l in
-      by-test (lengthFits (length table))
-      (λ u.
-      let (m, q) = and-yes (leb (length table) 16384) (eqb (length table % 4) 0) u in
-      let lr : ProofLengths root table b =
-      record {
-        root-full = eqb-true (length root) 512 r;
-        table-length = record { not-over = leb-true (length table) 16384 m; in-words = eqb-true (length table % 4) 0 q };
-        head-there = leb-true 12 (length b) s;
-      } in
-      pass _ 2 _ from3 lr (subst (λ (a : Read). By from3 (byTable a ruled)) (bytes-words depth table t u) (at-3 dr t lr (readOf depth ws) (read-right depth ws))))
-      (λ u.
-      subst (λ (a : Read). By (test 2 (unless (ProofLengths root table b)) from3) (byTable a ruled)) (bytes-length depth table t u)
-      (stop Length 1 _ from3 refl refl
-      (λ lr. both (yes-and (le-leb (length table) 16384 (lr .table-length .not-over)) (eq-eqb (length table % 4) 0 (lr .table-length .in-words))) u))))
-      (λ l.
-      stop Length 1 _ from3 refl refl (λ lr. both (yes-and (eq-eqb (length root) 512 (lr .root-full)) (le-leb 12 (length b) (lr .head-there))) l))
+  own-lengths : ProofLengths root table b → (proofSized (length root) (length b) ≡ true) × TableLength table
+  own-lengths lr = (yes-and (eq-eqb (length root) 512 (lr .root-full)) (le-leb 12 (length b) (lr .head-there)), lr .table-length)
 
-  checked : By (proofTests depth root table b) (proofChecked depth root table b)
+  checked : Just (proofChecked depth root table b) (proofTests depth root table b)
   unfolding proofChecked
   checked =
-      pick-ind (By (proofTests depth root table b)) (depthFits depth) (λ t. pass _ 1 _ _ (depth-is depth t) (at-2 (depth-is depth t) t))
-      (λ t. stop Depth 0 _ _ refl refl (λ dr. both (depth-fits depth dr) t))
+      by-admitted depth (ProofLengths root table b) (proofSized (length root) (length b)) table ruled lengths-own own-lengths
+      (λ f lr w. at-6 (depth-is depth f) lr (right-formed depth ws w) .just)
+
+  accepted-right : proofChecked depth root table b ≡ Done → ProofRight depth root table b
+  accepted-right e =
+      let p = passed depth root table b e in
+      let k = p .admits in
+      at-6 (depth-is depth (k .deep)) (lengths-own (k .lengths) (table-long table (k .length-fits))) (accepted-formed depth ws (k .accepted) .1) .only
+      (ap judged (p .accepts))
 
   -- a right proof is accepted
   right-done : ProofRight depth root table b → proofChecked depth root table b ≡ Done
-  unfolding lengthFits verdict ruling
+  unfolding verdict ruling
   right-done r =
       let t : depthFits depth ≡ true = depth-fits depth (r .depth-right) in
       let lr = r .lengths-right in
-      let whole : readBytesOf depth table ≡ read.Whole =
-      sym (bytes-words depth table t (yes-and (le-leb (length table) 16384 (lr .table-length .not-over)) (eq-eqb (length table % 4) 0 (lr .table-length .in-words))))
-      ∙ formed-accepted depth ws t (right-formed depth ws (r .table-right)) in
+      let whole : readBytesOf depth table ≡ Whole =
+      sym (bytes-words depth table t (long-table table (lr .table-length))) ∙ formed-accepted depth ws t (right-formed depth ws (r .table-right)) in
       let o : TableOk depth tbl = formed-rules depth ws (right-formed depth ws (r .table-right)) (r .depth-right .1) in
       let h = r .named in
-      let unfit : withheldFits tree symbolHash root tbl b ≡ false =
-      by-test (withheldFits tree symbolHash root tbl b) (λ u. absurd (r .differs (fits-named depth tbl b (r .depth-right .1) o h root (r .exact) u))) (λ u. u) in
-      sym (proof-read depth root table b t (lr .root-full) (lr .head-there) read.Whole (sym whole))
+      let unfit : withheldFits tree (symbolHash Plain) root tbl b ≡ false =
+      by-test (withheldFits tree (symbolHash Plain) root tbl b) (λ u. absurd (r .differs (fits-named depth tbl b (r .depth-right .1) o h root (r .exact) u))) (λ u. u) in
+      sym (judged-so depth root table b (admits depth (proofSized (length root) (length b)) table t (own-lengths lr .0) whole))
       ∙ ap judged
       (pick-no _ _ _ (ap not (named-ok depth tbl b (r .depth-right .1) o h))
       ∙ pick-no _ _ _ (ap not (eq-eqb (length b) _ (r .exact ∙ sym (length-named depth tbl b (r .depth-right .1) o h))))
@@ -288,10 +261,10 @@ module _ (depth : ℕ) (root table b : List ℕ) where
       ∙ pick-no false _ _ refl)
 
 accepts-just-when : AcceptsProofJustWhen
-accepts-just-when depth root table b = (checked depth root table b .only, right-done depth root table b)
+accepts-just-when depth root table b = (accepted-right depth root table b, right-done depth root table b)
 
 checker-answers : ProofCheckerAnswers
-checker-answers depth root table b = checked depth root table b .just
+checker-answers depth root table b = checked depth root table b
 
 -- ---- what a proof holds
 

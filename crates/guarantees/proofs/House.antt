@@ -2,7 +2,7 @@
 use mathlib.Core.Path.{_≡_, sym, ap, _∙_, subst}
 use mathlib.Core.Logic.{_⊎_, inl, inr, ⊎-elim}
 use mathlib.Core.List.{List, [], _∷_, _++_}
-use Prim.Native.Nat.{ℕ, zero, suc, _+_, _-_, _*_, _/_, _%_, _≤_, _<_, min, max}
+use Prim.Native.Nat.{ℕ, zero, suc, _+_, _*_, _/_, _%_, _<_, min, max}
 use native.Mathlib.Omega.{arith}
 use native.Mathlib.Decide.{decLt}
 use lib.ListN.{length, getD, List·getD-append}
@@ -11,12 +11,12 @@ use Rattle.octets.specs.BigEndian.{wordAt, words}
 use Rattle.octets.proofs.Bytes.{length-words}
 use Rattle.parity_table.specs.Shape.{kOf}
 use Rattle.parity_table.specs.Table.{layerOf, equationOf}
-use Rattle.parity_table.specs.Bytes.{wordsOf}
-use Rattle.parity_table.specs.House.{houseEquation, houseTable, houseWords}
-use Rattle.parity_table.proofs.ByteForm.{wordsOf-length}
-use Rattle.parity_table.proofs.HouseRules.{house-rules, house-members}
+use Rattle.table_bytes.specs.Bytes.{wordsOf}
+use Rattle.house_table.specs.House.{houseEquation, houseTable, houseWords}
+use Rattle.table_bytes.proofs.ByteForm.{wordsOf-length}
+use Rattle.house_table.proofs.HouseRules.{house-rules, house-members}
 use Rattle.parity_table.proofs.Parse.{formed-rules, formed-words}
-use Rattle.parity_table.proofs.RoundTrip.{house-bytes-words}
+use Rattle.house_table.proofs.HouseBytes.{house-bytes-words}
 use Rattle.guarantees.specs.Tables.{IsMember}
 use Rattle.guarantees.specs.Trees.{members}
 use Rattle.guarantees.specs.Terms.{equationsOf}

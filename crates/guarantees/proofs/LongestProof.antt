@@ -11,7 +11,7 @@ use native.Mathlib.Decide.{ℕ-discrete}
 use lib.ListN.{length, getD, set, replicate, length-set, length-replicate}
 use lib.Seq.{getD-set-same, getD-set-other}
 use lib.Dec.{ltb}
-use borrow.Author.Tests.{ltb-true, lt-ltb}
+use borrow.Author.Tests.{eq-eqb, le-leb, lt-ltb, ltb-true}
 use Rattle.octets.specs.BigEndian.{be, bytesOf}
 use Rattle.octets.specs.ByteLists.{xors}
 use Rattle.octets.specs.Choice.{pick}
@@ -21,12 +21,13 @@ use Rattle.sha256.proofs.DigestLaws.{length-sha256}
 use Rattle.parity_table.specs.Shape.{depthFits, kOf, nOf}
 use Rattle.parity_table.specs.Members.{every, ascending, lastOf}
 use Rattle.parity_table.specs.Table.{word, layerOf, equationOf, EquationOk, TableOk, equationsWords, layersWords, tableWords}
-use Rattle.parity_table.specs.Bytes.{readBytesOf}
-use Rattle.parity_table.specs.House.{houseEquation, houseEquations, houseLayers, houseTable}
+use Rattle.table_bytes.specs.Bytes.{readBytesOf}
+use Rattle.house_table.specs.House.{houseEquation, houseEquations, houseLayers, houseTable}
 use Rattle.parity_table.specs.declared.Answer.the-variants.{Whole}
-use Rattle.parity_table.proofs.HouseRules.{house-rules}
-use Rattle.parity_table.proofs.RoundTrip.{every-append, table-bytes-accepted, table-bytes-say}
+use Rattle.house_table.proofs.HouseRules.{house-rules}
+use Rattle.table_bytes.proofs.RoundTrip.{every-append, table-bytes-accepted, table-bytes-say}
 use Rattle.symbol_hash.specs.SymbolHash.{symbolHash}
+use Rattle.symbol_hash.specs.declared.Kind.the-variants.{Plain}
 use Rattle.model.specs.Shape.{tree}
 use Rattle.model.specs.Symbols.{joined, zeros, xorOf, others, count, slot, committed}
 use Rattle.model.specs.Fault.{reached, wayBytes, givenBytes, pathBytes, proofBytes, proofLength, proofMembers, verdict}
@@ -36,9 +37,10 @@ use Rattle.model.proofs.Hashes.{column-lt}
 use Rattle.model.proofs.Tables.{table-laws}
 use Rattle.model.proofs.FaultWriter.{GoodProof, proof-good}
 use Rattle.model.proofs.Sound.{accepted-is}
-use Rattle.cedunmi.specs.declared.Answer.the-variants.{Done}
-use Rattle.cedunmi.specs.Proof.{judged, proofChecked}
-use Rattle.cedunmi.proofs.ProofLaws.{proof-read}
+use Rattle.calls.specs.declared.Answer.the-variants.{Done}
+use Rattle.fault_calls.specs.Checking.{proofSized, judged, proofChecked}
+use Rattle.calls.proofs.AdmissionLaws.{admits}
+use Rattle.fault_calls.proofs.CheckingLaws.{judged-so}
 use Rattle.guarantees.specs.Terms.{equationsOf}
 use Rattle.guarantees.specs.Cases.{AreBytes, AcceptedOf}
 
@@ -184,7 +186,7 @@ unfolding slot root
 slot-root c h = joined-piece (hashIn 4) 32 16 0 c h (λ p k. hash-length 4 (0 + p)) ∙ ap (hashIn 4) (zero-add c)
 
 -- above the base every symbol has the committed hash
-right : (l i : ℕ) → l < 4 → i < tree .n l → symbolHash l i (symbol l i) ≡ committed tree root symbol l i
+right : (l i : ℕ) → l < 4 → i < tree .n l → (symbolHash Plain) l i (symbol l i) ≡ committed tree root symbol l i
 unfolding symbolHash symbol committed hashIn above kOf nOf
 right zero i h k = sym (slot-root i k)
 right (suc l) i h k =
@@ -194,7 +196,7 @@ right (suc l) i h k =
     ∙ sym (ap (λ (n : ℕ). slot (above n) (i / kOf l)) up ∙ slot-above (suc (2 - l)) (i / kOf l) (column-lt tree tree-ok l i k))
 
 -- and so have the first 32 of the base
-right-base : (y : ℕ) → ltb y 32 ≡ true → symbolHash 4 y (symbol 4 y) ≡ committed tree root symbol 4 y
+right-base : (y : ℕ) → ltb y 32 ≡ true → (symbolHash Plain) 4 y (symbol 4 y) ≡ committed tree root symbol 4 y
 unfolding symbolHash symbol committed hashIn above kOf
 right-base y t =
     let low : y / 32 ≡ 0 = omega (arith, ltb-true y 32 t) in
@@ -215,7 +217,7 @@ unfolding xorOf symbol above
 xor-zeros [] = refl
 xor-zeros (y ∷ ys) = ap (xors zeros) (xor-zeros ys) ∙ sym-zeros zeros length-zeros
 
-unfit : (ys : List ℕ) → symbolHash 4 64 (xorOf (symbol 4) ys) ≢ committed tree root symbol 4 64
+unfit : (ys : List ℕ) → (symbolHash Plain) 4 64 (xorOf (symbol 4) ys) ≢ committed tree root symbol 4 64
 unfolding symbolHash symbol committed hashIn kOf
 unfit ys e = wrong-differs (sha256 zeros) (sym (ap sha256 (xor-zeros ys)) ∙ e ∙ slot-above 0 2 (omega arith))
 
@@ -224,10 +226,10 @@ unfit ys e = wrong-differs (sha256 zeros) (sym (ap sha256 (xor-zeros ys)) ∙ e 
 proof : List ℕ
 proof = proofBytes tree symbol 4 0 64 (equationOf wide 4 0)
 
-good : GoodProof tree symbolHash root wide 4 0 64 proof
+good : GoodProof tree (symbolHash Plain) root wide 4 0 64 proof
 unfolding proof symbol every count others pick nOf kOf
 good =
-    proof-good tree (tree-ok .shape) symbol 4 (λ l i h k. above-length (4 - l)) symbolHash root right
+    proof-good tree (tree-ok .shape) symbol 4 (λ l i h k. above-length (4 - l)) (symbolHash Plain) root right
     wide (table-laws 5 wide (omega arith) (omega arith) wide-rules) (omega (arith, wide-rules .depth)) 0 64
     (omega (arith, wide-rules .equations 4 (omega arith)))
     (rw wide-eight (omega arith))
@@ -240,13 +242,15 @@ unfolding proofMembers proofLength
 proof-length =
     let g = good in
     let ms : proofMembers wide proof ≡ eight = ap₂ (equationOf wide) (g .layer-is) (g .equation-is) ∙ wide-eight in
-    accepted-is tree symbolHash root wide proof (g .accepts) .exact ∙ ap₂ (λ (j : ℕ) (l : List ℕ). proofLength j (length l)) (g .layer-is) ms
+    accepted-is tree (symbolHash Plain) root wide proof (g .accepts) .exact ∙ ap₂ (λ (j : ℕ) (l : List ℕ). proofLength j (length l)) (g .layer-is) ms
 
 checked : proofChecked 5 root table proof ≡ Done
 unfolding depthFits
 checked =
-    sym (proof-read 5 root table proof refl root-length (omega (arith, proof-length)) Whole (sym whole))
-    ∙ ap (λ (tbl : List (List (List ℕ))). judged (verdict tree symbolHash root tbl proof)) says
+    sym (judged-so 5 root table proof
+    (admits 5 (proofSized (length root) (length proof)) table refl
+    (yes-and (eq-eqb (length root) 512 root-length) (le-leb 12 (length proof) (omega (arith, proof-length)))) whole))
+    ∙ ap (λ (tbl : List (List (List ℕ))). judged (verdict tree (symbolHash Plain) root tbl proof)) says
     ∙ ap judged (good .accepts)
 
 -- ---- all of these are bytes

@@ -20,9 +20,9 @@ use Rattle.sampling.specs.Absent.{absent, foundBelow, firstAbsent}
 use Rattle.sampling.specs.Lent.{BaseSymbol}
 use Rattle.sampling.proofs.SymbolLaws.{sample-place-lt}
 use Rattle.sampling.specs.declared.Found.the-variants.{At, Nothing}
-use Rattle.cedunmi.specs.Marks.{isBad, lowestBad}
-use Rattle.cedunmi.specs.Volume.{lowestAbsent}
-use Rattle.cedunmi.proofs.MarkLaws.{bad-no}
+use Rattle.calls.specs.Marks.{isBad, lowestBad}
+use Rattle.volume_calls.specs.Reading.{lowestAbsent}
+use Rattle.calls.proofs.MarkLaws.{bad-no}
 
 -- a symbol that isn't absent has the mark 1
 pub held-marked : (m : List ℕ) (j i : ℕ) → absentAt tree m j i ≡ false → getD m (place tree j i) 0 ≡ 1

@@ -9,6 +9,7 @@ use lib.Seq.{drop-drop}
 use Rattle.octets.proofs.ListLaws.{length-part}
 use Rattle.sha256.specs.Hash.{sha256}
 use Rattle.symbol_hash.specs.SymbolHash.{symbolHash}
+use Rattle.symbol_hash.specs.declared.Kind.the-variants.{Plain}
 use Rattle.model.specs.Shape.{tree}
 use Rattle.model.specs.Symbols.{symbolIn, committed}
 use Rattle.model.specs.Climb.{leads}
@@ -86,25 +87,25 @@ module _ (b : List ℕ) (j : ℕ) where
   -- their check
   module _ (root : List ℕ) where
     abbrev check : ℕ → ℕ → Type 0
-    check y from = wayCheck tree symbolHash root j y (drop from b) ≡ leads
+    check y from = wayCheck tree (symbolHash Plain) root j y (drop from b) ≡ leads
 
-    pub given-lead : (ys : List ℕ) (from : ℕ) → givenCheck tree symbolHash root j ys (drop from b) ≡ leads
-        → (p : ℕ) → p < length ys → wayCheck tree symbolHash root j (getD ys p 0) (drop (from + 256 * (p * suc j)) b) ≡ leads
+    pub given-lead : (ys : List ℕ) (from : ℕ) → givenCheck tree (symbolHash Plain) root j ys (drop from b) ≡ leads
+        → (p : ℕ) → p < length ys → wayCheck tree (symbolHash Plain) root j (getD ys p 0) (drop (from + 256 * (p * suc j)) b) ≡ leads
     unfolding givenCheck
     given-lead [] from e p h = absurd (omega arith)
     given-lead (y ∷ ys) from e zero h = subst (check y) (first from) (both-lead _ _ e .0)
     given-lead (y ∷ ys) from e (suc p) h =
         subst (check (getD ys p 0)) (later from p)
-        (given-lead ys (from + 256 * (j + 1)) (ap (givenCheck tree symbolHash root j ys) (sym (next-at b j from)) ∙ both-lead _ _ e .1) p (omega arith))
+        (given-lead ys (from + 256 * (j + 1)) (ap (givenCheck tree (symbolHash Plain) root j ys) (sym (next-at b j from)) ∙ both-lead _ _ e .1) p (omega arith))
 
     pub lead-given : (ys : List ℕ) (from : ℕ)
-        → ((p : ℕ) → p < length ys → wayCheck tree symbolHash root j (getD ys p 0) (drop (from + 256 * (p * suc j)) b) ≡ leads)
-        → givenCheck tree symbolHash root j ys (drop from b) ≡ leads
+        → ((p : ℕ) → p < length ys → wayCheck tree (symbolHash Plain) root j (getD ys p 0) (drop (from + 256 * (p * suc j)) b) ≡ leads)
+        → givenCheck tree (symbolHash Plain) root j ys (drop from b) ≡ leads
     unfolding givenCheck firstBreak
     lead-given [] from all = refl
     lead-given (y ∷ ys) from all =
         ap₂ firstBreak (subst (check y) (sym (first from)) (all 0 (omega arith)))
-        (ap (givenCheck tree symbolHash root j ys) (next-at b j from)
+        (ap (givenCheck tree (symbolHash Plain) root j ys) (next-at b j from)
         ∙ lead-given ys (from + 256 * (j + 1)) (λ p h. subst (check (getD ys p 0)) (sym (later from p)) (all (suc p) (omega arith))))
 
 -- ---- the hash that symbols above have for a symbol, w by layer and v by layer being the same there
@@ -128,13 +129,13 @@ module _ (root b : List ℕ) (j : ℕ) where
         hash-above root (λ q. symbolIn (fromMember b j p) (j - q)) (λ q. givenSymbol b j p (j - q)) (j - u) (reached tree j i u) (upFrom j i u)
         (sym (up-from j i u h)) (λ q z. given-symbol b j p (j - q))
 
-    pub way-leads : wayCheck tree symbolHash root j i (fromMember b j p) ≡ leads → Leads
+    pub way-leads : wayCheck tree (symbolHash Plain) root j i (fromMember b j p) ≡ leads → Leads
     unfolding symbolHash
-    way-leads e u h = ap sha256 (sym (given-symbol b j p u)) ∙ way-fits tree symbolHash root j i (fromMember b j p) e u h ∙ above u h
+    way-leads e u h = ap sha256 (sym (given-symbol b j p u)) ∙ way-fits tree (symbolHash Plain) root j i (fromMember b j p) e u h ∙ above u h
 
-    pub leads-way : Leads → wayCheck tree symbolHash root j i (fromMember b j p) ≡ leads
+    pub leads-way : Leads → wayCheck tree (symbolHash Plain) root j i (fromMember b j p) ≡ leads
     unfolding symbolHash
-    leads-way all = fits-way tree symbolHash root j i (fromMember b j p) (λ u h. ap sha256 (given-symbol b j p u) ∙ all u h ∙ sym (above u h))
+    leads-way all = fits-way tree (symbolHash Plain) root j i (fromMember b j p) (λ u h. ap sha256 (given-symbol b j p u) ∙ all u h ∙ sym (above u h))
 
     -- what it holds
     pub way-held : (l m : ℕ) (s : List ℕ) → InWay tree j i (fromMember b j p) l m s → (u : ℕ) × Up j i u l m × (s ≡ givenSymbol b j p u)
@@ -168,20 +169,20 @@ module _ (root b : List ℕ) where
       withheld-symbol b (suc j) g (j - q) ∙ ap (withheldSymbol b (suc j) g) k)
       ∙ ap (λ (l : ℕ). hashFor root (λ q m. withheldSymbol b (suc j) g (suc j - q)) l (upFrom (suc j) i (suc x))) e
 
-  pub path-leads : (j g i : ℕ) → pathCheck tree symbolHash root j i (fromMember b j g) ≡ leads → PathLeads j g i
+  pub path-leads : (j g i : ℕ) → pathCheck tree (symbolHash Plain) root j i (fromMember b j g) ≡ leads → PathLeads j g i
   unfolding pathCheck symbolHash
   path-leads zero g i e u a h = absurd (omega arith)
   path-leads (suc j) g i e zero a h = absurd (omega arith)
   path-leads (suc j) g i e (suc x) a h =
       ap sha256 (sym (withheld-symbol b (suc j) g x))
-      ∙ way-fits tree symbolHash root j (i % tree .k j) (fromMember b (suc j) g) e x (omega arith)
+      ∙ way-fits tree (symbolHash Plain) root j (i % tree .k j) (fromMember b (suc j) g) e x (omega arith)
       ∙ path-above j g i x (omega arith)
 
-  pub leads-path : (j g i : ℕ) → PathLeads j g i → pathCheck tree symbolHash root j i (fromMember b j g) ≡ leads
+  pub leads-path : (j g i : ℕ) → PathLeads j g i → pathCheck tree (symbolHash Plain) root j i (fromMember b j g) ≡ leads
   unfolding pathCheck symbolHash
   leads-path zero g i all = refl
   leads-path (suc j) g i all =
-      fits-way tree symbolHash root j (i % tree .k j) (fromMember b (suc j) g)
+      fits-way tree (symbolHash Plain) root j (i % tree .k j) (fromMember b (suc j) g)
       (λ x h. ap sha256 (withheld-symbol b (suc j) g x) ∙ all (suc x) (omega arith) (omega arith) ∙ sym (path-above j g i x h))
 
   -- the hash that it, or the root, has for the withheld member

@@ -1,6 +1,6 @@
 -- Cases 4, 5 and 6 of 01. Hashing is not computed: where a symbol's bytes are those that were coded, its hash is the committed one, whatever
 -- the hash; so the repair of layer 0 runs with a test that compares bytes first.
-use mathlib.Core.Path.{_≡_, refl, sym, ap, _∙_, subst, fun-ext}
+use mathlib.Core.Path.{_≡_, refl, sym, ap, _∙_, subst, fun-ext, ap₂}
 use mathlib.Core.Bool.{Bool, true, false, not, _&&_}
 use mathlib.Core.List.{List, [], _∷_, _++_}
 use Prim.Native.Nat.{ℕ, zero, suc, _+_, _-_, _*_}
@@ -15,12 +15,13 @@ use Rattle.octets.proofs.Choice.{and-yes, yes-and}
 use Rattle.parity_table.specs.Shape.{depthFits, kOf, nOf}
 use Rattle.parity_table.specs.Members.{lastOf}
 use Rattle.parity_table.specs.Table.{layerOf, equationOf, equationsWords, layersWords, tableWords}
-use Rattle.parity_table.specs.Bytes.{wordsOf, readBytesOf}
+use Rattle.table_bytes.specs.Bytes.{wordsOf, readBytesOf}
 use Rattle.parity_table.specs.Parse.{addWord, partsOf, tableOf}
 use Rattle.parity_table.specs.declared.Answer.the-variants.{Whole}
-use Rattle.parity_table.specs.House.{houseEquation, houseEquations, houseLayers, houseTable, houseWords}
-use Rattle.parity_table.proofs.RoundTrip.{house-bytes-accepted}
+use Rattle.house_table.specs.House.{houseEquation, houseEquations, houseLayers, houseTable, houseWords}
+use Rattle.house_table.proofs.HouseBytes.{house-bytes-accepted}
 use Rattle.symbol_hash.specs.SymbolHash.{symbolHash}
+use Rattle.symbol_hash.specs.declared.Kind.the-variants.{Plain}
 use Rattle.symbol_hash.proofs.Laws.{length-symbolHash}
 use Rattle.model.specs.Shape.{tree, place, places}
 use Rattle.model.specs.Symbols.{symbolIn, zeros, xorOf, others, count, firstOf, lowest, slot, committed, symAt, putAt}
@@ -31,17 +32,19 @@ use Rattle.model.specs.Repair.{End, working, whole, unavailable, going, St, use
 use Rattle.model.proofs.Bytes.{same-yes, yes-same}
 use Rattle.model.proofs.Shapes.{tree-ok}
 use Rattle.model.proofs.Binding.{hashes}
-use Rattle.cedunmi.specs.declared.Answer.{Answer}
-use Rattle.cedunmi.specs.declared.Answer.the-variants.{Done}
-use Rattle.cedunmi.specs.Marks.{isBad, lowestBad}
-use Rattle.cedunmi.specs.Volume.{treeWritten, treeLeft}
-use Rattle.cedunmi.specs.Repairs.{repairOf, repaired, resultBy, ended, leftBy}
-use Rattle.cedunmi.proofs.WriteLaws.{write-read}
-use Rattle.cedunmi.proofs.RepairLaws.{tested-done}
+use Rattle.calls.specs.declared.Answer.{Answer}
+use Rattle.calls.specs.declared.Answer.the-variants.{Done}
+use Rattle.calls.specs.Marks.{isBad, lowestBad}
+use Rattle.volume_calls.specs.Writing.{TreeLeft, writeSized, treeWritten}
+use Rattle.fault_calls.specs.Repairing.{repairSized, repairTested, repairOf, repairedBy, repaired, ended}
+use Rattle.calls.specs.Tests.{_then_}
+use Rattle.calls.proofs.TestLaws.{marks-right}
+use Rattle.calls.proofs.AdmissionLaws.{admits}
+use Rattle.volume_calls.proofs.WritingLaws.{answer-is, when-done}
 use Rattle.guarantees.specs.Terms.{equationsOf}
 use Rattle.guarantees.specs.Trees.{AgreesWith}
 use Rattle.guarantees.specs.Demand2.{Exactly}
-use Rattle.guarantees.specs.Cases.{block, houseBytes, coded, codedRoot, marksBut, treeBut, tested, steps, entered, turn, Gives, Turns, Leaves}
+use Rattle.guarantees.specs.Cases.{block, houseBytes, coded, codedRoot, marksBut, treeBut, left, entered, turn, Gives, Turns, Leaves}
 use Rattle.guarantees.proofs.Tables.{rules-ok}
 use Rattle.guarantees.proofs.Trees.{symbols-are, with-agrees}
 use Rattle.guarantees.proofs.Demand2.{demand-2}
@@ -74,30 +77,32 @@ accepted = house-bytes-accepted 1 refl
 abbrev lent : ℕ → List ℕ
 lent n = replicate n 0
 
-written-done : treeWritten 1 houseBytes block (lent 4096) (lent 16) (lent 512) ≡ Done
+written-done : treeWritten 1 houseBytes block (lent 4096) (lent 16) (lent 512) .answer ≡ Done
 unfolding depthFits block kOf nOf places
-written-done = sym (write-read 1 houseBytes block (lent 4096) (lent 16) (lent 512) refl refl refl refl Whole (sym accepted))
+written-done =
+    answer-is 1 houseBytes block (lent 4096) (lent 16) (lent 512)
+    ∙ sym (admits 1 (writeSized 1 (length block) (length (lent 4096)) (length (lent 16)) (length (lent 512))) houseBytes refl refl accepted)
 
 abbrev exact : Exactly 1 houseBytes block (lent 4096) (lent 16) (lent 512)
 exact = demand-2 .writes-exactly 1 houseBytes block (lent 4096) (lent 16) (lent 512) written-done
 
-written-listed : writeTree tree symbolHash (houseTable 1) block (lent 4096) ≡ listed
+written-listed : writeTree tree (symbolHash Plain) (houseTable 1) block (lent 4096) ≡ listed
 unfolding block writeTree code parities putAt symAt symbolIn place places xorOf xors zeros others pick houseTable houseLayers houseEquations houseEquation layerOf kOf nOf
 written-listed = refl
 
 pub coded-is : coded ≡ listed
 unfolding coded
 coded-is =
-    ap (λ (a : Answer). treeLeft a (wordsOf houseBytes) block (lent 4096)) written-done
-    ∙ ap (λ (tbl : List (List (List ℕ))). writeTree tree symbolHash tbl block (lent 4096)) said
+    ap (λ (w : TreeLeft Answer). w .tree) (when-done 1 houseBytes block (lent 4096) (lent 16) (lent 512) written-done)
+    ∙ ap (λ (tbl : List (List (List ℕ))). writeTree tree (symbolHash Plain) tbl block (lent 4096)) said
     ∙ written-listed
 
 -- the coded tree agrees with its root
-coded-agrees : Agrees tree symbolHash (houseTable 1) codedRoot (symAt tree coded)
+coded-agrees : Agrees tree (symbolHash Plain) (houseTable 1) codedRoot (symAt tree coded)
 unfolding coded codedRoot
 coded-agrees =
     let tbl : List (List (List ℕ)) = equationsOf houseBytes in
-    subst (λ (l : List (List (List ℕ))). Agrees tree symbolHash l codedRoot (symAt tree coded)) said
+    subst (λ (l : List (List (List ℕ))). Agrees tree (symbolHash Plain) l codedRoot (symAt tree coded)) said
     (with-agrees 1 tbl (rules-ok 1 tbl (exact .by-rules)) codedRoot (symAt tree coded)
     (subst (AgreesWith 1 tbl codedRoot) (symbols-are coded) (exact .agrees)))
 
@@ -141,34 +146,34 @@ module _ (fits : ℕ → List ℕ → Bool) where
 
 -- the test of the definition: the symbol's hash is the one that the root has for it
 abbrev fitsRoot : ℕ → List ℕ → Bool
-fitsRoot i x = same (symbolHash 0 i x) (slot codedRoot i)
+fitsRoot i x = same (symbolHash Plain 0 i x) (slot codedRoot i)
 
-sweep-by : (n i : ℕ) (st : St) → sweep tree symbolHash codedRoot 0 i n st ≡ sweepBy fitsRoot i n st
+sweep-by : (n i : ℕ) (st : St) → sweep tree (symbolHash Plain) codedRoot 0 i n st ≡ sweepBy fitsRoot i n st
 unfolding sweep sweepAt fitsAt committed
 sweep-by zero i st = refl
-sweep-by (suc n) i st = sweep-by n (suc i) (sweepAt tree symbolHash codedRoot 0 i st)
+sweep-by (suc n) i st = sweep-by n (suc i) (sweepAt tree (symbolHash Plain) codedRoot 0 i st)
 
-step-by : (st : St) → step tree symbolHash codedRoot (houseTable 1) 0 st ≡ stepBy fitsRoot st
+step-by : (st : St) → step tree (symbolHash Plain) codedRoot (houseTable 1) 0 st ≡ stepBy fitsRoot st
 unfolding step act form refute fitsAt committed
 step-by st = refl
 
-peel-by : (n : ℕ) (st : St) → peel tree symbolHash codedRoot (houseTable 1) 0 n st ≡ peelBy fitsRoot n st
+peel-by : (n : ℕ) (st : St) → peel tree (symbolHash Plain) codedRoot (houseTable 1) 0 n st ≡ peelBy fitsRoot n st
 unfolding peel
 peel-by zero st = refl
-peel-by (suc n) st = peel-by n (step tree symbolHash codedRoot (houseTable 1) 0 st) ∙ ap (peelBy fitsRoot n) (step-by st)
+peel-by (suc n) st = peel-by n (step tree (symbolHash Plain) codedRoot (houseTable 1) 0 st) ∙ ap (peelBy fitsRoot n) (step-by st)
 
 abbrev start : List ℕ → List ℕ → List ℕ → St
 start t m o = record { tree = t; marks = m; out = o; used = []; stored = 0; entered = 0; end = working }
 
-enter-by : (st : St) → enter tree symbolHash codedRoot (houseTable 1) 0 st ≡ enterBy fitsRoot st
+enter-by : (st : St) → enter tree (symbolHash Plain) codedRoot (houseTable 1) 0 st ≡ enterBy fitsRoot st
 unfolding enter
 enter-by st = sweep-by (nOf 0) 0 (fresh 0 (length (layerOf (houseTable 1) 0)) st)
 
-repair-by : (t m o : List ℕ) → repair tree symbolHash codedRoot (houseTable 1) t m o ≡ repairBy fitsRoot (start t m o)
+repair-by : (t m o : List ℕ) → repair tree (symbolHash Plain) codedRoot (houseTable 1) t m o ≡ repairBy fitsRoot (start t m o)
 unfolding repair layers layer going pick houseTable houseLayers
 repair-by t m o =
     ap (λ (st : St). finish (settle tree 0 st))
-    (peel-by (length (layerOf (houseTable 1) 0)) (enter tree symbolHash codedRoot (houseTable 1) 0 (start t m o))
+    (peel-by (length (layerOf (houseTable 1) 0)) (enter tree (symbolHash Plain) codedRoot (houseTable 1) 0 (start t m o))
     ∙ ap (peelBy fitsRoot (length (layerOf (houseTable 1) 0))) (enter-by (start t m o)))
 
 -- ---- bytes first
@@ -187,8 +192,8 @@ coded-fits i x e =
     let (a, b) = and-yes (ltb i 16) (same x (symAt tree listed 0 i)) e in
     let q : x ≡ symAt tree coded 0 i = same-yes x (symAt tree listed 0 i) b ∙ ap (λ (t : List ℕ). symAt tree t 0 i) (sym coded-is) in
     yes-same
-    (ap (symbolHash 0 i) q
-    ∙ hashes tree (tree-ok .shape) symbolHash length-symbolHash (houseTable 1) codedRoot (symAt tree coded) coded-agrees 0 i (omega arith, ltb-true i 16 a))
+    (ap (symbolHash Plain 0 i) q
+    ∙ hashes tree (tree-ok .shape) (symbolHash Plain) (length-symbolHash Plain) (houseTable 1) codedRoot (symAt tree coded) coded-agrees 0 i (omega arith, ltb-true i 16 a))
 
 bytesFirst-fits : bytesFirst fitsRoot ≡ fitsRoot
 bytesFirst-fits = fun-ext λ i. fun-ext λ x. go i x (isCoded i x) refl
@@ -282,40 +287,47 @@ marks-length [] = refl
 marks-length (x ∷ xs) = length-set (marksBut xs) x 0 ∙ marks-length xs
 
 module _ (absent : List ℕ) (o : List ℕ) (room : length o ≡ 12 + 256 * (8 * 1 - 1)) (marks : lowestBad (marksBut absent) ≡ 16) where
+  abbrev steps : St
+  steps = repairOf codedRoot houseBytes coded (marksBut absent) o
+
   -- the call is done
-  tested-so : tested absent o ≡ Done
-  unfolding tested coded codedRoot depthFits places kOf nOf
+  tested-so : repairTested 1 codedRoot houseBytes coded (marksBut absent) o ≡ Done
+  unfolding repairTested coded codedRoot depthFits places kOf nOf
   tested-so =
-      sym (tested-done 1 codedRoot houseBytes coded (marksBut absent) o refl (exact .agrees .root-of .full)
-      (yes-and (eq-eqb _ _ (exact .lengths .tree-bytes)) (eq-eqb _ _ (marks-length absent))) room Whole (sym accepted) refl
-      (omega (arith, marks, marks-length absent)))
+      let sized : repairSized 1 (length codedRoot) (length coded) (length (marksBut absent)) (length o) ≡ true =
+      yes-and (yes-and (eq-eqb _ _ (exact .lengths .tree-bytes)) (eq-eqb _ _ (marks-length absent)))
+      (yes-and (eq-eqb _ _ (exact .agrees .root-of .full)) (eq-eqb _ _ room)) in
+      sym (ap₂ (λ (x y : Answer). x then y)
+      (admits 1 (repairSized 1 (length codedRoot) (length coded) (length (marksBut absent)) (length o)) houseBytes refl sized accepted)
+      (marks-right (marksBut absent) (omega (arith, marks, marks-length absent))))
 
   module _ (missing us : List ℕ) (n : ℕ) (z : End) (comes : repairBy fitsRoot (start listed (marksBut absent) o) ≡ at missing us n z o) where
-    steps-are : steps absent o ≡ at missing us n z o
-    unfolding steps repairOf
+    steps-are : steps ≡ at missing us n z o
+    unfolding repairOf
     steps-are =
-        ap (λ (tbl : List (List (List ℕ))). repair tree symbolHash codedRoot tbl coded (marksBut absent) o) said
-        ∙ ap (λ (t : List ℕ). repair tree symbolHash codedRoot (houseTable 1) t (marksBut absent) o) coded-is
+        ap (λ (tbl : List (List (List ℕ))). repair tree (symbolHash Plain) codedRoot tbl coded (marksBut absent) o) said
+        ∙ ap (λ (t : List ℕ). repair tree (symbolHash Plain) codedRoot (houseTable 1) t (marksBut absent) o) coded-is
         ∙ repair-by listed (marksBut absent) o
         ∙ comes
 
     leaves : Leaves absent z missing n o
-    unfolding repaired tested steps
+    unfolding left repaired
     leaves =
+        let m : List ℕ = marksBut absent in
         let e = tested-so in
         let q = steps-are in
         record {
-          reports = ap (λ (a : Answer). resultBy a (steps absent o)) e ∙ ap (λ (st : St). ended (st .stored) (st .end)) q;
-          marks-are = ap (λ (a : Answer). leftBy a (steps absent o .marks) (marksBut absent)) e ∙ ap (λ (st : St). st .marks) q;
-          tree-is = ap (λ (a : Answer). leftBy a (steps absent o .tree) coded) e ∙ ap (λ (st : St). st .tree) q ∙ but-is missing;
-          out-untouched = ap (λ (a : Answer). leftBy a (steps absent o .out) o) e ∙ ap (λ (st : St). st .out) q;
+          reports = ap (λ (a : Answer). repairedBy a steps coded m o .answer) e ∙ ap (λ (st : St). ended (st .stored) (st .end)) q;
+          marks-are = ap (λ (a : Answer). repairedBy a steps coded m o .marks) e ∙ ap (λ (st : St). st .marks) q;
+          tree-is = ap (λ (a : Answer). repairedBy a steps coded m o .tree) e ∙ ap (λ (st : St). st .tree) q ∙ but-is missing;
+          out-untouched = ap (λ (a : Answer). repairedBy a steps coded m o .out) e ∙ ap (λ (st : St). st .out) q;
         }
 
 -- ---- the turns
 
 turn-is : (e x : ℕ) (st st′ : St) → Taken fitsRoot e x st st′ → turn st ≡ st′
 unfolding turn
-turn-is e x st st′ k = ap (λ (tbl : List (List (List ℕ))). step tree symbolHash codedRoot tbl 0 st) said ∙ step-by st ∙ k .goes
+turn-is e x st st′ k = ap (λ (tbl : List (List (List ℕ))). step tree (symbolHash Plain) codedRoot tbl 0 st) said ∙ step-by st ∙ k .goes
 
 gives : (e x : ℕ) (st st′ : St) → Taken fitsRoot e x st st′ → Gives e x st
 gives e x st st′ k =
@@ -331,8 +343,8 @@ gives e x st st′ k =
 entered-is : (o : List ℕ) → entered two o ≡ begun o
 unfolding entered
 entered-is o =
-    ap (λ (tbl : List (List (List ℕ))). enter tree symbolHash codedRoot tbl 0 (start coded (marksBut two) o)) said
-    ∙ ap (λ (t : List ℕ). enter tree symbolHash codedRoot (houseTable 1) 0 (start t (marksBut two) o)) coded-is
+    ap (λ (tbl : List (List (List ℕ))). enter tree (symbolHash Plain) codedRoot tbl 0 (start coded (marksBut two) o)) said
+    ∙ ap (λ (t : List ℕ). enter tree (symbolHash Plain) codedRoot (houseTable 1) 0 (start t (marksBut two) o)) coded-is
     ∙ enter-by (start listed (marksBut two) o)
     ∙ computed-root o .enters
 

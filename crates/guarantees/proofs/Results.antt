@@ -2,73 +2,59 @@
 use mathlib.Core.Path.{_≡_, refl, sym, _∙_}
 use mathlib.Core.Logic.{_≢_}
 use mathlib.Core.List.{List}
-use Prim.Native.Nat.{ℕ, _+_, _*_, _/_, _%_, _^_, _<_}
+use Prim.Native.Nat.{ℕ, _+_, _*_, _/_, _^_, _<_}
 use native.Mathlib.Omega.{arith}
 use lib.Dec.{eqb}
 use borrow.Author.Tests.{eq-eqb, ne-eqb}
 use Rattle.octets.specs.Choice.{pick}
 use Rattle.octets.proofs.Choice.{pick-yes, pick-no}
-use Rattle.sha256.specs.Call.{answer, number}
-use Rattle.sha256.specs.declared.Answer.{Answer as Hashed}
-use Rattle.sha256.specs.declared.Answer.the-variants as hashed
-use Rattle.parity_table.specs.declared.Answer.{Answer as Read}
-use Rattle.parity_table.specs.declared.Answer.the-variants as read
-use Rattle.parity_table.specs.Right as reader
 use Rattle.model.specs.Repair.{End, working, whole, fault, unavailable, twins, St}
 use Rattle.model.specs.Shape.{tree}
 use Rattle.model.specs.Ends.{EndOk}
 use Rattle.symbol_hash.specs.SymbolHash.{symbolHash}
-use Rattle.cedunmi.specs.declared.Stop.the-variants.{Depth, Length, Table, Mark, Number, Head, Hash, NoFault, Absent}
-use Rattle.cedunmi.specs.declared.Answer.{Answer}
-use Rattle.cedunmi.specs.declared.Answer.the-variants.{Done, Stopped}
-use Rattle.cedunmi.specs.Stops.{numberOf, valueOf}
-use Rattle.cedunmi.specs.Repairs.{repairTested, repairOf, repaired, ended, resultBy, endValue, Fits}
-use Rattle.cedunmi.proofs.Ends.{repair-fits, four-ways}
-use Rattle.cedunmi_c.specs.Result.{packed, tableResult, callResult, repairResult}
+use Rattle.symbol_hash.specs.declared.Kind.the-variants.{Plain}
+use Rattle.calls.specs.declared.Stop.the-variants.{Depth, Length, Table, Mark, Number, Head, Hash, NoFault, Absent}
+use Rattle.calls.specs.declared.Answer.{Answer}
+use Rattle.calls.specs.declared.Answer.the-variants.{Done, Stopped}
+use Rattle.calls.specs.Stops.{numberOf, valuesOf, valueOf}
+use Rattle.calls.proofs.TestLaws.{stopped-not, number-low}
+use Rattle.fault_calls.specs.Repairing.{repairTested, repairOf, repairedBy, repaired, ended, endValue, Fits}
+use Rattle.fault_calls.proofs.Ends.{repair-fits, four-ways}
+use Rattle.cedunmi_c.specs.Result.{packed, callResult, repairResult}
 use Rattle.guarantees.specs.Terms.{equationsOf}
 use Rattle.guarantees.specs.Results.{cmtNumber, cmtRepairEnd, cmtRepairStored, Says, EndSaid, Results}
-use Rattle.guarantees.proofs.Demand1.{stopped-not}
 
--- a number below 256, with a value above it
-says : (n v : ℕ) → n < 256 → Says (packed n v) n v
-says n v h = record { number-is = omega arith; value-is = omega arith }
+-- a number below 256, with a value above it and no second one
+says : (n v w : ℕ) → n < 256 → w ≡ 0 → Says (packed n (v, w)) n v
+says n v w h z = record { number-is = omega arith; value-is = omega arith }
 
-number-low : (a : Answer) → numberOf a < 256
-number-low Done = omega arith
-number-low (Stopped Depth) = omega arith
-number-low (Stopped Length) = omega arith
-number-low (Stopped (Table i)) = omega arith
-number-low (Stopped (Mark p)) = omega arith
-number-low (Stopped Number) = omega arith
-number-low (Stopped Head) = omega arith
-number-low (Stopped Hash) = omega arith
-number-low (Stopped NoFault) = omega arith
-number-low (Stopped (Absent x)) = omega arith
-
-of-table : (a : Read) → Says (tableResult a) (reader.numberOf a) (reader.valueOf a)
-of-table read.Depth = says 1 0 (omega arith)
-of-table read.Length = says 2 0 (omega arith)
-of-table (read.Wrong i) = says 3 i (omega arith)
-of-table read.Whole = says 0 0 (omega arith)
-
-of-hash : (a : Hashed) → Says (number a) (number a) 0
-of-hash hashed.Done = says 0 0 (omega arith)
-of-hash hashed.Length = says 2 0 (omega arith)
+-- no stop has a second value
+one-value : (a : Answer) → valuesOf a .1 ≡ 0
+one-value Done = refl
+one-value (Stopped Depth) = refl
+one-value (Stopped Length) = refl
+one-value (Stopped (Table i)) = refl
+one-value (Stopped (Mark p)) = refl
+one-value (Stopped Number) = refl
+one-value (Stopped Head) = refl
+one-value (Stopped Hash) = refl
+one-value (Stopped NoFault) = refl
+one-value (Stopped (Absent x)) = refl
 
 of-call : (a : Answer) → Says (callResult a) (numberOf a) (valueOf a)
-of-call a = says (numberOf a) (valueOf a) (number-low a)
+of-call a = says (numberOf a) (valueOf a) (valuesOf a .1) (omega (arith, number-low a)) (one-value a)
 
 -- ---- repair
 
 -- a call that stopped
-of-refusal : (a : Answer) (st : St) → a ≢ Done → Says (repairResult (resultBy a st)) (numberOf a) (valueOf a)
-of-refusal Done st n = absurd (n refl)
-of-refusal (Stopped w) st n = of-call (Stopped w)
+of-refusal : (a : Answer) (st : St) (t m o : List ℕ) → a ≢ Done → Says (repairResult (repairedBy a st t m o .answer)) (numberOf a) (valueOf a)
+of-refusal Done st t m o n = absurd (n refl)
+of-refusal (Stopped w) st t m o n = of-call (Stopped w)
 
 -- an end's number, the symbols stored and the end's value, each in its bits
 module _ (e s v : ℕ) (he : e < 4) (hs : s < 2 ^ 16) (hv : v < 2 ^ 16) where
   abbrev r : ℕ
-  r = packed 0 e + (s + v * 2 ^ 16) * 2 ^ 32
+  r = packed 0 (e, s + v * 2 ^ 16)
 
   no-number : cmtNumber r ≡ 0
   no-number = omega arith
@@ -130,7 +116,7 @@ end-said s (twins j x) hs hv w = (
 )
 
 -- a repair that has come to an end is not working
-ended-not : (root : List ℕ) (tbl : List (List (List ℕ))) (t m o : List ℕ) (st : St) (z : End) → EndOk tree symbolHash root tbl t m o st z → z ≡ working → ⊥
+ended-not : (root : List ℕ) (tbl : List (List (List ℕ))) (t m o : List ℕ) (st : St) (z : End) → EndOk tree (symbolHash Plain) root tbl t m o st z → z ≡ working → ⊥
 ended-not root tbl t m o st working x e = x
 ended-not root tbl t m o st whole x e = let q : _≡_ {A = ℕ} 0 1 = cc in omega arith
 ended-not root tbl t m o st (fault j y w n) x e = let q : _≡_ {A = ℕ} 0 1 = cc in omega arith
@@ -138,10 +124,10 @@ ended-not root tbl t m o st (unavailable j) x e = let q : _≡_ {A = ℕ} 0 1 = 
 ended-not root tbl t m o st (twins j y) x e = let q : _≡_ {A = ℕ} 0 1 = cc in omega arith
 
 module _ (depth : ℕ) (root table t m o : List ℕ) where
-  repair-said : (a : Answer) → repairTested depth root table t m o ≡ a → a ≡ Done → Fits (resultBy a (repairOf root table t m o))
-      → (cmtNumber (repairResult (resultBy a (repairOf root table t m o))) ≡ 0)
-      × (cmtRepairStored (repairResult (resultBy a (repairOf root table t m o))) ≡ repairOf root table t m o .stored)
-      × EndSaid (repairResult (resultBy a (repairOf root table t m o))) (repairOf root table t m o .end)
+  repair-said : (a : Answer) → repairTested depth root table t m o ≡ a → a ≡ Done → Fits (repairedBy a (repairOf root table t m o) t m o .answer)
+      → (cmtNumber (repairResult (repairedBy a (repairOf root table t m o) t m o .answer)) ≡ 0)
+      × (cmtRepairStored (repairResult (repairedBy a (repairOf root table t m o) t m o .answer)) ≡ repairOf root table t m o .stored)
+      × EndSaid (repairResult (repairedBy a (repairOf root table t m o) t m o .answer)) (repairOf root table t m o .end)
   repair-said Done e d f =
       let st : St = repairOf root table t m o in
       end-said (st .stored) (st .end) (f .0) (f .1)
@@ -153,10 +139,12 @@ unfolding repaired
 results =
     record {
       ends = λ j e x n i. (refl, refl, refl, refl);
-      of-hash = λ m d. of-hash (answer m d);
-      of-table = of-table;
       of-call = of-call;
-      of-refusal = λ depth root table t m o. of-refusal (repairTested depth root table t m o) (repairOf root table t m o);
+      of-refusal = λ depth root table t m o. of-refusal (repairTested depth root table t m o) (repairOf root table t m o) t m o;
       of-repair = λ depth root table t m o e.
           repair-said depth root table t m o (repairTested depth root table t m o) refl e (repair-fits depth root table t m o);
+      tree-in-c = λ w. (refl, refl, refl, refl);
+      block-in-c = λ w. (refl, refl);
+      sample-in-c = λ w. (refl, refl);
+      repair-in-c = λ w. (refl, refl, refl, refl);
     }

@@ -1,13 +1,14 @@
 -- Trees by their bytes, and the definitions of crate `model`: the same.
 use mathlib.Core.Path.{_≡_, sym, ap, _∙_, subst, fun-ext}
 use mathlib.Core.List.{List, []}
-use Prim.Native.Nat.{ℕ, suc, _-_, _*_, _<_}
+use Prim.Native.Nat.{ℕ, suc, _*_, _<_}
 use native.Mathlib.Omega.{arith}
 use lib.ListN.{length, getD}
 use Rattle.parity_table.specs.Shape.{kOf, nOf}
 use Rattle.parity_table.specs.Table.{layerOf, equationOf, TableOk}
 use Rattle.parity_table.proofs.Rules.{members-below}
 use Rattle.symbol_hash.specs.SymbolHash.{symbolHash}
+use Rattle.symbol_hash.specs.declared.Kind.the-variants.{Plain}
 use Rattle.symbol_hash.proofs.Laws.{length-symbolHash}
 use Rattle.model.specs.Shape.{tree}
 use Rattle.model.specs.Symbols.{symbolIn, xorOf, zeros, slot, committed, symAt}
@@ -29,7 +30,7 @@ module _ (d : ℕ) (tbl : List (List (List ℕ))) (ok : TableOk d tbl) (f : ℕ 
   below : (j e : ℕ) → j < d → e < 3 * kOf j → (q : ℕ) → q < length (equationOf tbl j e) → getD (equationOf tbl j e) q 0 < nOf j
   below j e hj he = every-below (nOf j) (equationOf tbl j e) (members-below d tbl ok j e hj he)
 
-  pub coded-right : Coded tree symbolHash tbl f → CorrectlyCoded d tbl f
+  pub coded-right : Coded tree (symbolHash Plain) tbl f → CorrectlyCoded d tbl f
   unfolding kOf nOf layerOf equationOf zeros symbolHash committed
   coded-right c =
       record {
@@ -41,7 +42,7 @@ module _ (d : ℕ) (tbl : List (List (List ℕ))) (ok : TableOk d tbl) (f : ℕ 
         hashes-stand = λ j i hj hi. hash-for [] f (suc j) i ∙ c .stands j i (omega (arith, ok .depth), hi);
       }
 
-  pub right-coded : CorrectlyCoded d tbl f → Coded tree symbolHash tbl f
+  pub right-coded : CorrectlyCoded d tbl f → Coded tree (symbolHash Plain) tbl f
   unfolding kOf nOf layerOf equationOf zeros symbolHash committed
   right-coded c =
       record {
@@ -55,23 +56,23 @@ module _ (d : ℕ) (tbl : List (List (List ℕ))) (ok : TableOk d tbl) (f : ℕ 
       }
 
 -- the root of the symbols f
-pub root-right : (f : ℕ → ℕ → List ℕ) (root : List ℕ) → root ≡ rootOf tree symbolHash f → RootOf f root
+pub root-right : (f : ℕ → ℕ → List ℕ) (root : List ℕ) → root ≡ rootOf tree (symbolHash Plain) f → RootOf f root
 unfolding slot bytesFrom symbolHash kOf nOf
 root-right f root e =
     record {
-      full = ap length e ∙ root-length tree symbolHash length-symbolHash f ∙ tree-root;
-      hashes = λ i h. ap (λ (r : List ℕ). bytesFrom r (32 * i) 32) e ∙ root-slot tree symbolHash length-symbolHash f i h;
+      full = ap length e ∙ root-length tree (symbolHash Plain) (length-symbolHash Plain) f ∙ tree-root;
+      hashes = λ i h. ap (λ (r : List ℕ). bytesFrom r (32 * i) 32) e ∙ root-slot tree (symbolHash Plain) (length-symbolHash Plain) f i h;
     }
 
-pub right-root : (f : ℕ → ℕ → List ℕ) (root : List ℕ) → RootOf f root → root ≡ rootOf tree symbolHash f
+pub right-root : (f : ℕ → ℕ → List ℕ) (root : List ℕ) → RootOf f root → root ≡ rootOf tree (symbolHash Plain) f
 unfolding slot bytesFrom symbolHash kOf nOf
-right-root f root r = root-is tree symbolHash length-symbolHash root (r .full) f (λ i h. r .hashes i h)
+right-root f root r = root-is tree (symbolHash Plain) (length-symbolHash Plain) root (r .full) f (λ i h. r .hashes i h)
 
 module _ (d : ℕ) (tbl : List (List (List ℕ))) (ok : TableOk d tbl) (root : List ℕ) (f : ℕ → ℕ → List ℕ) where
-  pub agrees-with : Agrees tree symbolHash tbl root f → AgreesWith d tbl root f
+  pub agrees-with : Agrees tree (symbolHash Plain) tbl root f → AgreesWith d tbl root f
   agrees-with a = record { correctly-coded = coded-right d tbl ok f (a .coded); root-of = root-right f root (a .rooted) }
 
-  pub with-agrees : AgreesWith d tbl root f → Agrees tree symbolHash tbl root f
+  pub with-agrees : AgreesWith d tbl root f → Agrees tree (symbolHash Plain) tbl root f
   with-agrees a = record { coded = right-coded d tbl ok f (a .correctly-coded); rooted = right-root f root (a .root-of) }
 
 -- a block's data symbols
@@ -84,6 +85,6 @@ unfolding kOf symbolIn bytesFrom
 base-block d f block h = h
 
 -- a collision of two symbols
-pub twins-of : (j i : ℕ) (s u : List ℕ) → length s ≡ 256 → length u ≡ 256 → Collide symbolHash j i s u → Twins s u
+pub twins-of : (j i : ℕ) (s u : List ℕ) → length s ≡ 256 → length u ≡ 256 → Collide (symbolHash Plain) j i s u → Twins s u
 unfolding symbolHash
 twins-of j i s u p q c = record { symbols = (p, q); differ = c .differ; equal = c .equal }

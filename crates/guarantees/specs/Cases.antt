@@ -12,21 +12,23 @@ use Rattle.sha256.specs.Hash.{sha256}
 use Rattle.parity_table.specs.Reader.{readOf}
 use Rattle.parity_table.specs.Members.{every, lastOf}
 use Rattle.parity_table.specs.Table.{equationOf}
-use Rattle.parity_table.specs.Bytes.{readBytesOf}
-use Rattle.parity_table.specs.House.{houseTable, houseWords, houseAnswer}
-use Rattle.parity_table.specs.Right as reader
+use Rattle.table_bytes.specs.Bytes.{readBytesOf}
+use Rattle.house_table.specs.House.{houseTable, houseWords, houseAnswer}
 use Rattle.symbol_hash.specs.SymbolHash.{symbolHash}
+use Rattle.symbol_hash.specs.declared.Kind.the-variants.{Plain}
 use Rattle.model.specs.Shape.{tree, places}
 use Rattle.model.specs.Symbols.{zeros, symAt, putAt}
 use Rattle.model.specs.Fault.{proofLength}
 use Rattle.model.specs.Repair.{End, working, whole, unavailable, St, absentAt, lowestEq, step, enter}
-use Rattle.cedunmi.specs.declared.Answer.{Answer}
-use Rattle.cedunmi.specs.declared.Answer.the-variants.{Done}
-use Rattle.cedunmi.specs.Stops.{numberOf}
-use Rattle.cedunmi.specs.Volume.{treeWritten, blockRead}
-use Rattle.cedunmi.specs.Sample.{sampleTaken, sampleChecked}
-use Rattle.cedunmi.specs.Proof.{proofChecked}
-use Rattle.cedunmi.specs.Repairs.{repairTested, repairOf, repaired, ended, leftBy}
+use Rattle.calls.specs.declared.Answer.the-variants.{Done}
+use Rattle.calls.specs.Stops.{numberOf}
+use Rattle.calls.specs.Tests.{readAnswer}
+use Rattle.volume_calls.specs.Reading.{blockRead}
+use Rattle.volume_calls.specs.Writing.{treeWritten}
+use Rattle.sample_calls.specs.Checking.{sampleChecked}
+use Rattle.sample_calls.specs.Taking.{sampleTaken}
+use Rattle.fault_calls.specs.Checking.{proofChecked}
+use Rattle.fault_calls.specs.Repairing.{Result, ended, RepairLeft, repairTested, repaired}
 use Rattle.guarantees.specs.Layouts.{dataSymbols, symbolAt, kindValue}
 use Rattle.guarantees.specs.Trees.{CorrectlyCoded}
 use Rattle.guarantees.specs.Terms.{equationsOf}
@@ -60,23 +62,19 @@ treeBut (x ∷ xs) = putAt tree (treeBut xs) 0 x zeros
 
 -- ---- a repair of it with these symbols absent, lent the output o
 
--- the answer of the tests
-unfoldable pub tested : List ℕ → List ℕ → Answer
-tested absent o = repairTested 1 codedRoot houseBytes coded (marksBut absent) o
-
--- what 01's steps make of it
-unfoldable pub steps : List ℕ → List ℕ → St
-steps absent o = repairOf codedRoot houseBytes coded (marksBut absent) o
+-- what the call answers and leaves
+unfoldable pub left : List ℕ → List ℕ → RepairLeft Result
+left absent o = repaired 1 codedRoot houseBytes coded (marksBut absent) o
 
 -- layer 0 once it is entered: (a) is done
 unfoldable pub entered : List ℕ → List ℕ → St
 entered absent o =
-    enter tree symbolHash codedRoot (equationsOf houseBytes) 0
+    enter tree (symbolHash Plain) codedRoot (equationsOf houseBytes) 0
     (record { tree = coded; marks = marksBut absent; out = o; used = []; stored = 0; entered = 0; end = working })
 
 -- a turn of (b)
 unfoldable pub turn : St → St
-turn st = step tree symbolHash codedRoot (equationsOf houseBytes) 0 st
+turn st = step tree (symbolHash Plain) codedRoot (equationsOf houseBytes) 0 st
 
 -- the turn takes equation e, which gives symbol x
 pub record Gives (e x : ℕ) (st : St) : Type 0 where
@@ -93,22 +91,22 @@ Turns (g ∷ gs) st = Gives (g .0) (g .1) st × Turns gs (turn st)
 
 -- the call reports this end and this number stored, and leaves these symbols missing (marked 0 and zeroed) and every other one held
 pub record Leaves (absent : List ℕ) (end : End) (missing : List ℕ) (stored : ℕ) (o : List ℕ) : Type 0 where
-  pub reports : repaired 1 codedRoot houseBytes coded (marksBut absent) o ≡ ended stored end
-  pub marks-are : leftBy (tested absent o) (steps absent o .marks) (marksBut absent) ≡ marksBut missing
-  pub tree-is : leftBy (tested absent o) (steps absent o .tree) coded ≡ treeBut missing
-  pub out-untouched : leftBy (tested absent o) (steps absent o .out) o ≡ o
+  pub reports : left absent o .answer ≡ ended stored end
+  pub marks-are : left absent o .marks ≡ marksBut missing
+  pub tree-is : left absent o .tree ≡ treeBut missing
+  pub out-untouched : left absent o .out ≡ o
 
 -- ---- other claims
 
 -- what holds of the number that every call gives at this depth, whatever else it is lent
 pub record EveryCall (depth : ℕ) (P : ℕ → Type 0) : Type 0 where
-  pub table-words : (ws : List ℕ) → P (reader.numberOf (readOf depth ws))
-  pub table-bytes : (b : List ℕ) → P (reader.numberOf (readBytesOf depth b))
-  pub house-words : (n : ℕ) → P (reader.numberOf (houseAnswer depth n (length (houseWords depth))))
-  pub house-bytes : (n : ℕ) → P (reader.numberOf (houseAnswer depth n (length (houseWords depth) * 4)))
-  pub tree-writer : (table b t m root : List ℕ) → P (numberOf (treeWritten depth table b t m root))
-  pub block-reader : (t m b : List ℕ) → P (numberOf (blockRead depth t m b))
-  pub sampler : (i : ℕ) (t m s : List ℕ) → P (numberOf (sampleTaken depth i t m s))
+  pub table-words : (ws : List ℕ) → P (numberOf (readAnswer (readOf depth ws)))
+  pub table-bytes : (b : List ℕ) → P (numberOf (readAnswer (readBytesOf depth b)))
+  pub house-words : (n : ℕ) → P (numberOf (readAnswer (houseAnswer depth n (length (houseWords depth)))))
+  pub house-bytes : (n : ℕ) → P (numberOf (readAnswer (houseAnswer depth n (length (houseWords depth) * 4))))
+  pub tree-writer : (table b t m root : List ℕ) → P (numberOf (treeWritten depth table b t m root .answer))
+  pub block-reader : (t m b : List ℕ) → P (numberOf (blockRead depth t m b .answer))
+  pub sampler : (i : ℕ) (t m s : List ℕ) → P (numberOf (sampleTaken depth i t m s .answer))
   pub sample-checker : (i : ℕ) (root s : List ℕ) → P (numberOf (sampleChecked depth i root s))
   pub proof-checker : (root table b : List ℕ) → P (numberOf (proofChecked depth root table b))
   pub repairer : (root table t m o : List ℕ) → P (numberOf (repairTested depth root table t m o))
@@ -121,7 +119,7 @@ Depths least most = (depth : ℕ) → EveryCall depth (λ number. (number ≡ 1)
 pub record Has (depth symbols : ℕ) : Type 0 where
   pub in-all : places tree depth ≡ symbols
   pub writes : (b t m root : List ℕ) → length b ≡ 256 * dataSymbols (depth - 1)
-      → (treeWritten depth (bytesOf (houseWords depth)) b t m root ≡ Done) ↔ ((length t ≡ 256 * symbols) × (length m ≡ symbols) × (length root ≡ 512))
+      → (treeWritten depth (bytesOf (houseWords depth)) b t m root .answer ≡ Done) ↔ ((length t ≡ 256 * symbols) × (length m ≡ symbols) × (length root ≡ 512))
 
 -- each of these is a byte
 abbrev pub AreBytes : List ℕ → Type 0

@@ -2,8 +2,8 @@
 -- success, untouched on refusal. Every call ends, reads and writes only inside what it was lent, and finds bad input for itself and names it
 -- by number." Statements only.
 --
--- The contract of each call names one definition for its answer and one for what each lent buffer holds afterwards, for every input, and has no
--- `requires`: so a call finds bad input for itself. Below is what these definitions say, for each public call. A buffer that no definition
+-- The contract of each call names one definition, which gives its answer and what each lent buffer holds afterwards (the hasher's and the house table's
+-- name two: the answer, and the buffer), for every input, and has no `requires`: so a call finds bad input for itself. Below is what these definitions say, for each public call. A buffer that no definition
 -- names is only read. That every call ends, and reads and writes only inside what it was lent, is the language's own theorem of every function.
 use mathlib.Core.Path.{_≡_}
 use mathlib.Core.List.{List}
@@ -15,18 +15,19 @@ use Rattle.sha256.specs.Call.{answer, after}
 use Rattle.sha256.specs.declared.Answer.the-variants as hashed
 use Rattle.parity_table.specs.declared.Answer.{Answer as Read}
 use Rattle.parity_table.specs.declared.Answer.the-variants.{Whole}
-use Rattle.parity_table.specs.Bytes.{wordsOf}
-use Rattle.parity_table.specs.House.{houseWords, houseAnswer, houseOut}
+use Rattle.house_table.specs.House.{houseWords, houseAnswer, houseOut}
 use Rattle.model.specs.Shape.{tree}
 use Rattle.model.specs.Symbols.{symAt}
 use Rattle.model.specs.Writer.{blockOf, writeTree, writtenMarks, writtenRoot}
 use Rattle.model.specs.Sampling.{sampleBytes}
 use Rattle.symbol_hash.specs.SymbolHash.{symbolHash}
-use Rattle.cedunmi.specs.declared.Answer.{Answer}
-use Rattle.cedunmi.specs.declared.Answer.the-variants.{Done}
-use Rattle.cedunmi.specs.Volume.{treeWritten, treeLeft, marksLeft, rootLeft, blockRead, blockLeft}
-use Rattle.cedunmi.specs.Sample.{sampleTaken, sampleLeft}
-use Rattle.cedunmi.specs.Repairs.{repairTested, repairOf, leftBy}
+use Rattle.symbol_hash.specs.declared.Kind.the-variants.{Plain}
+use Rattle.calls.specs.declared.Answer.{Answer}
+use Rattle.calls.specs.declared.Answer.the-variants.{Done}
+use Rattle.volume_calls.specs.Reading.{blockRead}
+use Rattle.volume_calls.specs.Writing.{TreeLeft, treeWritten}
+use Rattle.sample_calls.specs.Taking.{sampleTaken}
+use Rattle.fault_calls.specs.Repairing.{Result, RepairLeft, repairTested, repairOf, repaired}
 use Rattle.guarantees.specs.Refusals.{Refusals}
 use Rattle.guarantees.specs.FaultProofs.{ProofCheckerAnswers}
 use Rattle.guarantees.specs.Terms.{equationsOf}
@@ -43,16 +44,16 @@ abbrev pub HouseWriter : List ℕ → List ℕ → Read → Type 0
 HouseWriter new lent a = Condition (a ≡ Whole) lent new (houseOut a new lent)
 
 -- a tree, its marks and its root are written
-pub record TreeWriter (depth : ℕ) (table block t m root : List ℕ) (a : Answer) : Type 0 where
-  pub tree-bytes : Condition (a ≡ Done) t (writeTree tree symbolHash (equationsOf table) block t) (treeLeft a (wordsOf table) block t)
-  pub mark-bytes : Condition (a ≡ Done) m (writtenMarks tree depth) (marksLeft a depth m)
-  pub root-bytes : (written : List ℕ) → Condition (a ≡ Done) root (writtenRoot tree symbolHash written) (rootLeft a written root)
+pub record TreeWriter (depth : ℕ) (table block t m root : List ℕ) (w : TreeLeft Answer) : Type 0 where
+  pub tree-bytes : Condition (w .answer ≡ Done) t (writeTree tree (symbolHash Plain) (equationsOf table) block t) (w .tree)
+  pub mark-bytes : Condition (w .answer ≡ Done) m (writtenMarks tree depth) (w .marks)
+  pub root-bytes : Condition (w .answer ≡ Done) root (writtenRoot tree (symbolHash Plain) (w .tree)) (w .root)
 
 -- tree, marks and output are repaired: what 01's steps make of them
-pub record Repairer (root table t m o : List ℕ) (a : Answer) : Type 0 where
-  pub tree-bytes : Condition (a ≡ Done) t (repairOf root table t m o .tree) (leftBy a (repairOf root table t m o .tree) t)
-  pub mark-bytes : Condition (a ≡ Done) m (repairOf root table t m o .marks) (leftBy a (repairOf root table t m o .marks) m)
-  pub out-bytes : Condition (a ≡ Done) o (repairOf root table t m o .out) (leftBy a (repairOf root table t m o .out) o)
+pub record Repairer (root table t m o : List ℕ) (a : Answer) (w : RepairLeft Result) : Type 0 where
+  pub tree-bytes : Condition (a ≡ Done) t (repairOf root table t m o .tree) (w .tree)
+  pub mark-bytes : Condition (a ≡ Done) m (repairOf root table t m o .marks) (w .marks)
+  pub out-bytes : Condition (a ≡ Done) o (repairOf root table t m o .out) (w .out)
 
 -- ---- every public call; the two checks of a table, the sample check and the proof check only read
 
@@ -67,7 +68,7 @@ pub record Demand1 : Type 0 where
       → HouseWriter (bytesOf (houseWords depth)) lent (houseAnswer depth (length lent) (length (houseWords depth) * 4))
   pub tree-writer : (depth : ℕ) (table block t m root : List ℕ) → TreeWriter depth table block t m root (treeWritten depth table block t m root)
   pub block-reader : (depth : ℕ) (t m b : List ℕ)
-      → Condition (blockRead depth t m b ≡ Done) b (blockOf tree depth t) (blockLeft (blockRead depth t m b) depth t b)
+      → Condition (blockRead depth t m b .answer ≡ Done) b (blockOf tree depth t) (blockRead depth t m b .block)
   pub sampler : (depth i : ℕ) (t m s : List ℕ)
-      → Condition (sampleTaken depth i t m s ≡ Done) s (sampleBytes tree (symAt tree t) depth i) (sampleLeft (sampleTaken depth i t m s) depth i t s)
-  pub repairer : (depth : ℕ) (root table t m o : List ℕ) → Repairer root table t m o (repairTested depth root table t m o)
+      → Condition (sampleTaken depth i t m s .answer ≡ Done) s (sampleBytes tree (symAt tree t) depth i) (sampleTaken depth i t m s .sample)
+  pub repairer : (depth : ℕ) (root table t m o : List ℕ) → Repairer root table t m o (repairTested depth root table t m o) (repaired depth root table t m o)

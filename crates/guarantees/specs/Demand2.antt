@@ -6,10 +6,12 @@ use mathlib.Core.Logic.{_⊎_, _↔_}
 use mathlib.Core.List.{List}
 use Prim.Native.Nat.{ℕ, _-_, _*_, _<_}
 use lib.ListN.{getD}
-use Rattle.parity_table.specs.Bytes.{wordsOf}
-use Rattle.cedunmi.specs.declared.Answer.the-variants.{Done}
-use Rattle.cedunmi.specs.Volume.{treeWritten, treeLeft, marksLeft, rootLeft, blockRead, blockLeft}
-use Rattle.cedunmi.specs.Sample.{sampleTaken, sampleLeft, sampleChecked}
+use Rattle.table_bytes.specs.Bytes.{wordsOf}
+use Rattle.calls.specs.declared.Answer.the-variants.{Done}
+use Rattle.volume_calls.specs.Reading.{blockRead}
+use Rattle.volume_calls.specs.Writing.{treeWritten}
+use Rattle.sample_calls.specs.Checking.{sampleChecked}
+use Rattle.sample_calls.specs.Taking.{sampleTaken}
 use Rattle.guarantees.specs.Layouts.{symbolNo, dataSymbols, allSymbols, treeSymbols, symbolAt, markAt, sampledLayer, sampledNumber}
 use Rattle.guarantees.specs.Tables.{TableRules, listed}
 use Rattle.guarantees.specs.Trees.{CorrectlyCoded, RootOf, AgreesWith, HasBlock, Twins}
@@ -20,13 +22,13 @@ use Rattle.guarantees.specs.Terms.{equationsOf}
 
 module _ (depth : ℕ) (table block t m root : List ℕ) where
   abbrev pub treeAfter : List ℕ
-  treeAfter = treeLeft (treeWritten depth table block t m root) (wordsOf table) block t
+  treeAfter = treeWritten depth table block t m root .tree
 
   abbrev pub marksAfter : List ℕ
-  marksAfter = marksLeft (treeWritten depth table block t m root) depth m
+  marksAfter = treeWritten depth table block t m root .marks
 
   abbrev pub rootAfter : List ℕ
-  rootAfter = rootLeft (treeWritten depth table block t m root) treeAfter root
+  rootAfter = treeWritten depth table block t m root .root
 
 -- ---- "A block, its depth and its parity table give exactly the symbols and root that the coded Merkle tree's definition and FIPS 180-4 give."
 
@@ -52,12 +54,12 @@ module _ (depth : ℕ) (table block t m root : List ℕ) where
     pub lengths : TreeLengths depth (treeAfter depth table block t m root) (marksAfter depth table block t m root)
 
 abbrev pub WritesExactly : Type 0
-WritesExactly = (depth : ℕ) (table block t m root : List ℕ) → treeWritten depth table block t m root ≡ Done → Exactly depth table block t m root
+WritesExactly = (depth : ℕ) (table block t m root : List ℕ) → treeWritten depth table block t m root .answer ≡ Done → Exactly depth table block t m root
 
 -- whatever the lent buffers held
 abbrev pub WritesTheSame : Type 0
 WritesTheSame =
-    (depth : ℕ) (table block t m root t′ m′ root′ : List ℕ) → treeWritten depth table block t m root ≡ Done → treeWritten depth table block t′ m′ root′ ≡ Done
+    (depth : ℕ) (table block t m root t′ m′ root′ : List ℕ) → treeWritten depth table block t m root .answer ≡ Done → treeWritten depth table block t′ m′ root′ .answer ≡ Done
     → (treeAfter depth table block t m root ≡ treeAfter depth table block t′ m′ root′)
     × (marksAfter depth table block t m root ≡ marksAfter depth table block t′ m′ root′)
     × (rootAfter depth table block t m root ≡ rootAfter depth table block t′ m′ root′)
@@ -72,24 +74,24 @@ pub record CompleteTree (depth : ℕ) (t m : List ℕ) : Type 0 where
 
 -- of a complete tree a block is read
 abbrev pub ReadsComplete : Type 0
-ReadsComplete = (depth : ℕ) (t m b : List ℕ) → CompleteTree depth t m → BlockLength depth b → blockRead depth t m b ≡ Done
+ReadsComplete = (depth : ℕ) (t m b : List ℕ) → CompleteTree depth t m → BlockLength depth b → blockRead depth t m b .answer ≡ Done
 
 -- "Reading a block back copies the base's data symbols in order; each must be marked held."
 module _ (depth : ℕ) (t m b : List ℕ) where
   abbrev pub blockAfter : List ℕ
-  blockAfter = blockLeft (blockRead depth t m b) depth t b
+  blockAfter = blockRead depth t m b .block
 
 abbrev pub ReadsBase : Type 0
 ReadsBase =
-    (depth : ℕ) (t m b : List ℕ) → blockRead depth t m b ≡ Done
+    (depth : ℕ) (t m b : List ℕ) → blockRead depth t m b .answer ≡ Done
     → BlockLength depth (blockAfter depth t m b)
     × ((i : ℕ) → i < dataSymbols (depth - 1) → (symbolNo (blockAfter depth t m b) i ≡ symbolAt t (depth - 1) i) × (markAt m (depth - 1) i ≡ 1))
 
 -- of a tree that was written: exactly the block
 abbrev pub ReadsWritten : Type 0
 ReadsWritten =
-    (depth : ℕ) (table block t m root b : List ℕ) → treeWritten depth table block t m root ≡ Done → BlockLength depth b
-    → (blockRead depth (treeAfter depth table block t m root) (marksAfter depth table block t m root) b ≡ Done)
+    (depth : ℕ) (table block t m root b : List ℕ) → treeWritten depth table block t m root .answer ≡ Done → BlockLength depth b
+    → (blockRead depth (treeAfter depth table block t m root) (marksAfter depth table block t m root) b .answer ≡ Done)
     × (blockAfter depth (treeAfter depth table block t m root) (marksAfter depth table block t m root) b ≡ block)
 
 -- two trees show, at one layer and number, two different symbols of equal SHA-256
@@ -102,8 +104,8 @@ pub record TreesCollide (depth : ℕ) (f g : ℕ → ℕ → List ℕ) : Type 0 
 -- of any tree u that agrees with the root that was written, as one that was repaired whole does: the block, or a collision of the two trees
 abbrev pub ReadsOriginal : Type 0
 ReadsOriginal =
-    (depth : ℕ) (table block t m root : List ℕ) → treeWritten depth table block t m root ≡ Done
-    → (u w b : List ℕ) → blockRead depth u w b ≡ Done → AgreesWith depth (equationsOf table) (rootAfter depth table block t m root) (symbolAt u)
+    (depth : ℕ) (table block t m root : List ℕ) → treeWritten depth table block t m root .answer ≡ Done
+    → (u w b : List ℕ) → blockRead depth u w b .answer ≡ Done → AgreesWith depth (equationsOf table) (rootAfter depth table block t m root) (symbolAt u)
     → (blockAfter depth u w b ≡ block) ⊎ TreesCollide depth (symbolAt u) (symbol depth table block t m root)
 
 -- ---- "and a sample is accepted just when its hashes lead to the root"
@@ -122,7 +124,7 @@ AcceptsJustWhen = (depth i : ℕ) (root s : List ℕ) → (sampleChecked depth i
 -- of a complete tree every sample is taken
 abbrev pub TakesComplete : Type 0
 TakesComplete =
-    (depth i : ℕ) (t m s : List ℕ) → CompleteTree depth t m → InBase depth i → SampleLength depth s → sampleTaken depth i t m s ≡ Done
+    (depth i : ℕ) (t m s : List ℕ) → CompleteTree depth t m → InBase depth i → SampleLength depth s → sampleTaken depth i t m s .answer ≡ Done
 
 -- a sample s has the symbols f at its places
 abbrev pub SampleHas : ℕ → ℕ → List ℕ → (ℕ → ℕ → List ℕ) → Type 0
@@ -131,18 +133,18 @@ SampleHas depth i s f = (x : ℕ) → x < 2 * depth - 1 → symbolNo s x ≡ f (
 -- a sample that was taken has the tree's
 module _ (depth i : ℕ) (t m s : List ℕ) where
   abbrev pub sampleAfter : List ℕ
-  sampleAfter = sampleLeft (sampleTaken depth i t m s) depth i t s
+  sampleAfter = sampleTaken depth i t m s .sample
 
 abbrev pub TakesExactly : Type 0
 TakesExactly =
-    (depth i : ℕ) (t m s : List ℕ) → sampleTaken depth i t m s ≡ Done
+    (depth i : ℕ) (t m s : List ℕ) → sampleTaken depth i t m s .answer ≡ Done
     → SampleLength depth (sampleAfter depth i t m s) × SampleHas depth i (sampleAfter depth i t m s) (symbolAt t)
 
 -- a sample that was taken of a tree that agrees, by whichever table, is accepted
 abbrev pub AcceptsTaken : Type 0
 AcceptsTaken =
     (depth i : ℕ) (root t m s : List ℕ) (tbl : List (List (List ℕ))) → TableRules depth tbl → AgreesWith depth tbl root (symbolAt t)
-    → sampleTaken depth i t m s ≡ Done → sampleChecked depth i root (sampleAfter depth i t m s) ≡ Done
+    → sampleTaken depth i t m s .answer ≡ Done → sampleChecked depth i root (sampleAfter depth i t m s) ≡ Done
 
 -- an accepted sample has the symbols of every tree that agrees, or shows a collision with it
 pub record SampleCollides (depth i : ℕ) (s : List ℕ) (f : ℕ → ℕ → List ℕ) : Type 0 where

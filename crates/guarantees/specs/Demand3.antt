@@ -3,14 +3,14 @@ use mathlib.Core.Path.{_≡_}
 use mathlib.Core.Logic.{_⊎_, _↔_, _≢_}
 use mathlib.Core.Bool.{Bool, true, false}
 use mathlib.Core.List.{List, [], _∷_, _++_}
-use Prim.Native.Nat.{ℕ, zero, suc, _+_, _-_, _*_, _≤_, _<_}
+use Prim.Native.Nat.{ℕ, zero, suc, _+_, _*_, _≤_, _<_}
 use lib.ListN.{length, getD, take, drop, replicate}
 use Rattle.octets.specs.Choice.{pick}
 use Rattle.sha256.specs.Hash.{sha256}
 use Rattle.model.specs.Repair.{whole, fault, unavailable, twins, St}
-use Rattle.cedunmi.specs.declared.Answer.the-variants.{Done}
-use Rattle.cedunmi.specs.Proof.{proofChecked}
-use Rattle.cedunmi.specs.Repairs.{repairTested, repairOf, repaired, ended, leftBy}
+use Rattle.calls.specs.declared.Answer.the-variants.{Done}
+use Rattle.fault_calls.specs.Checking.{proofChecked}
+use Rattle.fault_calls.specs.Repairing.{repairTested, repairOf, repaired, ended}
 use Rattle.guarantees.specs.Layouts.{symbolNo, dataSymbols, allSymbols, treeSymbols, symbolAt, markAt, hashFor, XorOf}
 use Rattle.guarantees.specs.Tables.{IsMember}
 use Rattle.guarantees.specs.Trees.{members, EquationHolds, AgreesWith, Twins}
@@ -76,10 +76,10 @@ module _ (depth : ℕ) (root table t m o : List ℕ) where
 
   -- ".. gives the end, the reported numbers and every lent byte as 01's steps of repair do .."
   pub record AsTheSteps : Type 0 where
-    pub reports : repaired depth root table t m o ≡ ended (steps .stored) (steps .end)
-    pub tree-left : leftBy (repairTested depth root table t m o) (steps .tree) t ≡ steps .tree
-    pub marks-left : leftBy (repairTested depth root table t m o) (steps .marks) m ≡ steps .marks
-    pub out-left : leftBy (repairTested depth root table t m o) (steps .out) o ≡ steps .out
+    pub reports : repaired depth root table t m o .answer ≡ ended (steps .stored) (steps .end)
+    pub tree-left : repaired depth root table t m o .tree ≡ steps .tree
+    pub marks-left : repaired depth root table t m o .marks ≡ steps .marks
+    pub out-left : repaired depth root table t m o .out ≡ steps .out
 
   -- symbol i of layer j, and its mark, as the call leaves them, and the members of equation e
   abbrev pub symbol : ℕ → ℕ → List ℕ

@@ -5,12 +5,12 @@ use mathlib.Core.List.{List, _∷_, _++_}
 use Prim.Native.Nat.{ℕ, _+_, _-_, _*_, _≤_, _<_}
 use lib.ListN.{length, getD}
 use Rattle.sha256.specs.Hash.{sha256}
-use Rattle.parity_table.specs.Bytes.{wordsOf}
+use Rattle.table_bytes.specs.Bytes.{wordsOf}
 use Rattle.model.specs.Shape.{tree}
 use Rattle.model.specs.Fault.{proofBytes, ProofHolds}
-use Rattle.cedunmi.specs.declared.Answer.the-variants.{Done}
-use Rattle.cedunmi.specs.Stops.{numberOf, valueOf}
-use Rattle.cedunmi.specs.Proof.{proofChecked}
+use Rattle.calls.specs.declared.Answer.the-variants.{Done}
+use Rattle.calls.specs.Stops.{numberOf, valueOf}
+use Rattle.fault_calls.specs.Checking.{proofChecked}
 use Rattle.guarantees.specs.Layouts.{bytesFrom, dataSymbols, allSymbols, hashFor, XorOf, upFrom, wordNo, kindValue}
 use Rattle.guarantees.specs.Tables.{TableRules, TableRight, FirstWrongWord}
 use Rattle.guarantees.specs.Trees.{members}

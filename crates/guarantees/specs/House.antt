@@ -5,8 +5,8 @@ use mathlib.Core.List.{List}
 use Prim.Native.Nat.{ℕ, _+_, _-_, _*_, _/_, _%_, _≤_, _<_}
 use lib.ListN.{length, getD}
 use Rattle.octets.specs.BigEndian.{bytesOf}
-use Rattle.parity_table.specs.Bytes.{wordsOf}
-use Rattle.parity_table.specs.House.{houseTable, houseWords}
+use Rattle.table_bytes.specs.Bytes.{wordsOf}
+use Rattle.house_table.specs.House.{houseTable, houseWords}
 use Rattle.guarantees.specs.Layouts.{dataSymbols, wordNo}
 use Rattle.guarantees.specs.Tables.{TableRules, listed, TableRight, IsMember}
 use Rattle.guarantees.specs.Trees.{members}

@@ -6,21 +6,24 @@ use mathlib.Core.List.{List}
 use Prim.Native.Nat.{ℕ, suc, _+_, _-_, _*_, _%_, _^_, _≤_, _<_}
 use lib.ListN.{length, getD}
 use Rattle.sha256.specs.Hash.{sha256}
-use Rattle.sha256.specs.Call.{answer, number}
+use Rattle.sha256.specs.Call.{answer}
 use Rattle.sha256.specs.declared.Answer.{Answer as Hashed}
 use Rattle.sha256.specs.declared.Answer.the-variants as hashed
 use Rattle.parity_table.specs.declared.Answer.{Answer as Read}
 use Rattle.parity_table.specs.declared.Answer.the-variants.{Whole}
-use Rattle.parity_table.specs.Right as reader
 use Rattle.parity_table.specs.Reader.{readOf}
-use Rattle.parity_table.specs.Bytes.{wordsOf, readBytesOf}
-use Rattle.parity_table.specs.House.{houseWords, houseAnswer}
-use Rattle.cedunmi.specs.declared.Answer.{Answer}
-use Rattle.cedunmi.specs.declared.Answer.the-variants.{Done}
-use Rattle.cedunmi.specs.Stops.{numberOf, valueOf}
-use Rattle.cedunmi.specs.Volume.{treeWritten, blockRead}
-use Rattle.cedunmi.specs.Sample.{sampleTaken, sampleChecked}
-use Rattle.cedunmi.specs.Repairs.{repairTested}
+use Rattle.table_bytes.specs.Bytes.{wordsOf, readBytesOf}
+use Rattle.house_table.specs.House.{houseWords, houseAnswer}
+use Rattle.calls.specs.declared.Answer.{Answer}
+use Rattle.calls.specs.declared.Answer.the-variants.{Done}
+use Rattle.calls.specs.Stops.{numberOf, valueOf}
+use Rattle.calls.specs.Tests.{readAnswer}
+use Rattle.volume_calls.specs.Reading.{blockRead}
+use Rattle.volume_calls.specs.Writing.{treeWritten}
+use Rattle.sample_calls.specs.Checking.{sampleChecked}
+use Rattle.sample_calls.specs.Taking.{sampleTaken}
+use Rattle.fault_calls.specs.Repairing.{repairTested}
+use Rattle.cedunmi_c.specs.Result.{hashAnswer}
 use Rattle.guarantees.specs.Layouts.{symbolNo, dataSymbols, allSymbols, treeSymbols, markAt, hashFor, sampledLayer, sampledNumber}
 use Rattle.guarantees.specs.Tables.{FirstWrongWord}
 use Rattle.guarantees.specs.Answers.{Answered, done, test, unless, JustWhen}
@@ -147,21 +150,21 @@ module _ (d : ℕ) (root table t m o : List ℕ) where
 pub record Refusals : Type 0 where
   -- 0 is done, or accepted, and nothing else is
   pub done-call : (a : Answer) → (numberOf a ≡ 0) ↔ (a ≡ Done)
-  pub done-read : (a : Read) → (reader.numberOf a ≡ 0) ↔ (a ≡ Whole)
-  pub done-hash : (a : Hashed) → (number a ≡ 0) ↔ (a ≡ hashed.Done)
-  pub hasher : (m d : List ℕ) → JustWhen (number (answer m d)) 0 (hashTests m d)
-  pub table-words : (d : ℕ) (ws : List ℕ) → JustWhen (reader.numberOf (readOf d ws)) (reader.valueOf (readOf d ws)) (wordsTests d ws)
-  pub table-bytes : (d : ℕ) (b : List ℕ) → JustWhen (reader.numberOf (readBytesOf d b)) (reader.valueOf (readBytesOf d b)) (tableTests d b)
+  pub done-read : (a : Read) → (numberOf (readAnswer a) ≡ 0) ↔ (a ≡ Whole)
+  pub done-hash : (a : Hashed) → (numberOf (hashAnswer a) ≡ 0) ↔ (a ≡ hashed.Done)
+  pub hasher : (m d : List ℕ) → JustWhen (numberOf (hashAnswer (answer m d))) 0 (hashTests m d)
+  pub table-words : (d : ℕ) (ws : List ℕ) → JustWhen (numberOf (readAnswer (readOf d ws))) (valueOf (readAnswer (readOf d ws))) (wordsTests d ws)
+  pub table-bytes : (d : ℕ) (b : List ℕ) → JustWhen (numberOf (readAnswer (readBytesOf d b))) (valueOf (readAnswer (readBytesOf d b))) (tableTests d b)
   pub house-words : (d n : ℕ)
-      → JustWhen (reader.numberOf (houseAnswer d n (length (houseWords d)))) (reader.valueOf (houseAnswer d n (length (houseWords d)))) (houseTests d 1 n)
+      → JustWhen (numberOf (readAnswer (houseAnswer d n (length (houseWords d))))) (valueOf (readAnswer (houseAnswer d n (length (houseWords d))))) (houseTests d 1 n)
   pub house-bytes : (d n : ℕ)
-      → JustWhen (reader.numberOf (houseAnswer d n (length (houseWords d) * 4))) (reader.valueOf (houseAnswer d n (length (houseWords d) * 4)))
+      → JustWhen (numberOf (readAnswer (houseAnswer d n (length (houseWords d) * 4)))) (valueOf (readAnswer (houseAnswer d n (length (houseWords d) * 4))))
       (houseTests d 4 n)
   pub tree-writer : (d : ℕ) (table b t m root : List ℕ)
-      → JustWhen (numberOf (treeWritten d table b t m root)) (valueOf (treeWritten d table b t m root)) (writerTests d table b t m root)
-  pub block-reader : (d : ℕ) (t m b : List ℕ) → JustWhen (numberOf (blockRead d t m b)) (valueOf (blockRead d t m b)) (blockTests d t m b)
+      → JustWhen (numberOf (treeWritten d table b t m root .answer)) (valueOf (treeWritten d table b t m root .answer)) (writerTests d table b t m root)
+  pub block-reader : (d : ℕ) (t m b : List ℕ) → JustWhen (numberOf (blockRead d t m b .answer)) (valueOf (blockRead d t m b .answer)) (blockTests d t m b)
   pub sampler : (d i : ℕ) (t m s : List ℕ)
-      → JustWhen (numberOf (sampleTaken d i t m s)) (valueOf (sampleTaken d i t m s)) (samplerTests d i t m s)
+      → JustWhen (numberOf (sampleTaken d i t m s .answer)) (valueOf (sampleTaken d i t m s .answer)) (samplerTests d i t m s)
   pub sample-checker : (d i : ℕ) (root s : List ℕ)
       → JustWhen (numberOf (sampleChecked d i root s)) (valueOf (sampleChecked d i root s)) (sampleTests d i root s)
   pub repairer : (d : ℕ) (root table t m o : List ℕ)

@@ -5,17 +5,17 @@ use mathlib.Core.List.{List}
 use Prim.Native.Nat.{ℕ, _/_, _%_}
 use lib.Dec.{eqb}
 use Rattle.octets.specs.Choice.{pick}
-use Rattle.sha256.specs.Call.{answer, number}
-use Rattle.parity_table.specs.declared.Answer.{Answer as Read}
-use Rattle.parity_table.specs.Right as reader
 use Rattle.model.specs.Repair.{End, working, whole, fault, unavailable, twins}
 use Rattle.repair.specs.declared.End.the-variants as report
 use Rattle.repair.specs.Reports.{endOf}
-use Rattle.cedunmi.specs.declared.Answer.{Answer}
-use Rattle.cedunmi.specs.declared.Answer.the-variants.{Done}
-use Rattle.cedunmi.specs.Stops.{numberOf, valueOf}
-use Rattle.cedunmi.specs.Repairs.{repairTested, repairOf, repaired}
-use Rattle.cedunmi_c.specs.Result.{tableResult, callResult, repairResult}
+use Rattle.calls.specs.declared.Answer.{Answer}
+use Rattle.calls.specs.declared.Answer.the-variants.{Done}
+use Rattle.calls.specs.Stops.{numberOf, valueOf}
+use Rattle.fault_calls.specs.Repairing.{Result, RepairLeft, repairTested, repairOf, repaired}
+use Rattle.cedunmi_c.specs.Result.{callResult, repairResult, treeInC, blockInC, sampleInC, repairInC}
+use Rattle.volume_calls.specs.Writing.{TreeLeft}
+use Rattle.volume_calls.specs.Reading.{BlockLeft}
+use Rattle.sample_calls.specs.Taking.{SampleLeft}
 
 -- cmt_number, cmt_value
 abbrev pub cmtNumber : ℕ → ℕ
@@ -56,19 +56,24 @@ EndSaid r (unavailable j) = SaysEnd r 2 0 j
 EndSaid r (twins j x) = SaysEnd r 3 0 0
 EndSaid r working = ⊥
 
--- of every answer to every call; the contract of each says that it returns this number
+-- of every answer to every call, the hasher's and the reader's among them; the contract of each says that it returns this number
 pub record Results : Type 0 where
   -- the ends that `repair_tree` answers with, each with its numbers
   pub ends : (layer equation withheld size number : ℕ)
       → (endOf report.Whole ≡ whole) × (endOf (report.Fault layer equation withheld size) ≡ fault layer equation withheld size)
       × (endOf (report.Unavailable layer) ≡ unavailable layer) × (endOf (report.Twins layer number) ≡ twins layer number)
-  pub of-hash : (m d : List ℕ) → Says (number (answer m d)) (number (answer m d)) 0
-  pub of-table : (a : Read) → Says (tableResult a) (reader.numberOf a) (reader.valueOf a)
   pub of-call : (a : Answer) → Says (callResult a) (numberOf a) (valueOf a)
   -- a repair that is refused, and one that came to its end
   pub of-refusal : (depth : ℕ) (root table t m o : List ℕ) → repairTested depth root table t m o ≢ Done
-      → Says (repairResult (repaired depth root table t m o)) (numberOf (repairTested depth root table t m o)) (valueOf (repairTested depth root table t m o))
+      → Says (repairResult (repaired depth root table t m o .answer)) (numberOf (repairTested depth root table t m o)) (valueOf (repairTested depth root table t m o))
   pub of-repair : (depth : ℕ) (root table t m o : List ℕ) → repairTested depth root table t m o ≡ Done
-      → (cmtNumber (repairResult (repaired depth root table t m o)) ≡ 0)
-      × (cmtRepairStored (repairResult (repaired depth root table t m o)) ≡ repairOf root table t m o .stored)
-      × EndSaid (repairResult (repaired depth root table t m o)) (repairOf root table t m o .end)
+      → (cmtNumber (repairResult (repaired depth root table t m o .answer)) ≡ 0)
+      × (cmtRepairStored (repairResult (repaired depth root table t m o .answer)) ≡ repairOf root table t m o .stored)
+      × EndSaid (repairResult (repaired depth root table t m o .answer)) (repairOf root table t m o .end)
+  -- to C a call leaves the buffers that it leaves, and its answer is that number
+  pub tree-in-c : (w : TreeLeft Answer)
+      → (treeInC w .answer ≡ callResult (w .answer)) × (treeInC w .tree ≡ w .tree) × (treeInC w .marks ≡ w .marks) × (treeInC w .root ≡ w .root)
+  pub block-in-c : (w : BlockLeft Answer) → (blockInC w .answer ≡ callResult (w .answer)) × (blockInC w .block ≡ w .block)
+  pub sample-in-c : (w : SampleLeft Answer) → (sampleInC w .answer ≡ callResult (w .answer)) × (sampleInC w .sample ≡ w .sample)
+  pub repair-in-c : (w : RepairLeft Result)
+      → (repairInC w .answer ≡ repairResult (w .answer)) × (repairInC w .tree ≡ w .tree) × (repairInC w .marks ≡ w .marks) × (repairInC w .out ≡ w .out)
