@@ -10,8 +10,8 @@ use borrow.Author.Tests.{lt-ltb, le-ltb}
 use Rattle.octets.specs.Choice.{pick}
 use Rattle.octets.specs.Hex.{hexDigit, hexOf, upper}
 use Rattle.octets.proofs.ListLaws.{length-part, part-ends}
-use Rattle.parity_table.proofs.HouseParts.{four}
-use Rattle.parity_table.proofs.Writes.{putting-start, putting-step}
+use Rattle.house_table.proofs.HouseParts.{four}
+use Rattle.octets.proofs.Writes.{putting-start, putting-step}
 use Rattle.model.specs.Symbols.{joined, symbolIn}
 use Rattle.listing.specs.Listing.{space, lineFeed, decimal, header, line, listing}
 

@@ -5,11 +5,12 @@ use lib.ListN.{length, getD, replicate}
 use lib.Dec.{ltb, eqb}
 use Rattle.octets.specs.Choice.{pick}
 use Rattle.octets.specs.Hex.{hexOf, upper}
-use Rattle.parity_table.specs.House.{houseTable}
+use Rattle.house_table.specs.House.{houseTable}
 use Rattle.model.specs.Shape.{tree}
 use Rattle.model.specs.Symbols.{joined, symbolIn}
 use Rattle.model.specs.Writer.{writeTree}
 use Rattle.symbol_hash.specs.SymbolHash.{symbolHash}
+use Rattle.symbol_hash.specs.declared.Kind.the-variants.{Plain}
 
 -- ---- characters
 
@@ -44,7 +45,7 @@ listing t = header 1 16 ++ joined (λ i. line i (symbolIn t i)) 0 16
 
 -- "codes it at depth 1 with the house table": the tree that the writer leaves in a buffer that held zeros
 unfoldable pub coded : List ℕ → List ℕ
-coded block = writeTree tree symbolHash (houseTable 1) block (replicate 4096 0)
+coded block = writeTree tree (symbolHash Plain) (houseTable 1) block (replicate 4096 0)
 
 -- what it prints of an input: nothing where that is no block of depth 1
 unfoldable pub printed : List ℕ → List ℕ

@@ -1,5 +1,5 @@
 // The text that is printed, byte by byte.
-use cedunmi::Answer;
+use calls::Answer;
 ghost use mathlib.Core.Path.{_≡_};
 ghost use Prim.Native.Nat.{_+_, _≤_};
 ghost use lib.ListN.{length, take};
@@ -62,8 +62,8 @@ pub fn put(input: &[u8], text: &mut [u8; 96]) -> usize
     let mut tree = [0u8; 4096];
     let mut marks = [0u8; 16];
     let mut root = [0u8; 512];
-    parity_table::house::write_bytes(&mut table, 1);
-    match cedunmi::volume::write_tree(1, &table, input, &mut tree, &mut marks, &mut root) {
+    house_table::write_bytes(&mut table, 1);
+    match volume_calls::write_tree(1, &table, input, &mut tree, &mut marks, &mut root) {
         Answer::Done => {
             list(&tree, text);
             96

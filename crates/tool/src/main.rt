@@ -3,7 +3,7 @@
 // standard output: 01's number and its value, and of a repair that ended its end, the symbols stored and the end's value.
 // The script `cedunmi` opens the files, gives each call buffers of the right lengths, and says the numbers in words.
 mod answers;
-mod calls;
+mod commands;
 
 use libc::STDERR_FILENO;
 
@@ -51,25 +51,25 @@ fn digits(text: &[u8]) -> usize {
 // Makes the call of this name.
 fn call(name: &[u8], depth: usize) {
     if is(name, b"table") {
-        return calls::table(depth);
+        return commands::table(depth);
     }
     if is(name, b"code") {
-        return calls::code(depth);
+        return commands::code(depth);
     }
     if is(name, b"read") {
-        return calls::read(depth);
+        return commands::read(depth);
     }
     if is(name, b"sample") {
-        return calls::sample(depth, number(3));
+        return commands::sample(depth, number(3));
     }
     if is(name, b"check-sample") {
-        return calls::check_sample(depth, number(3));
+        return commands::check_sample(depth, number(3));
     }
     if is(name, b"check-proof") {
-        return calls::check_proof(depth);
+        return commands::check_proof(depth);
     }
     if is(name, b"repair") {
-        return calls::repair(depth);
+        return commands::repair(depth);
     }
     io::write_all(STDERR_FILENO, b"tool: no such call\n");
 }

@@ -6,7 +6,7 @@ use native.Mathlib.Omega.{arith}
 use lib.ListN.{length, take}
 use lib.Seq.{sets}
 use borrow.Author.Needs.{needs}
-use Rattle.parity_table.proofs.Writes.{Putting, putting-start, putting-step, putting-room, putting-end}
+use Rattle.octets.proofs.Writes.{Putting, putting-start, putting-step, putting-room, putting-end}
 use Rattle.listing.specs.Listing.{line}
 use Rattle.listing.proofs.TextLaws.{lineOf, linesLeft, lines-turn, lines-none, lines-length, symbol-length, line-of, listed, headed}
 use Rattle.listing.proofs.text.list.Statement.{statement}

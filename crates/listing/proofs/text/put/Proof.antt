@@ -49,7 +49,7 @@ returns c =
       (omega arith, simp length-take (omega arith)),
       take-all 96 (c .list .last .1 .0) (omega arith)
           ∙ c .list .ensures
-          ∙ printed-block (h .last .0) i e (w .result) (w .ensures .0) (c .before .before .before .enum-told .given .1) (w .last .1 .1 .1 .0) (w .ensures .1),
+          ∙ printed-block (h .last .0) i e (w .result) (w .last .1 .1 .1 .0) _ _ (w .ensures) (c .before .before .before .enum-told .given .1),
     )
 
 returns-2 : tie.Need-returns-2
@@ -58,7 +58,7 @@ returns-2 c =
     let h = c .before .before .before .before .before .before .before .before .before .before .before .write-bytes in
     let w = c .before .before .before .before .before .write-tree in
     let e = house-written (h .result) (replicate 244 0) (h .last .0) refl (h .ensures .0) (h .ensures .1) in
-    ((omega arith, refl), printed-nothing (h .last .0) i e (w .result) (w .ensures .0) _ (c .enum-told2 .given .1))
+    ((omega arith, refl), printed-nothing (h .last .0) i e (w .result) _ _ _ (w .ensures) _ (c .enum-told2 .given .1))
 
 pub put-spec : {M : Type 1} → statement M
 put-spec =

@@ -1,11 +1,10 @@
 // The calls. Each reads its buffers, one byte over the longest that is taken so that a longer file shows, makes its call, and writes back.
 use crate::answers::print_answer;
 use crate::answers::print_outcome;
-use crate::answers::print_table;
 use libc::STDIN_FILENO;
 
 fn write_table(depth: usize, table: &mut [u8]) {
-    print_table(parity_table::house::write_bytes(table, depth));
+    print_answer(calls::answer_of(house_table::write_bytes(table, depth)));
     io::write_all(7, table);
 }
 
@@ -23,7 +22,7 @@ fn write_tree(
     marks: &mut [u8],
     root: &mut [u8],
 ) {
-    print_answer(cedunmi::volume::write_tree(depth, table, block, tree, marks, root));
+    print_answer(volume_calls::write_tree(depth, table, block, tree, marks, root));
     io::write_all(7, tree);
     io::write_all(8, marks);
     io::write_all(9, root);
@@ -51,7 +50,7 @@ pub fn code(depth: usize) {
 }
 
 fn read_block(depth: usize, tree: &[u8], marks: &[u8], block: &mut [u8]) {
-    print_answer(cedunmi::volume::read_block(depth, tree, marks, block));
+    print_answer(volume_calls::read_block(depth, tree, marks, block));
     io::write_all(7, block);
 }
 
@@ -66,7 +65,7 @@ pub fn read(depth: usize) {
 }
 
 fn take_sample(depth: usize, number: usize, tree: &[u8], marks: &[u8], sample: &mut [u8]) {
-    print_answer(cedunmi::sample::take(depth, number, tree, marks, sample));
+    print_answer(sample_calls::take(depth, number, tree, marks, sample));
     io::write_all(7, sample);
 }
 
@@ -85,7 +84,7 @@ pub fn check_sample(depth: usize, number: usize) {
     let r = io::read_full(STDIN_FILENO, &mut root);
     let mut sample = [0u8; 2305];
     let s = io::read_full(3, &mut sample);
-    print_answer(cedunmi::sample::check(depth, number, &root[..r], &sample[..s]));
+    print_answer(sample_calls::check(depth, number, &root[..r], &sample[..s]));
 }
 
 pub fn check_proof(depth: usize) {
@@ -95,7 +94,7 @@ pub fn check_proof(depth: usize) {
     let t = io::read_full(3, &mut table);
     let mut proof = [0u8; 9997];
     let p = io::read_full(4, &mut proof);
-    print_answer(cedunmi::proof::check(depth, &root[..r], &table[..t], &proof[..p]));
+    print_answer(fault_calls::check(depth, &root[..r], &table[..t], &proof[..p]));
 }
 
 fn repair_tree(
@@ -106,7 +105,7 @@ fn repair_tree(
     marks: &mut [u8],
     out: &mut [u8],
 ) {
-    print_outcome(cedunmi::repairs::repair_tree(depth, root, table, tree, marks, out));
+    print_outcome(fault_calls::repair_tree(depth, root, table, tree, marks, out));
     io::write_all(7, tree);
     io::write_all(8, marks);
     io::write_all(9, out);
