@@ -53,6 +53,9 @@ pub struct Failure {
     pub difference: Difference,
 }
 
+/// What comes of comparisons.
+pub type Compared = Result<(), Failure>;
+
 impl fmt::Display for Failure {
     fn fmt(&self, f: &mut fmt::Formatter) -> fmt::Result {
         write!(f, "{}: {}", self.call, self.difference)

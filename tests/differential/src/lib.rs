@@ -3,37 +3,40 @@
 //! buffer that they are lent. And of the program `listing`: every byte that it
 //! prints.
 
+pub mod call;
+pub mod comparisons;
 pub mod difference;
-pub mod inputs;
+pub mod input;
 mod lent;
+pub mod library;
 pub mod listing;
+pub mod marks;
 pub mod messages;
-mod met;
+pub mod met;
+#[cfg(test)]
+mod mutants;
 mod programs;
 pub mod proofs;
 pub mod random;
 pub mod repairs;
-mod results;
-pub mod right;
+pub mod results;
 pub mod samples;
 pub mod sha256;
+pub mod stops;
 mod system;
 pub mod tables;
 pub mod trees;
 pub mod volumes;
 
-use cedunmi_sys::CEDUNMI;
-use difference::Failure;
-
-/// Makes the comparisons of one subject, and gives their number.
-pub type Compare = fn() -> Result<u64, Failure>;
-
-pub const SUBJECTS: &[(&str, Compare)] = &[
-    ("sha256", || sha256::compare(&CEDUNMI)),
-    ("tables", || tables::compare(&CEDUNMI)),
-    ("trees", || trees::compare(&CEDUNMI)),
-    ("samples", || samples::compare(&CEDUNMI)),
-    ("proofs", || proofs::compare(&CEDUNMI)),
-    ("repairs", || repairs::compare(&CEDUNMI)),
-    ("listing", || listing::compare(listing::program)),
+/// Every call of the header.
+pub static CALLS: &[&call::Call] = &[
+    &sha256::SHA256,
+    &tables::TABLE_CHECK,
+    &tables::HOUSE_TABLE,
+    &trees::writing::TREE_WRITE,
+    &trees::reading::BLOCK_READ,
+    &samples::taking::SAMPLE_TAKE,
+    &samples::checking::SAMPLE_CHECK,
+    &proofs::PROOF_CHECK,
+    &repairs::REPAIR,
 ];

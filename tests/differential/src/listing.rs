@@ -1,7 +1,8 @@
 //! The program `listing` beside the reference: every byte that it prints.
 
-use crate::difference::{same_bytes, Failure};
+use crate::difference::{same_bytes, Compared, Failure};
 use crate::messages::CONTENTS;
+use crate::met::Met;
 use crate::programs;
 use crate::random::Random;
 use reference::listing::listing;
@@ -28,35 +29,35 @@ pub fn program(input: &[u8]) -> Vec<u8> {
     programs::run(Path::new(env!("CARGO_MANIFEST_DIR")).join("../../target/bin/listing"), input)
 }
 
-/// Makes every comparison, and gives their number.
-pub fn compare(list: List) -> Result<u64, Failure> {
-    let mut comparisons = Comparisons { list, random: Random::new(SEED), made: 0 };
+/// Makes every comparison.
+pub fn compare(list: List) -> Result<Met, Failure> {
+    let mut comparisons = Comparisons { list, random: Random::new(SEED), met: Met::default() };
     comparisons.contents()?;
     comparisons.every_byte()?;
     comparisons.random_blocks()?;
     comparisons.other_lengths()?;
-    Ok(comparisons.made)
+    Ok(comparisons.met)
 }
 
 struct Comparisons {
     list: List,
     random: Random,
-    made: u64,
+    met: Met,
 }
 
 impl Comparisons {
     /// The block of the cases, and one of each content.
-    fn contents(&mut self) -> Result<(), Failure> {
+    fn contents(&mut self) -> Compared {
         self.make("the block of the cases", &cases_block())?;
         for content in CONTENTS {
-            let block = content.message(BLOCK, &mut self.random).bytes;
+            let block = content.message(BLOCK, &mut self.random);
             self.make("a content", &block)?;
         }
         Ok(())
     }
 
     /// Each byte value as the first one of each data symbol.
-    fn every_byte(&mut self) -> Result<(), Failure> {
+    fn every_byte(&mut self) -> Compared {
         for value in 0..=u8::MAX {
             let mut block = self.random.bytes(BLOCK);
             for symbol in 0..data_symbols(0) {
@@ -67,7 +68,7 @@ impl Comparisons {
         Ok(())
     }
 
-    fn random_blocks(&mut self) -> Result<(), Failure> {
+    fn random_blocks(&mut self) -> Compared {
         for _ in 0..300 {
             let block = self.random.bytes(BLOCK);
             self.make("a random block", &block)?;
@@ -76,18 +77,18 @@ impl Comparisons {
     }
 
     /// Inputs of which nothing is listed.
-    fn other_lengths(&mut self) -> Result<(), Failure> {
+    fn other_lengths(&mut self) -> Compared {
         for len in OTHER_LENGTHS {
             for content in CONTENTS {
-                let input = content.message(len, &mut self.random).bytes;
+                let input = content.message(len, &mut self.random);
                 self.make("another length", &input)?;
             }
         }
         Ok(())
     }
 
-    fn make(&mut self, what: &str, input: &[u8]) -> Result<(), Failure> {
-        self.made += 1;
+    fn make(&mut self, what: &str, input: &[u8]) -> Compared {
+        self.met.made += 1;
         same_bytes("output", listing(input).as_bytes(), &(self.list)(input)).map_err(|difference| {
             Failure { call: format!("{what}, input of {} bytes", input.len()), difference }
         })

@@ -15,22 +15,16 @@ pub enum Content {
 pub const CONTENTS: [Content; 5] =
     [Content::Zeros, Content::Ones, Content::TopBits, Content::Counting, Content::Random];
 
-pub struct Message {
-    pub content: Content,
-    pub bytes: Vec<u8>,
-}
-
 impl Content {
     /// A message of this kind.
-    pub fn message(self, len: usize, random: &mut Random) -> Message {
-        let bytes = match self {
+    pub fn message(self, len: usize, random: &mut Random) -> Vec<u8> {
+        match self {
             Content::Zeros => vec![0x00; len],
             Content::Ones => vec![0xff; len],
             Content::TopBits => vec![0x80; len],
             Content::Counting => (0..len).map(|i| i as u8).collect(),
             Content::Random => random.bytes(len),
-        };
-        Message { content: self, bytes }
+        }
     }
 }
 

@@ -1,21 +1,31 @@
 //! What the comparisons met, so that comparisons that meet nothing fail.
 
 use std::collections::BTreeMap;
+use std::fmt;
 
+/// How often each outcome came, and how many comparisons were made.
 #[derive(Default)]
-pub struct Met(BTreeMap<&'static str, u64>);
+pub struct Met {
+    pub made: u64,
+    outcomes: BTreeMap<String, u64>,
+}
 
 impl Met {
-    pub fn count(&mut self, what: &'static str) {
-        *self.0.entry(what).or_default() += 1;
+    pub fn count(&mut self, what: &str) {
+        *self.outcomes.entry(what.into()).or_default() += 1;
     }
 
-    /// Fails where one of these was met less often than it says.
-    pub fn demand(&self, least: &[(&'static str, u64)]) {
-        for (what, least) in least {
-            let met = self.0.get(what).copied().unwrap_or(0);
-            assert!(met >= *least, "{what} was met {met} times, and must be {least} times");
-        }
+    /// Fails where this was met less often than it must be.
+    pub fn demand(&self, what: &str, least: u64) {
+        let met = self.outcomes.get(what).copied().unwrap_or(0);
+        assert!(met >= least, "{what} was met {met} times, and must be {least} times");
+    }
+}
+
+impl fmt::Display for Met {
+    fn fmt(&self, f: &mut fmt::Formatter) -> fmt::Result {
+        write!(f, "{} comparisons, no difference", self.made)?;
+        self.outcomes.iter().try_for_each(|(what, times)| write!(f, "; {what}: {times}"))
     }
 }
 
@@ -28,12 +38,13 @@ mod tests {
         let mut met = Met::default();
         met.count("whole");
         met.count("whole");
-        met.demand(&[("whole", 2), ("fault", 0)]);
+        met.demand("whole", 2);
+        met.demand("fault", 0);
     }
 
     #[test]
     #[should_panic(expected = "fault was met 0 times")]
     fn what_was_not_met() {
-        Met::default().demand(&[("fault", 1)]);
+        Met::default().demand("fault", 1);
     }
 }

@@ -3,157 +3,181 @@
 mod damaged;
 mod foreign;
 mod heads;
-mod refused;
 mod shown;
 
 #[cfg(test)]
 mod mutants;
 
-use crate::difference::{Difference, Failure};
-use crate::inputs::{lend, Buffer};
-use crate::met::Met;
+use crate::call::Argument::{Number, Read};
+use crate::call::{Call, Length, Test, CALL};
+use crate::comparisons::Comparisons;
+use crate::difference::Compared;
+use crate::input::Input;
 use crate::random::Random;
-use crate::results::{number, stop_name};
+use crate::results::number;
+use crate::stops::{DEPTH, DEPTHS, LENGTHS};
+use crate::tables::{TABLE_LEN, WORDS};
+use crate::trees::ROOT_LEN;
 use crate::volumes::{equation_of, Volume};
-use cedunmi_sys::{Library, ProofCheck};
-use reference::proof::{self, Head};
+use reference::proof::{self, hash_for, proof_len, Head, HEAD};
+use reference::sha256::sha256;
+use reference::stop::Stop;
+use reference::table::{self, Layers};
+use reference::tree::{exactly, exclusive_or, symbol_at, ROOT, SYMBOL};
 
-const SEED: u64 = 6022;
+pub static PROOF_CHECK: Call = Call {
+    name: "proof_check",
+    sizes: &DEPTHS,
+    arguments: &[
+        Number("depth"),
+        Read("root", ROOT_LEN),
+        Read("table", TABLE_LEN),
+        Read("proof", Length::Within { least: HEAD, most: usize::MAX, step: 1 }),
+    ],
+    tests: &[DEPTH, LENGTHS, WORDS, HEADS, BODIES, HASHES, FAULT],
+    apart: &[(3, 7), (3, 8), (6, 7), (6, 8)],
+    good: |depth, random| {
+        let layer = random.below(depth);
+        of_fault(depth, layer, random).0
+    },
+    reference: |i| number(proof::check(i.number("depth"), &i["root"], &i["table"], &i["proof"])),
+    own: &[
+        heads::heads_before_bodies,
+        heads::kinds,
+        heads::bits,
+        damaged::hashes,
+        shown::committed_otherwise,
+        damaged::bytes,
+        damaged::root_bytes,
+        heads::values,
+        damaged::lengths_of_proofs,
+        damaged::swapped_symbols,
+        shown::other_depths,
+        shown::withheld_members,
+        shown::written_by_repair,
+        foreign::forged_members,
+        foreign::other_volumes,
+        foreign::random_proofs,
+        foreign::damage_for_right_trees,
+    ],
+    least: &[
+        ("end 0", 7000),
+        ("1", 500),
+        ("2", 2000),
+        ("3", 500),
+        ("6", 5000),
+        ("7", 10_000),
+        ("8", 5000),
+    ],
+    ..CALL
+};
 
-/// How often each result must be met.
-const LEAST: [(&str, u64); 7] = [
-    ("accepted", 7000),
-    ("1", 500),
-    ("2", 2000),
-    ("3", 500),
-    ("6", 5000),
-    ("7", 10_000),
-    ("8", 5000),
-];
+/// What the head names. Without a table, its kinds alone can be asked.
+const HEADS: Test = Test {
+    number: 6,
+    ask: |i| match (table(i), i["proof"].get(..HEAD)) {
+        (Some(table), Some(head)) => Head::read(&table, head).map(|_| ()),
+        (None, Some(head)) if [0, 4, 8].map(|at| head[at] >> 6) != [1, 2, 3] => Err(Stop::Head),
+        _ => Ok(()),
+    },
+    spoil: |i, random| i["proof"][random.below(HEAD / 2)] ^= 0x40,
+    own: &[],
+};
 
-/// Makes every comparison, and gives their number.
-pub fn compare(library: &Library) -> Result<u64, Failure> {
-    let mut comparisons = Comparisons::of(library, Random::new(SEED));
-    comparisons.depths()?;
-    comparisons.causes()?;
-    comparisons.kinds()?;
-    comparisons.bits()?;
-    comparisons.hashes()?;
-    comparisons.committed_otherwise()?;
-    comparisons.bytes()?;
-    comparisons.root_bytes()?;
-    comparisons.lengths()?;
-    comparisons.tables()?;
-    comparisons.values()?;
-    comparisons.heads_before_bodies()?;
-    comparisons.lengths_of_proofs()?;
-    comparisons.swapped_symbols()?;
-    comparisons.other_depths()?;
-    comparisons.withheld_members()?;
-    comparisons.written_by_repair()?;
-    comparisons.forged_members()?;
-    comparisons.other_volumes()?;
-    comparisons.random_proofs()?;
-    comparisons.damage_for_right_trees()?;
-    comparisons.met.demand(&LEAST);
-    Ok(comparisons.made)
+/// The length that the head demands, or, where it is out of form, some head.
+const BODIES: Test = Test {
+    number: 2,
+    ask: |i| match (named(i), i["proof"].len()) {
+        (Some((head, members)), len) => exactly(len, proof_len(head.layer, members)),
+        (None, len) => exactly(len % SYMBOL, HEAD),
+    },
+    spoil: |i, random| {
+        let len = i["proof"].len();
+        i["proof"].resize([len - 1, len + 1, len + SYMBOL][random.below(3)], 1);
+    },
+    own: &[],
+};
+
+/// Every hash leads to the root.
+const HASHES: Test = Test {
+    number: 7,
+    ask: |i| match cut(i).map(|(mut i, ..)| (PROOF_CHECK.reference)(&mut i)) {
+        Some(7) => Err(Stop::Hash),
+        _ => Ok(()),
+    },
+    spoil: |i, random| {
+        let at = HEAD + random.below(i["proof"].len() - HEAD);
+        i["proof"][at] ^= 4;
+    },
+    own: &[],
+};
+
+/// The exclusive-or of the given members has another hash than the withheld.
+const FAULT: Test = Test {
+    number: 8,
+    ask: |i| match cut(i) {
+        Some((i, head, members)) if fits(&i, head, members) => Err(Stop::NoFault),
+        _ => Ok(()),
+    },
+    spoil: |i, random| {
+        let (head, _) = named(i).expect("a head");
+        let words = table::write(&table(i).expect("a table"));
+        let sound = Volume::new(i.number("depth") as usize, &words, random);
+        *i = of(&sound, sound.proof(head));
+    },
+    own: &[],
+};
+
+/// The equations of the table, where it is one.
+fn table(input: &Input) -> Option<Layers> {
+    let table = &input["table"];
+    table::equations(input.size()? as u64, &table[..TABLE_LEN.cut(None, table.len())]).ok()
 }
 
-pub struct Comparisons {
-    proof_check: ProofCheck,
-    random: Random,
-    met: Met,
-    made: u64,
+/// The head and the number of members of its equation, where they are in form.
+fn named(input: &Input) -> Option<(Head, usize)> {
+    let table = table(input)?;
+    let head = Head::read(&table, input["proof"].get(..HEAD)?).ok()?;
+    Some((head, table[head.layer][head.equation].len()))
 }
 
-/// What a call is lent.
-#[derive(Clone)]
-pub struct Input {
-    pub depth: u64,
-    pub root: Vec<u8>,
-    pub table: Vec<u8>,
-    pub proof: Vec<u8>,
+/// The call with what is too long cut, and what its head names, where that is
+/// in form and nothing is too short.
+fn cut(input: &Input) -> Option<(Input, Head, usize)> {
+    let (head, members) = named(input)?;
+    let len = proof_len(head.layer, members);
+    let mut cut = input.cut(|_| true);
+    cut.set("depth", input.size()? as u64);
+    cut["proof"].truncate(len);
+    let whole = cut["proof"].len() == len && cut["root"].len() == ROOT;
+    whole.then_some((cut, head, members))
 }
 
-impl Input {
-    pub fn new(volume: &Volume, proof: Vec<u8>) -> Input {
-        let (root, table) = (volume.root.clone(), volume.table.clone());
-        Input { depth: volume.depth as u64, root, table, proof }
-    }
-
-    /// The proof of a fault that a miscoded tree shows in a layer, with its
-    /// tree and its head.
-    fn of_fault(depth: usize, layer: usize, random: &mut Random) -> (Input, Volume, Head) {
-        let (volume, parity) = Volume::with_fault(depth, layer, random);
-        let head = volume.withholding(layer, equation_of(layer, parity), random);
-        (Input::new(&volume, volume.proof(head)), volume, head)
-    }
-
-    pub fn buffers(&mut self) -> [&mut Vec<u8>; 3] {
-        [&mut self.root, &mut self.table, &mut self.proof]
-    }
+/// Whether the exclusive-or of the given members has the withheld one's hash.
+fn fits(input: &Input, head: Head, members: usize) -> bool {
+    let (given, height, others) = (&input["proof"][HEAD..], head.layer + 1, members - 1);
+    let sum = exclusive_or((0..others).map(|other| symbol_at(given, other * height)));
+    sha256(&sum) == hash_for(&input["root"], given, head.layer, head.withheld, others * height)
 }
 
-impl Comparisons {
-    pub fn of(library: &Library, random: Random) -> Comparisons {
-        Comparisons { proof_check: library.proof_check, random, met: Met::default(), made: 0 }
-    }
-
-    /// The result of a call, if it is the reference's.
-    pub fn make(&mut self, what: &str, input: &Input) -> Result<u64, Failure> {
-        self.made += 1;
-        let result = proof::check(input.depth, &input.root, &input.table, &input.proof);
-        self.met.count(result.map_or_else(stop_name, |()| "accepted"));
-        let Input { depth, root, table, proof } = input;
-        let buffers = [&root[..], table, proof];
-        lend_proof(&mut self.random, self.proof_check, *depth, buffers, number(result))
-            .map_err(|difference| Failure { call: input.description(what), difference })?;
-        Ok(number(result))
-    }
-
-    /// A call that must show a fault.
-    fn make_accepted(&mut self, what: &str, input: &Input) -> Result<(), Failure> {
-        let result = self.make(what, input)?;
-        assert_eq!(result, 0, "a proof that must pass: {}", input.description(what));
-        Ok(())
-    }
-
-    /// A call with the root and the table of a correctly coded tree: whatever
-    /// the proof, it must not pass.
-    fn make_for_right_tree(&mut self, what: &str, input: &Input) -> Result<(), Failure> {
-        let result = self.make(what, input)?;
-        assert_ne!(result, 0, "a proof that must not pass: {}", input.description(what));
-        Ok(())
-    }
+/// A proof for the root and the table of a tree.
+pub fn of(volume: &Volume, proof: Vec<u8>) -> Input {
+    let (root, table) = (volume.root.clone(), volume.table.clone());
+    Input::new(&PROOF_CHECK, [volume.depth as u64], [root, table, proof])
 }
 
-/// Lends a root, a table and a proof, and compares the result and every byte.
-pub fn lend_proof(
-    random: &mut Random,
-    proof_check: ProofCheck,
-    depth: u64,
-    [root, table, proof]: [&[u8]; 3],
-    expected: u64,
-) -> Result<(), Difference> {
-    let buffers =
-        [Buffer::kept("root", root), Buffer::kept("table", table), Buffer::kept("proof", proof)];
-    lend(random, buffers, expected, |[root, table, proof]| {
-        let (r, t, p) = (root.pointer(), table.pointer(), proof.pointer());
-        let (rn, tn, pn) = (root.len(), table.len(), proof.len());
-        // SAFETY: the pointers go to three arrays, each with a length that lies inside it.
-        unsafe { proof_check(depth, r, rn, t, tn, p, pn) }
-    })
+/// The proof of a fault that a miscoded tree shows in a layer, with its tree
+/// and its head.
+fn of_fault(depth: usize, layer: usize, random: &mut Random) -> (Input, Volume, Head) {
+    let (volume, parity) = Volume::with_fault(depth, layer, random);
+    let head = volume.withholding(layer, equation_of(layer, parity), random);
+    (of(&volume, volume.proof(head)), volume, head)
 }
 
-impl Input {
-    fn description(&self, what: &str) -> String {
-        format!(
-            "checking a proof, {what}: depth {}, root of {} bytes, table of {}, proof of {}, {:?}",
-            self.depth,
-            self.root.len(),
-            self.table.len(),
-            self.proof.len(),
-            &self.proof[..self.proof.len().min(proof::HEAD)],
-        )
-    }
+/// A call with the root and the table of a correctly coded tree: whatever the
+/// proof, it must not pass.
+fn make_for_right_tree(c: &mut Comparisons, what: &str, input: &Input) -> Compared {
+    let result = c.make(what, input)?;
+    assert_ne!(result, 0, "a proof that must not pass: {what}, {}", input.description());
+    Ok(())
 }

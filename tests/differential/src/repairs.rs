@@ -4,226 +4,148 @@
 mod losses;
 mod miscoded;
 mod promises;
-mod refused;
 
 #[cfg(test)]
 mod mutants;
 
-use crate::difference::{Difference, Failure};
-use crate::inputs::{lend, Buffer};
-use crate::met::Met;
-use crate::proofs::lend_proof;
+use crate::call::Argument::{Number, Read, Written};
+use crate::call::{Call, Length, CALL};
+use crate::comparisons::Comparisons;
+use crate::difference::Compared;
+use crate::input::Input;
+use crate::marks::MARKS;
+use crate::proofs::PROOF_CHECK;
 use crate::random::Random;
-use crate::results::{repaired, stop_name};
-use crate::volumes::Volume;
-use cedunmi_sys::{Library, ProofCheck, Repair};
-use reference::proof;
-use reference::repair::{output_len, repair, End, Repaired};
-use reference::stop::Stop;
+use crate::results::{ended, repaired};
+use crate::stops::{DEPTH, DEPTHS, LENGTHS};
+use crate::tables::lists::some_table;
+use crate::tables::{TABLE_LEN, WORDS};
+use crate::trees::{MARKS_LEN, ROOT_LEN, TREE_LEN};
+use crate::volumes::{some_parity, Volume};
+use reference::repair::{self, repair, End, Repaired};
 use reference::tree::{place, tree_symbols, SYMBOL};
 
-const SEED: u64 = 2997;
+pub static REPAIR: Call = Call {
+    name: "repair",
+    sizes: &DEPTHS,
+    arguments: &[
+        Number("depth"),
+        Read("root", ROOT_LEN),
+        Read("table", TABLE_LEN),
+        Written("tree", TREE_LEN),
+        Written("marks", MARKS_LEN),
+        Written("output", Length::Of(output_len)),
+    ],
+    tests: &[DEPTH, LENGTHS, WORDS, MARKS],
+    good: some_repair,
+    reference: |i| {
+        let depth = i.number("depth");
+        let [root, table, tree, marks, output] = i.all();
+        repaired(repair(depth, root, table, tree, marks, output))
+    },
+    also: |c, before, after, result| {
+        let result = ended(result);
+        result.into_iter().for_each(|ended| promises::hold(before, after, ended));
+        match result {
+            Some(Repaired { end: End::Fault(len), .. }) => check_proof(c, after, len),
+            _ => Ok(()),
+        }
+    },
+    own: &[
+        losses::known_stopping_sets,
+        losses::lost_parity,
+        miscoded::one_fault,
+        miscoded::some_faults,
+        losses::one_symbol,
+        losses::bad_copies,
+        losses::sets_of_one_layer,
+        losses::random_losses,
+        losses::lost_layers,
+        losses::found_stopping_sets,
+        miscoded::faults_in_some_layers,
+        miscoded::other_hashes,
+        losses::junk,
+    ],
+    // Whole, fault, unavailable; a lone fault in each layer; the numbers.
+    least: &[
+        ("end 0", 5000),
+        ("end 1", 5000),
+        ("end 2", 3000),
+        ("layer 0", 500),
+        ("layer 1", 300),
+        ("layer 2", 150),
+        ("layer 3", 100),
+        ("layer 4", 40),
+        ("1", 500),
+        ("2", 1000),
+        ("3", 1000),
+        ("4", 1000),
+    ],
+    ..CALL
+};
 
-/// How often each end, each layer of a lone fault and each number must be met.
-const LEAST: [(&str, u64); 12] = [
-    ("whole", 5000),
-    ("fault", 5000),
-    ("unavailable", 3000),
-    ("top", 500),
-    ("layer 1", 300),
-    ("layer 2", 150),
-    ("layer 3", 100),
-    ("layer 4", 40),
-    ("1", 500),
-    ("2", 1000),
-    ("3", 1000),
-    ("4", 1000),
-];
-
-/// Makes every comparison, and gives their number.
-pub fn compare(library: &Library) -> Result<u64, Failure> {
-    let mut comparisons = Comparisons::of(library, Random::new(SEED));
-    comparisons.depths()?;
-    comparisons.causes()?;
-    comparisons.bad_marks()?;
-    comparisons.known_stopping_sets()?;
-    comparisons.lost_parity()?;
-    comparisons.one_fault()?;
-    comparisons.some_faults()?;
-    comparisons.every_mark()?;
-    comparisons.one_symbol()?;
-    comparisons.bad_copies()?;
-    comparisons.sets_of_one_layer()?;
-    comparisons.random_losses()?;
-    comparisons.lost_layers()?;
-    comparisons.found_stopping_sets()?;
-    comparisons.faults_in_some_layers()?;
-    comparisons.other_hashes()?;
-    comparisons.junk()?;
-    comparisons.lengths()?;
-    comparisons.tables()?;
-    comparisons.met.demand(&LEAST);
-    Ok(comparisons.made)
+/// The bytes of the output buffer of a depth, of a depth 0 too.
+fn output_len(depth: usize) -> usize {
+    repair::output_len(depth.max(1))
 }
 
-pub struct Comparisons {
-    repair: Repair,
-    proof_check: ProofCheck,
-    random: Random,
-    met: Met,
-    made: u64,
+/// A tree with every symbol held. The output buffer holds random bytes.
+pub fn of(volume: &Volume, random: &mut Random) -> Input {
+    let Volume { depth, table, tree, root, .. } = volume.clone();
+    let (marks, output) = (vec![1; tree_symbols(depth)], random.bytes(output_len(depth)));
+    Input::new(&REPAIR, [depth as u64], [root, table, tree, marks, output])
 }
 
-/// What a call is lent.
-#[derive(Clone)]
-pub struct Input {
-    pub depth: u64,
-    pub root: Vec<u8>,
-    pub table: Vec<u8>,
-    pub tree: Vec<u8>,
-    pub marks: Vec<u8>,
-    pub output: Vec<u8>,
+/// A tree of which few symbols are absent, and perhaps one is miscoded.
+fn some_repair(depth: usize, random: &mut Random) -> Input {
+    let words = some_table(depth, random);
+    let layer = random.below(depth);
+    let fault = [(layer, some_parity(layer, random))];
+    let faults = random.below(3) / 2;
+    let volume = Volume::miscoded(depth, &words, &fault[..faults], random);
+    let mut input = of(&volume, random);
+    lose_some(&mut input, &volume.all_symbols(), 10, random);
+    input
 }
 
-impl Input {
-    /// A tree with every symbol held. The output buffer holds random bytes.
-    pub fn new(volume: &Volume, random: &mut Random) -> Input {
-        Input {
-            depth: volume.depth as u64,
-            root: volume.root.clone(),
-            table: volume.table.clone(),
-            tree: volume.tree.clone(),
-            marks: vec![1; tree_symbols(volume.depth)],
-            output: random.bytes(output_len(volume.depth)),
-        }
-    }
+/// The fault proof that a repair wrote passes, by the library and by the
+/// reference.
+fn check_proof(c: &mut Comparisons, after: &Input, len: usize) -> Compared {
+    let proof = after["output"][..len].to_vec();
+    let buffers = [after["root"].clone(), after["table"].clone(), proof];
+    let input = Input::new(&PROOF_CHECK, [after.number("depth")], buffers);
+    let random = Random::new(c.random.next());
+    Comparisons::of(&PROOF_CHECK, &c.library, random).make_done("a repair's proof", &input)
+}
 
-    pub fn buffers(&mut self) -> [&mut Vec<u8>; 5] {
-        [&mut self.root, &mut self.table, &mut self.tree, &mut self.marks, &mut self.output]
-    }
-
-    /// Takes a symbol away, and leaves what stood there, or nothing, or other
-    /// bytes.
-    fn lose(&mut self, layer: usize, symbol: usize, random: &mut Random) {
-        let place = place(layer, symbol);
-        self.marks[place] = 0;
-        let bytes = &mut self.tree[SYMBOL * place..SYMBOL * (place + 1)];
-        match random.below(3) {
-            0 => {}
-            1 => bytes.fill(0),
-            _ => bytes.copy_from_slice(&random.bytes(SYMBOL)),
-        }
-    }
-
-    /// Takes away some symbols of those given, `parts` of 256.
-    fn lose_some(&mut self, symbols: &[(usize, usize)], parts: usize, random: &mut Random) {
-        for &(layer, symbol) in symbols {
-            if random.below(256) < parts {
-                self.lose(layer, symbol, random);
-            }
-        }
-    }
-
-    /// Makes a bad copy of a symbol: one bit of it, or all of it, is another.
-    fn spoil(&mut self, layer: usize, symbol: usize, random: &mut Random) {
-        let start = SYMBOL * place(layer, symbol);
-        match random.below(4) {
-            0 => self.tree[start..start + SYMBOL].copy_from_slice(&random.bytes(SYMBOL)),
-            _ => self.tree[start + random.below(SYMBOL)] ^= 1 << random.below(8),
-        }
+/// Takes a symbol away, and leaves what stood there, or nothing, or other
+/// bytes.
+fn lose(input: &mut Input, layer: usize, symbol: usize, random: &mut Random) {
+    let place = place(layer, symbol);
+    input["marks"][place] = 0;
+    let bytes = &mut input["tree"][SYMBOL * place..SYMBOL * (place + 1)];
+    match random.below(3) {
+        0 => {}
+        1 => bytes.fill(0),
+        _ => bytes.copy_from_slice(&random.bytes(SYMBOL)),
     }
 }
 
-impl Comparisons {
-    pub fn of(library: &Library, random: Random) -> Comparisons {
-        Comparisons {
-            repair: library.repair,
-            proof_check: library.proof_check,
-            random,
-            met: Met::default(),
-            made: 0,
+/// Takes away some symbols of those given, `parts` of 256.
+fn lose_some(input: &mut Input, symbols: &[(usize, usize)], parts: usize, random: &mut Random) {
+    for &(layer, symbol) in symbols {
+        if random.below(256) < parts {
+            lose(input, layer, symbol, random);
         }
-    }
-
-    pub fn make(&mut self, what: &str, input: &Input) -> Result<(), Failure> {
-        self.result_of(what, input).map(|_| ())
-    }
-
-    /// The result of a call, if it is the reference's.
-    fn result_of(&mut self, what: &str, input: &Input) -> Result<Result<Repaired, Stop>, Failure> {
-        self.made += 1;
-        let mut after = input.clone();
-        let [_, _, tree, marks, output] = after.buffers();
-        let result = repair(input.depth, &input.root, &input.table, tree, marks, output);
-        self.met.count(name(result));
-        self.call(input, &after, repaired(result))
-            .and_then(|()| self.check_proof(&after, result))
-            .map_err(|difference| Failure { call: input.description(what), difference })?;
-        if let Ok(ended) = result {
-            promises::hold(input, &after, ended);
-        }
-        Ok(result)
-    }
-
-    fn call(&mut self, input: &Input, after: &Input, expected: u64) -> Result<(), Difference> {
-        let buffers = [
-            Buffer::kept("root", &input.root),
-            Buffer::kept("table", &input.table),
-            Buffer::changed("tree", &input.tree, &after.tree),
-            Buffer::changed("marks", &input.marks, &after.marks),
-            Buffer::changed("output", &input.output, &after.output),
-        ];
-        let repair = self.repair;
-        lend(&mut self.random, buffers, expected, |[root, table, tree, marks, output]| {
-            let (r, t, s) = (root.pointer(), table.pointer(), tree.pointer());
-            let (m, o) = (marks.pointer(), output.pointer());
-            let lens = [root.len(), table.len(), tree.len(), marks.len(), output.len()];
-            let [rn, tn, sn, mn, on] = lens;
-            // SAFETY: the pointers go to five arrays, each with a length that lies inside it.
-            unsafe { repair(input.depth, r, rn, t, tn, s, sn, m, mn, o, on) }
-        })
-    }
-
-    /// The fault proof that a repair wrote passes, by the library and by the
-    /// reference.
-    fn check_proof(
-        &mut self,
-        after: &Input,
-        result: Result<Repaired, Stop>,
-    ) -> Result<(), Difference> {
-        if let Ok(Repaired { end: End::Fault(len), .. }) = result {
-            let Input { depth, root, table, output, .. } = after;
-            let proof = &output[..len];
-            assert_eq!(proof::check(*depth, root, table, proof), Ok(()));
-            lend_proof(&mut self.random, self.proof_check, *depth, [root, table, proof], 0)?;
-        }
-        Ok(())
     }
 }
 
-fn name(result: Result<Repaired, Stop>) -> &'static str {
-    match result {
-        Ok(Repaired { end, .. }) => match end {
-            End::Whole => "whole",
-            End::Fault(_) => "fault",
-            End::Unavailable(_) => "unavailable",
-            End::Twins => "twins",
-        },
-        Err(stop) => stop_name(stop),
-    }
-}
-
-impl Input {
-    fn description(&self, what: &str) -> String {
-        format!(
-            "repairing, {what}: depth {}, root of {} bytes, table of {}, tree of {}, {} marks, \
-             output of {}",
-            self.depth,
-            self.root.len(),
-            self.table.len(),
-            self.tree.len(),
-            self.marks.len(),
-            self.output.len(),
-        )
+/// Makes a bad copy of a symbol: one bit of it, or all of it, is another.
+fn spoil(input: &mut Input, layer: usize, symbol: usize, random: &mut Random) {
+    let start = SYMBOL * place(layer, symbol);
+    let bytes = &mut input["tree"][start..start + SYMBOL];
+    match random.below(4) {
+        0 => bytes.copy_from_slice(&random.bytes(SYMBOL)),
+        _ => bytes[random.below(SYMBOL)] ^= 1 << random.below(8),
     }
 }

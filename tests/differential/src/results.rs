@@ -21,12 +21,6 @@ pub fn number(result: Result<(), Stop>) -> u64 {
     number + 256 * value as u64
 }
 
-/// 01's number of a stop, as a word.
-pub fn stop_name(stop: Stop) -> &'static str {
-    let names = ["0", "1", "2", "3", "4", "5", "6", "7", "8", "9"];
-    names[number(Err(stop)) as usize % 256]
-}
-
 /// The end of a repair above the lowest eight bits, and from bit 32 on the
 /// number of symbols stored, with the length of the proof, or the layer, from
 /// bit 48 on.
@@ -42,6 +36,27 @@ pub fn repaired(result: Result<Repaired, Stop>) -> u64 {
         End::Twins => (3, 0),
     };
     end << 8 | (stored as u64) << 32 | (more as u64) << 48
+}
+
+/// How a repair ended that was not refused.
+pub fn ended(result: u64) -> Option<Repaired> {
+    let more = (result >> 48) as usize;
+    let end = match result & 0xffff_ffff {
+        0x000 => End::Whole,
+        0x100 => End::Fault(more),
+        0x200 => End::Unavailable(more),
+        0x300 => End::Twins,
+        _ => return None,
+    };
+    Some(Repaired { end, stored: (result >> 32 & 0xffff) as usize })
+}
+
+/// A result without its values: its number, or, where that is 0, its end.
+pub fn outcome(result: u64) -> String {
+    match result % 256 {
+        0 => format!("end {}", result as u32 >> 8),
+        number => number.to_string(),
+    }
 }
 
 pub fn same(expected: u64, found: u64) -> Result<(), Difference> {

@@ -1,218 +1,197 @@
-//! `cmt_table_check` and `cmt_house_table` beside the reference.
+//! `cmt_table_check` and `cmt_house_table` beside the reference, and the tables
+//! that other calls read.
 
+mod damaged;
 pub mod lists;
 
 #[cfg(test)]
-mod mutants;
+pub mod mutants;
 
-use crate::difference::Failure;
-use crate::lent::{Lent, ALIGNMENTS};
+use damaged::damaged_tables;
+
+use crate::call::Argument::{Number, Read, Written};
+use crate::call::{Call, Length, Test, CALL};
+use crate::comparisons::{large, Comparisons};
+use crate::difference::Compared;
+use crate::input::Input;
 use crate::random::Random;
-use crate::results::{number, same};
-use cedunmi_sys::{HouseTable, Library, TableCheck};
-use lists::{alterations, random_damage, random_table, table_of, WORD_KINDS};
-use reference::table::{self, MAX_BYTES, MAX_DEPTH};
+use crate::results::number;
+use crate::stops::{DEPTH, DEPTHS, LENGTHS};
+use lists::{alterations, random_damage, random_table, some_table, table_of, WORD_KINDS};
+use reference::stop::Stop;
+use reference::table::{self, check_words, house, layers_of, to_bytes, MAX_BYTES};
 
-const DONE: u64 = 0;
-const WRONG_DEPTH: u64 = 1;
-const WRONG_LENGTH: u64 = 2;
+pub static TABLE_CHECK: Call = Call {
+    name: "table_check",
+    sizes: &DEPTHS,
+    arguments: &[Number("depth"), Read("table", TABLE_LEN)],
+    tests: &[DEPTH, LENGTHS, WORDS],
+    good: |depth, random| listed(depth as u64, &some_table(depth, random)),
+    reference: |i| number(table::check_bytes(i.number("depth"), &i["table"])),
+    own: &[depths, every_word, more_words, random_tables, random_words, byte_lengths],
+    least: &[("end 0", 15_000), ("1", 2000), ("2", 1000), ("3", 100_000)],
+    ..CALL
+};
 
-/// The depths at which every list is read, those that there are not too.
-const DEPTHS: std::ops::RangeInclusive<u64> = 0..=7;
+pub static HOUSE_TABLE: Call = Call {
+    name: "house_table",
+    sizes: &DEPTHS,
+    arguments: &[Number("depth"), Written("table", Length::Of(house_len))],
+    tests: &[DEPTH, LENGTHS],
+    good: |depth, random| to_fill(depth as u64, house_len(depth), random),
+    reference: |i| match (layers_of(i.number("depth")), &mut i["table"]) {
+        (Err(stop), _) => number(Err(stop)),
+        (Ok(depth), table) if table.len() != house_len(depth) => number(Err(Stop::Length)),
+        (Ok(depth), table) => {
+            *table = to_bytes(&house(depth));
+            0
+        }
+    },
+    own: &[house_tables],
+    ..CALL
+};
 
-/// Depths that are one of 1 to 5 only where bits are lost.
-const LARGE_DEPTHS: [u64; 5] = [1 << 8 | 1, 1 << 16 | 5, 1 << 32 | 1, 1 << 63 | 3, u64::MAX];
+/// The length of a table that comes as bytes.
+pub const TABLE_LEN: Length = Length::Within { least: 0, most: MAX_BYTES, step: 4 };
 
-const SEED: u64 = 2718;
+/// The rules of a table, where its length is wrong of its whole words.
+pub const WORDS: Test = Test {
+    number: 3,
+    ask: |i| i.size().map_or(Ok(()), |depth| check_words(depth as u64, &words(&i["table"]))),
+    spoil: |i, random| {
+        let words = i["table"].len() / 4;
+        i["table"][4 * random.below(words)] ^= 0xc0;
+    },
+    own: &[damaged_tables],
+};
 
-/// Makes every comparison, and gives their number.
-pub fn compare(library: &Library) -> Result<u64, Failure> {
-    let mut comparisons = Comparisons::of(library, Random::new(SEED));
-    comparisons.depths()?;
-    comparisons.every_word()?;
-    comparisons.more_words()?;
-    comparisons.random_tables()?;
-    comparisons.random_words()?;
-    comparisons.byte_lengths()?;
-    comparisons.house_tables()?;
-    Ok(comparisons.made)
+/// The whole words of a table.
+fn words(table: &[u8]) -> Vec<u32> {
+    table.chunks_exact(4).map(|b| u32::from_be_bytes([b[0], b[1], b[2], b[3]])).collect()
 }
 
-pub struct Comparisons {
-    table_check: TableCheck,
-    house_table: HouseTable,
-    random: Random,
-    made: u64,
+pub fn house_len(depth: usize) -> usize {
+    4 * house(depth).len()
 }
 
-impl Comparisons {
-    pub fn of(library: &Library, random: Random) -> Comparisons {
-        Comparisons {
-            table_check: library.table_check,
-            house_table: library.house_table,
-            random,
-            made: 0,
-        }
-    }
+fn listed(depth: u64, words: &[u32]) -> Input {
+    Input::new(&TABLE_CHECK, [depth], [to_bytes(words)])
+}
 
-    /// House tables and random ones, each read for every depth.
-    fn depths(&mut self) -> Result<(), Failure> {
-        for made_for in 0..=7 {
-            let house = table::house(made_for);
-            let random = random_table(made_for, &mut self.random);
-            for depth in DEPTHS.chain(LARGE_DEPTHS) {
-                self.check("house table", depth, &house)?;
-                self.check("random table", depth, &random)?;
+/// A buffer for a house table.
+pub fn to_fill(depth: u64, len: usize, random: &mut Random) -> Input {
+    Input::new(&HOUSE_TABLE, [depth], [random.bytes(len)])
+}
+
+/// Depths that there are, depths beside them, and some that are one of them
+/// only where bits are lost.
+fn asked() -> impl Iterator<Item = u64> {
+    (0..=7).chain(large(1)).chain(large(5)).chain([u64::MAX])
+}
+
+/// House tables and random ones, each read for every depth.
+fn depths(c: &mut Comparisons) -> Compared {
+    for made_for in 0..=7 {
+        for words in [house(made_for), random_table(made_for, &mut c.random)] {
+            for depth in asked() {
+                c.make("a table of some depth", &listed(depth, &words))?;
             }
         }
-        Ok(())
     }
+    Ok(())
+}
 
-    /// A house table and a random one of each depth: each word altered in each
-    /// way, and the list cut at each length.
-    fn every_word(&mut self) -> Result<(), Failure> {
-        for depth in 1..=MAX_DEPTH {
-            for words in
-                [table::house(depth as usize), random_table(depth as usize, &mut self.random)]
-            {
-                for at in 0..words.len() {
-                    for (damage, altered) in alterations(&words, at) {
-                        self.check(damage, depth, &altered)?;
-                    }
-                    self.check("cut", depth, &words[..at])?;
+/// A house table and a random one of each depth: each word altered in each
+/// way, and the list cut at each length.
+fn every_word(c: &mut Comparisons) -> Compared {
+    for depth in DEPTHS {
+        for words in [house(depth), random_table(depth, &mut c.random)] {
+            for at in 0..words.len() {
+                for (damage, altered) in alterations(&words, at) {
+                    c.make(damage, &listed(depth as u64, &altered))?;
+                }
+                c.make("cut", &listed(depth as u64, &words[..at]))?;
+            }
+        }
+    }
+    Ok(())
+}
+
+/// Words after the end word, and equations of nine members.
+fn more_words(c: &mut Comparisons) -> Compared {
+    for depth in DEPTHS {
+        let whole = house(depth);
+        for kind in WORD_KINDS {
+            for value in [0, 1, whole.len() - 1, whole.len(), (1 << 30) - 1] {
+                let mut words = whole.clone();
+                for _ in 0..3 {
+                    words.push(table::word(kind, value));
+                    c.make("words after the end word", &listed(depth as u64, &words))?;
                 }
             }
         }
-        Ok(())
+        for size in 1..=10 {
+            c.make("equations of one size", &listed(depth as u64, &table_of(depth, size)))?;
+        }
     }
+    Ok(())
+}
 
-    /// Words after the end word, and equations of nine members.
-    fn more_words(&mut self) -> Result<(), Failure> {
-        for depth in 1..=MAX_DEPTH {
-            let whole = table::house(depth as usize);
-            for kind in WORD_KINDS {
-                for value in [0, 1, whole.len() - 1, whole.len(), (1 << 30) - 1] {
-                    let mut words = whole.clone();
-                    for _ in 0..3 {
-                        words.push(table::word(kind, value));
-                        self.check("words after the end word", depth, &words)?;
-                    }
-                }
-            }
-            for size in 1..=10 {
-                let words = table_of(depth as usize, size);
-                self.check("equations of one size", depth, &words)?;
+/// Random tables, whole and with some words damaged.
+fn random_tables(c: &mut Comparisons) -> Compared {
+    for depth in DEPTHS {
+        for _ in 0..300 {
+            let words = random_table(depth, &mut c.random);
+            c.make("a random table", &listed(depth as u64, &words))?;
+            for damages in 1..=3 {
+                let damaged = random_damage(&words, damages, &mut c.random);
+                c.make("random damage", &listed(depth as u64, &damaged))?;
             }
         }
-        Ok(())
     }
+    Ok(())
+}
 
-    /// Random tables, whole and with some words damaged.
-    fn random_tables(&mut self) -> Result<(), Failure> {
-        for depth in 1..=MAX_DEPTH {
-            for _ in 0..300 {
-                let words = random_table(depth as usize, &mut self.random);
-                self.check("random table", depth, &words)?;
-                for damages in 1..=3 {
-                    let damaged = random_damage(&words, damages, &mut self.random);
-                    self.check("random damage", depth, &damaged)?;
-                }
+/// Lists that are no tables at all.
+fn random_words(c: &mut Comparisons) -> Compared {
+    for depth in asked() {
+        for len in [0, 1, 2, 3, 61, 62, 4096] {
+            let random = c.random.bytes(4 * len);
+            for bytes in [random, vec![0; 4 * len], vec![0xff; 4 * len]] {
+                c.make("random words", &Input::new(&TABLE_CHECK, [depth], [bytes]))?;
             }
         }
-        Ok(())
     }
+    Ok(())
+}
 
-    /// Lists that are no tables at all.
-    fn random_words(&mut self) -> Result<(), Failure> {
-        for depth in DEPTHS {
-            for len in [0, 1, 2, 3, 61, 62, 4096] {
-                let bytes = self.random.bytes(4 * len);
-                self.check_bytes("random words", depth, &bytes)?;
-                self.check_bytes("zeros", depth, &vec![0; 4 * len])?;
-                self.check_bytes("ones", depth, &vec![0xff; 4 * len])?;
+/// Lengths that are no multiple of 4, or over the limit, or just not.
+fn byte_lengths(c: &mut Comparisons) -> Compared {
+    for depth in asked() {
+        for made_for in 1..=7 {
+            let len = house_len(made_for);
+            for other in (len - 9..len + 10).chain(MAX_BYTES - 9..MAX_BYTES + 10) {
+                let mut input = listed(depth, &house(made_for));
+                input["table"].resize(other, 0);
+                c.make("a length", &input)?;
             }
         }
-        Ok(())
-    }
-
-    /// Lengths that are no multiple of 4, or over the limit, or just not.
-    fn byte_lengths(&mut self) -> Result<(), Failure> {
-        for depth in DEPTHS.chain(LARGE_DEPTHS) {
-            for made_for in 1..=7 {
-                let bytes = table::to_bytes(&table::house(made_for));
-                for cut in 1..=9 {
-                    self.check_bytes("cut bytes", depth, &bytes[..bytes.len() - cut])?;
-                }
-                for more in 1..=9 {
-                    let longer = [&bytes[..], &vec![0; more]].concat();
-                    self.check_bytes("more bytes", depth, &longer)?;
-                }
-                for len in MAX_BYTES - 9..MAX_BYTES + 10 {
-                    let mut filled = bytes.clone();
-                    filled.resize(len, 0);
-                    self.check_bytes("bytes near the limit", depth, &filled)?;
-                }
-            }
-            for len in [1, 2, 3, 5, 17_000, 20_000, 65_536 + 244] {
-                let bytes = self.random.bytes(len);
-                self.check_bytes("random bytes", depth, &bytes)?;
-            }
+        for len in [1, 2, 3, 5, 17_000, 20_000, 65_536 + 244] {
+            let bytes = c.random.bytes(len);
+            c.make("random bytes", &Input::new(&TABLE_CHECK, [depth], [bytes]))?;
         }
-        Ok(())
     }
+    Ok(())
+}
 
-    /// Every depth, into buffers of the right length and of others.
-    fn house_tables(&mut self) -> Result<(), Failure> {
-        for depth in DEPTHS.chain(LARGE_DEPTHS) {
-            let mut lengths: Vec<usize> = vec![0, 1, 4, 60, 16_384];
-            for made_for in 0..=7 {
-                let len = 4 * table::house(made_for).len();
-                lengths.extend([len - 4, len - 1, len, len + 1, len + 4]);
-            }
-            for len in lengths {
-                self.house(depth, len)?;
-            }
+/// Every depth, into buffers of the right length and of others.
+fn house_tables(c: &mut Comparisons) -> Compared {
+    for depth in asked() {
+        let near = |made_for| [-4, -1, 0, 1, 4].map(|more| house_len(made_for) as isize + more);
+        for len in (0..=7).flat_map(near).chain([0, 1, 4, 60, 16_384]) {
+            let input = to_fill(depth, len as usize, &mut c.random);
+            c.make("a length", &input)?;
         }
-        Ok(())
     }
-
-    fn check(&mut self, list: &str, depth: u64, words: &[u32]) -> Result<(), Failure> {
-        self.check_bytes(list, depth, &table::to_bytes(words))
-    }
-
-    pub fn check_bytes(&mut self, list: &str, depth: u64, bytes: &[u8]) -> Result<(), Failure> {
-        self.made += 1;
-        let alignment = self.random.below(ALIGNMENTS);
-        let call = || format!("{list} of {} bytes, depth {depth}, at {alignment}", bytes.len());
-        let expected = number(table::check_bytes(depth, bytes));
-        let mut lent = Lent::new("table", bytes, alignment);
-        // SAFETY: the pointer goes to an array, with a length that lies inside it.
-        let found = unsafe { (self.table_check)(depth, lent.pointer(), lent.len()) };
-        same(expected, found)
-            .and_then(|()| lent.check(bytes))
-            .map_err(|difference| Failure { call: call(), difference })
-    }
-
-    pub fn house(&mut self, depth: u64, len: usize) -> Result<(), Failure> {
-        self.made += 1;
-        let alignment = self.random.below(ALIGNMENTS);
-        let before = self.random.bytes(len);
-        let (expected, after) = if !(1..=MAX_DEPTH).contains(&depth) {
-            (WRONG_DEPTH, before.clone())
-        } else {
-            let bytes = table::to_bytes(&table::house(depth as usize));
-            if bytes.len() == len {
-                (DONE, bytes)
-            } else {
-                (WRONG_LENGTH, before.clone())
-            }
-        };
-        let mut lent = Lent::new("table", &before, alignment);
-        // SAFETY: the pointer goes to an array, with a length that lies inside it.
-        let found = unsafe { (self.house_table)(depth, lent.pointer(), lent.len()) };
-        same(expected, found).and_then(|()| lent.check(&after)).map_err(|difference| Failure {
-            call: format!("house table of depth {depth}, {len} bytes at {alignment}"),
-            difference,
-        })
-    }
+    Ok(())
 }

@@ -3,13 +3,20 @@
 pub mod reading;
 pub mod writing;
 
-#[cfg(test)]
-mod mutants;
+use crate::call::Length;
+use reference::tree::{self, tree_symbols, ROOT, SYMBOL};
 
-use crate::difference::Failure;
-use cedunmi_sys::Library;
+/// The lengths of a tree's buffers.
+pub const BLOCK_LEN: Length = Length::Of(block_len);
+pub const TREE_LEN: Length = Length::Of(tree_len);
+pub const MARKS_LEN: Length = Length::Of(tree_symbols);
+pub const ROOT_LEN: Length = Length::Of(|_| ROOT);
 
-/// Makes every comparison, and gives their number.
-pub fn compare(library: &Library) -> Result<u64, Failure> {
-    Ok(writing::compare(library)? + reading::compare(library)?)
+/// The bytes of the block of a depth, of a depth 0 too.
+pub fn block_len(depth: usize) -> usize {
+    tree::block_len(depth.max(1))
+}
+
+pub fn tree_len(depth: usize) -> usize {
+    SYMBOL * tree_symbols(depth)
 }

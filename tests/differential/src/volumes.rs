@@ -1,13 +1,13 @@
 //! Coded trees with their tables: such as are correctly coded, and such as are
 //! not though their hashes fit.
 
-use crate::inputs::block_len;
 use crate::random::Random;
-use crate::tables::lists::random_table;
+use crate::tables::lists::some_table;
 use reference::proof::{self, Head};
 use reference::sha256::sha256;
-use reference::table::{self, data_symbols, house, to_bytes, Layers};
-use reference::tree::{code_tree, committed, place, symbol_at, symbols, Committed, HASH, SYMBOL};
+use reference::table::{self, data_symbols, to_bytes, Layers};
+use reference::tree::{block_len, code_tree, committed, place, symbol_at, symbols};
+use reference::tree::{Committed, HASH, SYMBOL};
 
 #[derive(Clone)]
 pub struct Volume {
@@ -26,14 +26,6 @@ pub fn some_depth(random: &mut Random) -> usize {
         25..=28 => 3,
         29..=30 => 4,
         _ => 5,
-    }
-}
-
-/// The house table or a random one.
-pub fn some_table(depth: usize, random: &mut Random) -> Vec<u32> {
-    match random.below(2) {
-        0 => house(depth),
-        _ => random_table(depth, random),
     }
 }
 

@@ -2,25 +2,57 @@
 
 mod repairs;
 mod samples;
-mod sha256;
 mod tables;
 mod trees;
 
+use crate::edits;
 use crate::recipe::Recipe;
-use cedunmi_sys::Library;
-use differential::difference::Failure;
+use differential::call::Call;
+use differential::comparisons::Comparisons;
+use differential::difference::Compared;
+use differential::input::Input;
+use differential::library::Library;
+use differential::messages::LONGEST;
+use differential::sha256::{DIGEST, SHA256};
 
-/// Makes a call that a recipe describes, and compares it.
-pub type Call = fn(&Library, &mut Recipe) -> Result<(), Failure>;
+pub struct Target {
+    pub call: &'static Call,
+    /// What the call is lent, before the changes that end the recipe.
+    input: fn(&mut Recipe) -> Input,
+}
 
-pub const ALL: &[(&str, Call)] = &[
-    ("sha256", sha256::sha256),
-    ("table_check", tables::table_check),
-    ("house_table", tables::house_table),
-    ("tree_write", trees::tree_write),
-    ("block_read", trees::block_read),
-    ("sample_take", samples::sample_take),
-    ("sample_check", samples::sample_check),
-    ("proof_check", repairs::proof_check),
-    ("repair", repairs::repair),
+pub static TARGETS: &[&Target] = &[
+    &Target { call: &SHA256, input: sha256 },
+    &tables::TABLE_CHECK,
+    &tables::HOUSE_TABLE,
+    &trees::TREE_WRITE,
+    &trees::BLOCK_READ,
+    &samples::SAMPLE_TAKE,
+    &samples::SAMPLE_CHECK,
+    &repairs::PROOF_CHECK,
+    &repairs::REPAIR,
 ];
+
+impl Target {
+    /// Makes the call that a recipe describes, and compares it.
+    pub fn make(&self, library: &Library, recipe: &mut Recipe) -> Compared {
+        let mut comparisons = Comparisons::of(self.call, library, recipe.random());
+        let mut input = (self.input)(recipe);
+        edits::apply(recipe.rest(), &mut input.buffers);
+        comparisons.make("fuzzed", &input).map(|_| ())
+    }
+}
+
+/// A message of the recipe's own bytes, over and over, or of a length at the
+/// limit.
+fn sha256(recipe: &mut Recipe) -> Input {
+    let digest = vec![0xaa; recipe.asked(DIGEST).min(4096) as usize];
+    let times = recipe.byte();
+    let mut message = recipe.rest().repeat(1 + usize::from(times) % 16);
+    match times {
+        254 => message.resize(LONGEST, 0),
+        255 => message.resize(LONGEST + 1, 0),
+        _ => {}
+    }
+    Input::new(&SHA256, [], [message, digest])
+}

@@ -9,10 +9,11 @@ const EDIT: usize = 6;
 const LONGEST: usize = 1 << 18;
 
 /// Makes the changes that the bytes describe.
-pub fn apply<const N: usize>(edits: &[u8], buffers: [&mut Vec<u8>; N]) {
+pub fn apply(edits: &[u8], buffers: &mut [Vec<u8>]) {
     for edit in edits.chunks_exact(EDIT) {
         let at = u32::from_be_bytes([0, edit[2], edit[3], edit[4]]) as usize;
-        change(buffers[usize::from(edit[1]) % N], edit[0], at, edit[5]);
+        let buffer = usize::from(edit[1]) % buffers.len();
+        change(&mut buffers[buffer], edit[0], at, edit[5]);
     }
 }
 

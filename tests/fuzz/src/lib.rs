@@ -9,7 +9,8 @@ mod recipe;
 #[cfg(test)]
 mod tests;
 
-use cedunmi_sys::CEDUNMI;
+use calls::TARGETS;
+use differential::library::Library;
 use recipe::Recipe;
 use std::ffi::CStr;
 use std::os::raw::{c_char, c_int};
@@ -19,8 +20,10 @@ use std::sync::atomic::{AtomicUsize, Ordering};
 
 const OPTION: &str = "--call=";
 
-/// The call that this process fuzzes: its index in `calls::ALL`.
+/// The call that this process fuzzes: its index in `TARGETS`.
 static CALL: AtomicUsize = AtomicUsize::new(0);
+
+thread_local!(static LIBRARY: Library = Library::linked());
 
 /// Reads the option that names the call.
 ///
@@ -34,10 +37,10 @@ pub unsafe extern "C" fn LLVMFuzzerInitialize(
     let words = slice::from_raw_parts(*arguments, *count as usize);
     let named =
         words.iter().find_map(|&word| CStr::from_ptr(word).to_str().ok()?.strip_prefix(OPTION));
-    match calls::ALL.iter().position(|(name, _)| Some(*name) == named) {
+    match TARGETS.iter().position(|target| Some(target.call.name) == named) {
         Some(index) => CALL.store(index, Ordering::Relaxed),
         None => {
-            let names: Vec<&str> = calls::ALL.iter().map(|(name, _)| *name).collect();
+            let names: Vec<&str> = TARGETS.iter().map(|target| target.call.name).collect();
             eprintln!("fuzz: {OPTION} must be one of {}", names.join(" "));
             exit(2);
         }
@@ -52,9 +55,10 @@ pub unsafe extern "C" fn LLVMFuzzerInitialize(
 #[no_mangle]
 pub unsafe extern "C" fn LLVMFuzzerTestOneInput(bytes: *const u8, len: usize) -> c_int {
     let bytes = if len == 0 { &[] } else { slice::from_raw_parts(bytes, len) };
-    let (name, call) = calls::ALL[CALL.load(Ordering::Relaxed)];
-    if let Err(failure) = call(&CEDUNMI, &mut Recipe::new(bytes)) {
-        eprintln!("fuzz: {name}: {failure}");
+    let target = TARGETS[CALL.load(Ordering::Relaxed)];
+    let made = LIBRARY.with(|library| target.make(library, &mut Recipe::new(bytes)));
+    if let Err(failure) = made {
+        eprintln!("fuzz: {failure}");
         std::process::abort();
     }
     0

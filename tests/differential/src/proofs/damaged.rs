@@ -1,99 +1,98 @@
 //! Proofs with damage to their members and paths, or of another length.
 
-use super::{Comparisons, Input};
-use crate::difference::Failure;
-use crate::inputs::DEPTHS;
+use super::{of, of_fault};
+use crate::comparisons::Comparisons;
+use crate::difference::Compared;
+use crate::stops::DEPTHS;
 use reference::proof::HEAD;
 use reference::tree::{HASH, ROOT, SYMBOL};
 
-impl Comparisons {
-    /// Each byte, or, of the longer proofs, some of each symbol: one bit of it
-    /// changed.
-    pub(super) fn bytes(&mut self) -> Result<(), Failure> {
-        for depth in DEPTHS {
-            for layer in 0..depth {
-                let (right, ..) = Input::of_fault(depth, layer, &mut self.random);
-                for at in HEAD..right.proof.len() {
-                    if depth > 2 && self.random.below(16) > 0 {
-                        continue;
-                    }
-                    let mut input = right.clone();
-                    input.proof[at] ^= 1 << self.random.below(8);
-                    self.make("a damaged byte", &input)?;
+/// Each byte, or, of the longer proofs, some of each symbol: one bit of it
+/// changed.
+pub fn bytes(c: &mut Comparisons) -> Compared {
+    for depth in DEPTHS {
+        for layer in 0..depth {
+            let (right, ..) = of_fault(depth, layer, &mut c.random);
+            for at in HEAD..right["proof"].len() {
+                if depth > 2 && c.random.below(12) > 0 {
+                    continue;
                 }
-            }
-        }
-        Ok(())
-    }
-
-    pub(super) fn root_bytes(&mut self) -> Result<(), Failure> {
-        for depth in DEPTHS {
-            let layer = self.random.below(depth);
-            let (right, ..) = Input::of_fault(depth, layer, &mut self.random);
-            for at in 0..ROOT {
                 let mut input = right.clone();
-                input.root[at] ^= 1 << self.random.below(8);
-                self.make("a damaged root", &input)?;
+                input["proof"][at] ^= 1 << c.random.below(8);
+                c.make("a damaged byte", &input)?;
             }
         }
-        Ok(())
     }
+    Ok(())
+}
 
-    /// The hash for each symbol of the proof, the only one that is wrong, in
-    /// one byte.
-    pub(super) fn hashes(&mut self) -> Result<(), Failure> {
-        for depth in DEPTHS {
-            for layer in 0..depth {
-                let (_, volume, head) = Input::of_fault(depth, layer, &mut self.random);
-                for (layer, symbol) in head.symbols(volume.members(head)) {
-                    for byte in [0, self.random.below(HASH), HASH - 1] {
-                        let mut broken = volume.clone();
-                        broken.break_hash(layer, symbol, byte);
-                        let input = Input::new(&broken, broken.proof(head));
-                        self.make("one wrong hash", &input)?;
-                    }
+pub fn root_bytes(c: &mut Comparisons) -> Compared {
+    for depth in DEPTHS {
+        let layer = c.random.below(depth);
+        let (right, ..) = of_fault(depth, layer, &mut c.random);
+        for at in 0..ROOT {
+            let mut input = right.clone();
+            input["root"][at] ^= 1 << c.random.below(8);
+            c.make("a damaged root", &input)?;
+        }
+    }
+    Ok(())
+}
+
+/// The hash for each symbol of the proof, the only one that is wrong, in
+/// one byte.
+pub fn hashes(c: &mut Comparisons) -> Compared {
+    for depth in DEPTHS {
+        for layer in 0..depth {
+            let (_, volume, head) = of_fault(depth, layer, &mut c.random);
+            for (layer, symbol) in head.symbols(volume.members(head)) {
+                for byte in [0, c.random.below(HASH), HASH - 1] {
+                    let mut broken = volume.clone();
+                    broken.break_hash(layer, symbol, byte);
+                    let input = of(&broken, broken.proof(head));
+                    c.make("one wrong hash", &input)?;
                 }
             }
         }
-        Ok(())
     }
+    Ok(())
+}
 
-    /// Cut and extended: to every length at depth 1, else near those that end
-    /// a part.
-    pub(super) fn lengths_of_proofs(&mut self) -> Result<(), Failure> {
-        for depth in DEPTHS {
-            for layer in 0..depth {
-                let (right, ..) = Input::of_fault(depth, layer, &mut self.random);
-                let len = right.proof.len();
-                for other in 0..len + 300 {
-                    let edge = (other + SYMBOL - HEAD) % SYMBOL;
-                    if depth == 1 || other < 20 || edge < 2 || edge == SYMBOL - 1 {
-                        let mut input = right.clone();
-                        input.proof.resize(other, 0);
-                        self.make("a length of the proof", &input)?;
-                    }
+/// Cut and extended: to every length at depth 1, else near those that end
+/// a part.
+pub fn lengths_of_proofs(c: &mut Comparisons) -> Compared {
+    for depth in DEPTHS {
+        for layer in 0..depth {
+            let (right, ..) = of_fault(depth, layer, &mut c.random);
+            let len = right["proof"].len();
+            for other in 0..len + 300 {
+                let edge = (other + SYMBOL - HEAD) % SYMBOL;
+                if depth == 1 || other < 40 || !(3..SYMBOL - 2).contains(&edge) {
+                    let mut input = right.clone();
+                    input["proof"].resize(other, 0);
+                    c.make("a length of the proof", &input)?;
                 }
             }
         }
-        Ok(())
     }
+    Ok(())
+}
 
-    /// Two symbols of the proof in each other's place.
-    pub(super) fn swapped_symbols(&mut self) -> Result<(), Failure> {
-        for depth in DEPTHS {
-            for layer in 0..depth {
-                let (right, ..) = Input::of_fault(depth, layer, &mut self.random);
-                let symbols = (right.proof.len() - HEAD) / SYMBOL;
-                for one in 0..symbols {
-                    for other in 0..one {
-                        let mut input = right.clone();
-                        let (low, high) = input.proof.split_at_mut(HEAD + SYMBOL * one);
-                        low[HEAD + SYMBOL * other..][..SYMBOL].swap_with_slice(&mut high[..SYMBOL]);
-                        self.make("two symbols swapped", &input)?;
-                    }
+/// Two symbols of the proof in each other's place.
+pub fn swapped_symbols(c: &mut Comparisons) -> Compared {
+    for depth in DEPTHS {
+        for layer in 0..depth {
+            let (right, ..) = of_fault(depth, layer, &mut c.random);
+            let symbols = (right["proof"].len() - HEAD) / SYMBOL;
+            for one in 0..symbols {
+                for other in 0..one {
+                    let mut input = right.clone();
+                    let (low, high) = input["proof"].split_at_mut(HEAD + SYMBOL * one);
+                    low[HEAD + SYMBOL * other..][..SYMBOL].swap_with_slice(&mut high[..SYMBOL]);
+                    c.make("two symbols swapped", &input)?;
                 }
             }
         }
-        Ok(())
     }
+    Ok(())
 }

@@ -1,8 +1,9 @@
 //! Heads of every wrong sort.
 
-use super::{Comparisons, Input};
-use crate::difference::Failure;
-use crate::inputs::DEPTHS;
+use super::of_fault;
+use crate::comparisons::Comparisons;
+use crate::difference::Compared;
+use crate::stops::DEPTHS;
 use reference::proof::{proof_len, Head, HEAD};
 use reference::table::{data_symbols, END, EQUATION, LAYER};
 use reference::tree::symbols;
@@ -23,84 +24,82 @@ const LARGE: [u32; 12] = [
     (1 << 30) - 1,
 ];
 
-impl Comparisons {
-    /// Each word of the head with each kind.
-    pub(super) fn kinds(&mut self) -> Result<(), Failure> {
-        for depth in DEPTHS {
-            for layer in 0..depth {
-                let (right, _, head) = Input::of_fault(depth, layer, &mut self.random);
-                for kinds in 0..1 << 6 {
-                    let kind = |word: u32| kinds >> (2 * word) & 3;
-                    let mut input = right.clone();
-                    put_head(&mut input.proof, head, [kind(0), kind(1), kind(2)]);
-                    self.make("kinds", &input)?;
-                }
-            }
-        }
-        Ok(())
-    }
-
-    /// Each word with each value that is near, and with large ones.
-    pub(super) fn values(&mut self) -> Result<(), Failure> {
-        for depth in DEPTHS {
-            for layer in 0..depth {
-                let (right, _, head) = Input::of_fault(depth, layer, &mut self.random);
-                let near = [8, 3 * data_symbols(layer) + 4, symbols(layer) + 4];
-                let now = [head.layer, head.equation, head.withheld];
-                for word in 0..3 {
-                    let large = LARGE.into_iter().flat_map(|l| [l, l | now[word] as u32]);
-                    for value in (0..near[word] as u32).chain(large) {
-                        let mut input = right.clone();
-                        put_value(&mut input.proof, word, value);
-                        self.make("a value", &input)?;
-                    }
-                }
-            }
-        }
-        Ok(())
-    }
-
-    /// Each bit of the head.
-    pub(super) fn bits(&mut self) -> Result<(), Failure> {
-        for depth in DEPTHS {
-            for layer in 0..depth {
-                let (right, ..) = Input::of_fault(depth, layer, &mut self.random);
-                for bit in 0..8 * HEAD {
-                    let mut input = right.clone();
-                    input.proof[bit / 8] ^= 0x80 >> (bit % 8);
-                    self.make("a bit of the head", &input)?;
-                }
-            }
-        }
-        Ok(())
-    }
-
-    /// Heads, in form or not, before bodies of the length that they demand, or
-    /// of another.
-    pub(super) fn heads_before_bodies(&mut self) -> Result<(), Failure> {
-        for depth in DEPTHS {
-            let (right, volume, _) = Input::of_fault(depth, depth - 1, &mut self.random);
-            for turn in 0..1000 {
-                let layer = self.random.below(depth);
-                let head = volume.some_head(layer, &mut self.random);
+/// Each word of the head with each kind.
+pub fn kinds(c: &mut Comparisons) -> Compared {
+    for depth in DEPTHS {
+        for layer in 0..depth {
+            let (right, _, head) = of_fault(depth, layer, &mut c.random);
+            for kinds in 0..1 << 6 {
+                let kind = |word: u32| kinds >> (2 * word) & 3;
                 let mut input = right.clone();
-                input.proof = head.bytes();
-                if turn % 2 == 0 {
-                    let word = self.random.below(3);
-                    put_value(&mut input.proof, word, self.random.below(64) as u32);
-                }
-                let len = match turn % 5 {
-                    0 => HEAD,
-                    1 => self.random.below(12_000).max(HEAD),
-                    2 => proof_len(layer, 2 + self.random.below(7)) + self.random.below(2),
-                    _ => proof_len(layer, volume.members(head).len()),
-                };
-                input.proof.resize(len, 0);
-                self.make("a head before a body of some length", &input)?;
+                put_head(&mut input["proof"], head, [kind(0), kind(1), kind(2)]);
+                c.make("kinds", &input)?;
             }
         }
-        Ok(())
     }
+    Ok(())
+}
+
+/// Each word with each value that is near, and with large ones.
+pub fn values(c: &mut Comparisons) -> Compared {
+    for depth in DEPTHS {
+        for layer in 0..depth {
+            let (right, _, head) = of_fault(depth, layer, &mut c.random);
+            let near = [8, 3 * data_symbols(layer) + 4, symbols(layer) + 4];
+            let now = [head.layer, head.equation, head.withheld];
+            for word in 0..3 {
+                let large = LARGE.into_iter().flat_map(|l| [l, l | now[word] as u32]);
+                for value in (0..near[word] as u32).chain(large) {
+                    let mut input = right.clone();
+                    put_value(&mut input["proof"], word, value);
+                    c.make("a value", &input)?;
+                }
+            }
+        }
+    }
+    Ok(())
+}
+
+/// Each bit of the head.
+pub fn bits(c: &mut Comparisons) -> Compared {
+    for depth in DEPTHS {
+        for layer in 0..depth {
+            let (right, ..) = of_fault(depth, layer, &mut c.random);
+            for bit in 0..8 * HEAD {
+                let mut input = right.clone();
+                input["proof"][bit / 8] ^= 0x80 >> (bit % 8);
+                c.make("a bit of the head", &input)?;
+            }
+        }
+    }
+    Ok(())
+}
+
+/// Heads, in form or not, before bodies of the length that they demand, or
+/// of another.
+pub fn heads_before_bodies(c: &mut Comparisons) -> Compared {
+    for depth in DEPTHS {
+        let (right, volume, _) = of_fault(depth, depth - 1, &mut c.random);
+        for turn in 0..1000 {
+            let layer = c.random.below(depth);
+            let head = volume.some_head(layer, &mut c.random);
+            let mut input = right.clone();
+            input["proof"] = head.bytes();
+            if turn % 2 == 0 {
+                let word = c.random.below(3);
+                put_value(&mut input["proof"], word, c.random.below(64) as u32);
+            }
+            let len = match turn % 5 {
+                0 => HEAD,
+                1 => c.random.below(12_000).max(HEAD),
+                2 => proof_len(layer, 2 + c.random.below(7)) + c.random.below(2),
+                _ => proof_len(layer, volume.members(head).len()),
+            };
+            input["proof"].resize(len, 0);
+            c.make("a head before a body of some length", &input)?;
+        }
+    }
+    Ok(())
 }
 
 /// Writes a head with these kinds.

@@ -1,7 +1,7 @@
 //! What every repair promises, whatever it was lent: asked of the buffers
 //! themselves, without the steps.
 
-use super::Input;
+use crate::input::Input;
 use reference::repair::{End, Repaired};
 use reference::sha256::sha256;
 use reference::table::equations;
@@ -9,10 +9,10 @@ use reference::tree::{committed_hash, exclusive_or, place, symbol_at, symbols, S
 
 /// Asserts what 01 says of the buffers after a repair.
 pub fn hold(before: &Input, after: &Input, Repaired { end, stored }: Repaired) {
-    let layers = equations(before.depth, &before.table).expect("a table");
+    let layers = equations(before.number("depth"), &before["table"]).expect("a table");
     let last = match end {
         End::Whole => layers.len() - 1,
-        End::Fault(_) => usize::from(after.output[3]),
+        End::Fault(_) => usize::from(after["output"][3]),
         End::Unavailable(layer) => layer,
         End::Twins => panic!("two symbols of equal SHA-256"),
     };
@@ -33,8 +33,8 @@ pub fn hold(before: &Input, after: &Input, Repaired { end, stored }: Repaired) {
     }
     assert_eq!(filled, stored, "the gaps now held");
     let below = place(last + 1, 0);
-    assert!(before.tree[SYMBOL * below..] == after.tree[SYMBOL * below..]);
-    assert!(before.marks[below..] == after.marks[below..]);
+    assert!(before["tree"][SYMBOL * below..] == after["tree"][SYMBOL * below..]);
+    assert!(before["marks"][below..] == after["marks"][below..]);
 }
 
 /// The largest set within gaps that no equation meets exactly once.
@@ -62,10 +62,10 @@ impl Entered<'_> {
     /// For each symbol, whether it was lent absent or with another hash than
     /// the committed one.
     fn gaps(&self) -> Vec<bool> {
-        let lent = |symbol| symbol_at(&self.before.tree, place(self.layer, symbol));
+        let lent = |symbol| symbol_at(&self.before["tree"], place(self.layer, symbol));
         (0..symbols(self.layer))
             .map(|symbol| {
-                let mark = self.before.marks[place(self.layer, symbol)];
+                let mark = self.before["marks"][place(self.layer, symbol)];
                 mark == 0 || !self.fits(symbol, lent(symbol))
             })
             .collect()
@@ -73,7 +73,7 @@ impl Entered<'_> {
 
     fn missing(&self) -> Vec<bool> {
         let places = place(self.layer, 0)..place(self.layer + 1, 0);
-        self.after.marks[places].iter().map(|&mark| mark == 0).collect()
+        self.after["marks"][places].iter().map(|&mark| mark == 0).collect()
     }
 
     /// A symbol that is no gap is as it was; another is absent and zero, or
@@ -81,10 +81,10 @@ impl Entered<'_> {
     fn places_hold(&self, gaps: &[bool]) {
         for (symbol, gap) in gaps.iter().enumerate() {
             let place = place(self.layer, symbol);
-            let now = symbol_at(&self.after.tree, place);
-            match (gap, self.after.marks[place]) {
+            let now = symbol_at(&self.after["tree"], place);
+            match (gap, self.after["marks"][place]) {
                 (false, mark) => {
-                    assert!(mark == 1 && now == symbol_at(&self.before.tree, place))
+                    assert!(mark == 1 && now == symbol_at(&self.before["tree"], place))
                 }
                 (true, 0) => assert!(now.iter().all(|&byte| byte == 0)),
                 (true, _) => assert!(self.fits(symbol, now)),
@@ -93,12 +93,12 @@ impl Entered<'_> {
     }
 
     fn fits(&self, symbol: usize, bytes: &[u8]) -> bool {
-        let Input { root, tree, .. } = self.after;
+        let (root, tree) = (&self.after["root"], &self.after["tree"]);
         sha256(bytes) == committed_hash(root, tree, self.layer, symbol)
     }
 
     fn holds(&self, members: &[usize]) -> bool {
-        let symbol = |&member: &usize| symbol_at(&self.after.tree, place(self.layer, member));
+        let symbol = |&member: &usize| symbol_at(&self.after["tree"], place(self.layer, member));
         exclusive_or(members.iter().map(symbol)).iter().all(|&byte| byte == 0)
     }
 }
@@ -107,8 +107,9 @@ impl Entered<'_> {
 mod tests {
     use super::*;
     use crate::random::Random;
+    use crate::repairs::{lose, of, REPAIR};
+    use crate::results::ended;
     use crate::volumes::Volume;
-    use reference::repair::repair;
     use reference::table::house;
 
     /// A tree of depth 2 with losses, before and after its repair, which
@@ -116,13 +117,12 @@ mod tests {
     fn repaired() -> (Input, Input, Repaired) {
         let mut random = Random::new(1);
         let volume = Volume::new(2, &house(2), &mut random);
-        let mut before = Input::new(&volume, &mut random);
+        let mut before = of(&volume, &mut random);
         for symbol in [0, 4, 5, 6, 8, 9, 12, 15] {
-            before.lose(0, symbol, &mut random);
+            lose(&mut before, 0, symbol, &mut random);
         }
         let mut after = before.clone();
-        let [root, table, tree, marks, output] = after.buffers();
-        let result = repair(2, root, table, tree, marks, output).expect("a repair");
+        let result = ended((REPAIR.reference)(&mut after)).expect("a repair");
         assert_eq!(result, Repaired { end: End::Unavailable(0), stored: 1 });
         (before, after, result)
     }
@@ -144,8 +144,8 @@ mod tests {
     #[should_panic(expected = "left == right")]
     fn more_missing_than_the_largest_set() {
         let (before, mut after, result) = repaired();
-        after.marks[15] = 0;
-        after.tree[15 * SYMBOL..16 * SYMBOL].fill(0);
+        after["marks"][15] = 0;
+        after["tree"][15 * SYMBOL..16 * SYMBOL].fill(0);
         hold(&before, &after, Repaired { stored: 0, ..result });
     }
 
@@ -160,7 +160,7 @@ mod tests {
     #[should_panic]
     fn a_lower_layer_touched() {
         let (before, mut after, result) = repaired();
-        after.marks[20] = 0;
+        after["marks"][20] = 0;
         hold(&before, &after, result);
     }
 }

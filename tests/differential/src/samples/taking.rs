@@ -1,240 +1,109 @@
-//! `cmt_sample_take`: every base symbol, marks, and each way to be refused.
+//! `cmt_sample_take`: every base symbol, and marks.
 
-use super::{base_symbols, wrong_numbers};
-use crate::difference::Failure;
-use crate::inputs::{depths_to_ask, each_by_one, large, lend, spoil_mark, with_other_lengths};
-use crate::inputs::{Buffer, Coded, BAD_MARKS, DEPTHS, MADE_FOR};
+#[cfg(test)]
+mod mutants;
+
+use super::{base_symbol, base_symbols, sample_len, NUMBER, SAMPLE_LEN};
+use crate::call::Argument::{Number, Read, Written};
+use crate::call::{Call, Test, CALL};
+use crate::comparisons::Comparisons;
+use crate::difference::Compared;
+use crate::input::Input;
+use crate::marks::{absent, MARKS};
 use crate::random::Random;
 use crate::results::number;
+use crate::stops::{DEPTH, DEPTHS, LENGTHS};
 use crate::tables::lists::random_table;
-use cedunmi_sys::{Library, SampleTake};
-use reference::sample::{self, members, sample_len};
-use reference::tree::{place, tree_symbols, SYMBOL};
+use crate::trees::{tree_len, MARKS_LEN, TREE_LEN};
+use crate::volumes::Volume;
+use reference::sample::{self, members};
+use reference::stop::Stop;
+use reference::tree::{place, tree_symbols};
 
-const SEED: u64 = 5772;
+pub static SAMPLE_TAKE: Call = Call {
+    name: "sample_take",
+    sizes: &DEPTHS,
+    arguments: &[
+        Number("depth"),
+        Number("number"),
+        Read("tree", TREE_LEN),
+        Read("marks", MARKS_LEN),
+        Written("sample", SAMPLE_LEN),
+    ],
+    tests: &[DEPTH, LENGTHS, MARKS, NUMBER, ABSENT],
+    good: |depth, random| to_sample(depth, random),
+    reference: |i| {
+        let (depth, base) = (i.number("depth"), i.number("number"));
+        let [tree, marks, sample] = i.all();
+        number(sample::take(depth, base, tree, marks, sample))
+    },
+    own: &[every_number, absent, absent_members],
+    least: &[("end 0", 2000), ("4", 1600), ("5", 1500), ("9", 500)],
+    ..CALL
+};
 
-pub fn compare(library: &Library) -> Result<u64, Failure> {
-    let mut comparisons = Comparisons::of(library, Random::new(SEED));
-    comparisons.every_number()?;
-    comparisons.every_mark()?;
-    comparisons.absent_members()?;
-    comparisons.random_marks()?;
-    comparisons.wrong_numbers()?;
-    comparisons.depths()?;
-    comparisons.lengths()?;
-    comparisons.causes()?;
-    Ok(comparisons.made)
+/// The first symbol of the sample that is absent.
+const ABSENT: Test = Test {
+    number: 9,
+    ask: |i| {
+        let absent = |place: &usize| i["marks"].get(*place) == Some(&0);
+        places(i).iter().position(absent).map_or(Ok(()), |index| Err(Stop::Absent(index)))
+    },
+    spoil: |i, random| {
+        let places = places(i);
+        i["marks"][places[random.below(places.len())]] = 0;
+    },
+    own: &[],
+};
+
+/// Buffers of the right lengths: random bytes, each symbol held.
+pub fn to_sample(depth: usize, random: &mut Random) -> Input {
+    let number = random.below(base_symbols(depth) as usize) as u64;
+    let (tree, marks) = (random.bytes(tree_len(depth)), vec![1; tree_symbols(depth)]);
+    let sample = random.bytes(sample_len(depth));
+    Input::new(&SAMPLE_TAKE, [depth as u64, number], [tree, marks, sample])
 }
 
-pub struct Comparisons {
-    sample_take: SampleTake,
-    random: Random,
-    made: u64,
+/// The places of the sample's symbols.
+fn places(input: &Input) -> Vec<usize> {
+    let members = base_symbol(input).map_or_else(Vec::new, |(depth, base)| members(depth, base));
+    members.into_iter().map(|(layer, symbol)| place(layer, symbol)).collect()
 }
 
-/// What a call is lent.
-#[derive(Clone)]
-pub struct Input {
-    pub depth: u64,
-    pub number: u64,
-    pub tree: Vec<u8>,
-    pub marks: Vec<u8>,
-    pub sample: Vec<u8>,
+/// Of random bytes, which no table gives, and of a coded tree; with every
+/// other symbol absent, too.
+fn every_number(c: &mut Comparisons) -> Compared {
+    for depth in DEPTHS {
+        let mut random = to_sample(depth, &mut c.random);
+        let mut coded = random.clone();
+        let words = random_table(depth, &mut c.random);
+        coded["tree"] = Volume::new(depth, &words, &mut c.random).tree;
+        for number in 0..base_symbols(depth) {
+            random.set("number", number);
+            c.make_done("random bytes", &random)?;
+            coded.set("number", number);
+            c.make_done("a coded tree", &coded)?;
+            random["marks"].fill(0);
+            places(&random).into_iter().for_each(|place| random["marks"][place] = 1);
+            c.make_done("the others absent", &random)?;
+            random["marks"].fill(1);
+        }
+    }
+    Ok(())
 }
 
-impl Input {
-    /// Buffers of the right lengths: random bytes, each symbol held.
-    pub fn new(depth: usize, random: &mut Random) -> Input {
-        Input {
-            depth: depth as u64,
-            number: random.below(base_symbols(depth.max(1))) as u64,
-            tree: random.bytes(SYMBOL * tree_symbols(depth)),
-            marks: vec![1; tree_symbols(depth)],
-            sample: random.bytes(sample_len(depth.max(1))),
-        }
-    }
-
-    pub fn buffers(&mut self) -> [&mut Vec<u8>; 3] {
-        [&mut self.tree, &mut self.marks, &mut self.sample]
-    }
-
-    /// The places of the sample's symbols.
-    fn places(&self) -> Vec<usize> {
-        let members = members(self.depth as usize, self.number as usize);
-        members.into_iter().map(|(layer, symbol)| place(layer, symbol)).collect()
-    }
-}
-
-impl Comparisons {
-    pub fn of(library: &Library, random: Random) -> Comparisons {
-        Comparisons { sample_take: library.sample_take, random, made: 0 }
-    }
-
-    /// Of random bytes, which no table gives, and of a coded tree; with every
-    /// other symbol absent, too.
-    fn every_number(&mut self) -> Result<(), Failure> {
-        for depth in DEPTHS {
-            let mut random = Input::new(depth, &mut self.random);
-            let mut coded = random.clone();
-            let words = random_table(depth, &mut self.random);
-            coded.tree = Coded::new(depth, &words, &mut self.random).tree;
-            for number in 0..base_symbols(depth) as u64 {
-                random.number = number;
-                self.make("random bytes", &random)?;
-                coded.number = number;
-                self.make("a coded tree", &coded)?;
-                random.marks.fill(0);
-                random.places().into_iter().for_each(|place| random.marks[place] = 1);
-                self.make("the others absent", &random)?;
-                random.marks.fill(1);
+/// Each set of the sample's own symbols absent.
+fn absent_members(c: &mut Comparisons) -> Compared {
+    for depth in DEPTHS {
+        let mut input = to_sample(depth, &mut c.random);
+        for set in 0..1 << (2 * depth - 1) {
+            input.set("number", c.random.below(base_symbols(depth) as usize) as u64);
+            input["marks"].fill(1);
+            for (index, place) in places(&input).into_iter().enumerate() {
+                input["marks"][place] = 1 - (set >> index & 1);
             }
+            c.make("some of its own absent", &input)?;
         }
-        Ok(())
     }
-
-    /// Each place alone: absent, and with a mark that is none.
-    fn every_mark(&mut self) -> Result<(), Failure> {
-        for depth in DEPTHS {
-            let mut input = Input::new(depth, &mut self.random);
-            for place in 0..input.marks.len() {
-                input.number = self.random.below(base_symbols(depth)) as u64;
-                input.marks[place] = 0;
-                self.make("one absent", &input)?;
-                input.marks[place] = BAD_MARKS[place % BAD_MARKS.len()];
-                self.make("one bad mark", &input)?;
-                input.marks[place] = 1;
-            }
-        }
-        Ok(())
-    }
-
-    /// Each set of the sample's own symbols absent.
-    fn absent_members(&mut self) -> Result<(), Failure> {
-        for depth in DEPTHS {
-            let mut input = Input::new(depth, &mut self.random);
-            for set in 0..1 << (2 * depth - 1) {
-                input.number = self.random.below(base_symbols(depth)) as u64;
-                input.marks.fill(1);
-                for (index, place) in input.places().into_iter().enumerate() {
-                    input.marks[place] = 1 - (set >> index & 1);
-                }
-                self.make("some of its own absent", &input)?;
-            }
-        }
-        Ok(())
-    }
-
-    /// Many absent, and some marks that are none.
-    fn random_marks(&mut self) -> Result<(), Failure> {
-        for depth in DEPTHS {
-            let mut input = Input::new(depth, &mut self.random);
-            for turn in 0..150 {
-                input.number = self.random.below(base_symbols(depth)) as u64;
-                input.marks.fill_with(|| self.random.below(8).min(1) as u8);
-                self.make("random marks", &input)?;
-                for _ in 0..1 + turn % 3 {
-                    spoil_mark(&mut input.marks, &mut self.random);
-                }
-                self.make("some bad marks", &input)?;
-            }
-        }
-        Ok(())
-    }
-
-    fn wrong_numbers(&mut self) -> Result<(), Failure> {
-        for depth in DEPTHS {
-            let mut input = Input::new(depth, &mut self.random);
-            for low in 0..base_symbols(depth).min(40) {
-                for number in wrong_numbers(depth, low) {
-                    input.number = number;
-                    self.make("a wrong number", &input)?;
-                }
-            }
-        }
-        Ok(())
-    }
-
-    /// Buffers for one depth, asked for another.
-    fn depths(&mut self) -> Result<(), Failure> {
-        for made_for in MADE_FOR {
-            let mut input = Input::new(made_for, &mut self.random);
-            for depth in depths_to_ask(made_for) {
-                input.depth = depth;
-                self.make("a depth", &input)?;
-            }
-        }
-        Ok(())
-    }
-
-    /// One buffer of another length.
-    fn lengths(&mut self) -> Result<(), Failure> {
-        for depth in DEPTHS {
-            let right = Input::new(depth, &mut self.random);
-            for input in with_other_lengths(&right, Input::buffers, &[]) {
-                self.make("a length", &input)?;
-            }
-        }
-        Ok(())
-    }
-
-    /// Every set of causes: the length of each buffer, the depth, a mark that
-    /// is none, the number, an absent symbol.
-    fn causes(&mut self) -> Result<(), Failure> {
-        for depth in DEPTHS {
-            let right = Input::new(depth, &mut self.random);
-            for causes in 0..1 << 7 {
-                let mut input = right.clone();
-                let has = |cause: usize| causes >> cause & 1 == 1;
-                if has(6) {
-                    let places = input.places();
-                    input.marks[places[self.random.below(places.len())]] = 0;
-                }
-                if has(5) {
-                    let numbers = wrong_numbers(depth, input.number as usize);
-                    input.number = numbers[self.random.below(numbers.len())];
-                }
-                if has(4) {
-                    spoil_mark(&mut input.marks, &mut self.random);
-                }
-                each_by_one(input.buffers(), has, &mut self.random);
-                if has(3) {
-                    input.depth = large(depth)[self.random.below(5)];
-                }
-                self.make("several causes", &input)?;
-            }
-        }
-        Ok(())
-    }
-
-    pub fn make(&mut self, what: &str, input: &Input) -> Result<(), Failure> {
-        self.made += 1;
-        let mut sample = input.sample.clone();
-        let (depth, base) = (input.depth, input.number);
-        let result = sample::take(depth, base, &input.tree, &input.marks, &mut sample);
-        let buffers = [
-            Buffer::kept("tree", &input.tree),
-            Buffer::kept("marks", &input.marks),
-            Buffer::changed("sample", &input.sample, &sample),
-        ];
-        let sample_take = self.sample_take;
-        lend(&mut self.random, buffers, number(result), |[tree, marks, sample]| {
-            let (t, m, s) = (tree.pointer(), marks.pointer(), sample.pointer());
-            // SAFETY: the pointers go to three arrays, each with a length that lies inside it.
-            unsafe { sample_take(depth, base, t, tree.len(), m, marks.len(), s, sample.len()) }
-        })
-        .map_err(|difference| Failure { call: input.description(what), difference })
-    }
-}
-
-impl Input {
-    fn description(&self, what: &str) -> String {
-        format!(
-            "sampling, {what}: depth {}, number {}, tree of {} bytes, {} marks, sample of {}",
-            self.depth,
-            self.number,
-            self.tree.len(),
-            self.marks.len(),
-            self.sample.len(),
-        )
-    }
+    Ok(())
 }

@@ -1,7 +1,7 @@
 //! Lists of words: random tables, and tables that are damaged.
 
 use crate::random::Random;
-use reference::table::{data_symbols, word, write, END, EQUATION, LAYER, MEMBER};
+use reference::table::{data_symbols, house, word, write, END, EQUATION, LAYER, MEMBER};
 
 pub const WORD_KINDS: [u32; 4] = [MEMBER, LAYER, EQUATION, END];
 
@@ -20,6 +20,14 @@ pub fn random_table(depth: usize, random: &mut Random) -> Vec<u32> {
         members.truncate(others);
         members
     })
+}
+
+/// The house table or a random one.
+pub fn some_table(depth: usize, random: &mut Random) -> Vec<u32> {
+    match random.below(2) {
+        0 => house(depth),
+        _ => random_table(depth, random),
+    }
 }
 
 /// A table in which each equation has `size` members, or as many as there can

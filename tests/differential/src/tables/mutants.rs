@@ -1,75 +1,41 @@
-//! Functions that are wrong in one way each. The comparison must find every
-//! one of them.
+//! Wrong readers of tables, and wrong house tables.
 
-use super::compare;
+use super::{words, HOUSE_TABLE as CALL, TABLE_CHECK, WORDS};
+use crate::call::Ask;
 use crate::difference::Difference;
-use crate::results::number;
-use crate::right::{house_by, house_table as right_house, table_check as right_check, RIGHT};
-use cedunmi_sys::Library;
+use crate::input::Input;
+use crate::library::{by_tests, right};
+use crate::mutants::{asked, passes, wrong};
 use reference::stop::Stop;
-use reference::table::{self, check_bytes};
-use std::slice;
+use reference::table::{check_words, house, to_bytes, END, EQUATION, LAYER};
 
-#[test]
-fn right_passes() {
-    let made = compare(&RIGHT).unwrap_or_else(|failure| panic!("{failure}"));
-    assert!(made > 20_000);
-}
-
-/// A test that a wrong check differs in its result.
-macro_rules! wrong_check {
-    ($name:ident, |$depth:ident, $bytes:ident| $body:expr) => {
-        #[test]
-        fn $name() {
-            unsafe extern "C" fn f($depth: u64, t: *const u8, n: usize) -> u64 {
-                let $bytes = slice::from_raw_parts(t, n);
-                number($body)
-            }
-            let failure =
-                compare(&Library { table_check: f, ..RIGHT }).expect_err("a wrong check passed");
-            assert!(matches!(failure.difference, Difference::Result { .. }), "{failure}");
+/// Wrong ways to ask test 3.
+pub const WRONG: &[(&str, Ask)] = &[
+    ("place one less when short", |i| match (WORDS.ask)(i) {
+        Err(Stop::Word(at)) if at > 0 && at == i["table"].len() / 4 => Err(Stop::Word(at - 1)),
+        result => result,
+    }),
+    ("place of the end word", |i| match (WORDS.ask)(i) {
+        Err(Stop::Word(at)) if at > 0 && i["table"][4 * at - 4] >> 6 == 3 => {
+            Err(Stop::Word(at - 1))
         }
-    };
-}
-
-wrong_check!(place_one_less_when_short, |depth, bytes| match check_bytes(depth, bytes) {
-    Err(Stop::Word(at)) if at > 0 && 4 * at == bytes.len() => Err(Stop::Word(at - 1)),
-    other => other,
-});
-
-wrong_check!(place_of_the_end_word, |depth, bytes| match check_bytes(depth, bytes) {
-    Err(Stop::Word(at)) if at > 0 && bytes[4 * at - 4] >> 6 == 3 => Err(Stop::Word(at - 1)),
-    other => other,
-});
-
-wrong_check!(nothing_after_the_end_is_not_asked, |depth, bytes| match check_bytes(depth, bytes) {
-    Err(Stop::Word(at)) if at > 0 && check_bytes(depth, &bytes[..4 * at]).is_ok() => Ok(()),
-    other => other,
-});
-
-wrong_check!(length_before_depth, |depth, bytes| {
-    if bytes.len() > table::MAX_BYTES || bytes.len() % 4 != 0 {
-        Err(Stop::Length)
-    } else {
-        check_bytes(depth, bytes)
-    }
-});
-
-wrong_check!(depth_of_32_bits, |depth, bytes| check_bytes(depth as u32 as u64, bytes));
-
-wrong_check!(no_longest_table, |depth, bytes| match check_bytes(depth, bytes) {
-    Err(Stop::Length) if bytes.len() % 4 == 0 => Err(Stop::Word(table::house(5).len())),
-    other => other,
-});
-
-wrong_check!(bytes_past_the_last_word, |depth, bytes| {
-    check_bytes(depth, &bytes[..bytes.len() / 4 * 4])
-});
-
-wrong_check!(a_deeper_table, |depth, bytes| match check_bytes(depth, bytes) {
-    Err(Stop::Depth) if depth == 6 => Ok(()),
-    other => other,
-});
+        result => result,
+    }),
+    ("no place", |i| (WORDS.ask)(i).map_err(|_| Stop::Word(0))),
+    ("words after the end word", |i| match ((WORDS.ask)(i), i.size()) {
+        (Err(Stop::Word(at)), Some(depth)) => {
+            check_words(depth as u64, &words(&i["table"])[..at]).map_err(|_| Stop::Word(at))
+        }
+        (result, _) => result,
+    }),
+    ("nine members", |i| read_by(&Rules { members: (2, 9), ..RULES }, i)),
+    ("seven members", |i| read_by(&Rules { members: (2, 7), ..RULES }, i)),
+    ("one member", |i| read_by(&Rules { members: (1, 8), ..RULES }, i)),
+    ("not descending", |i| read_by(&Rules { ascent: 0, ..RULES }, i)),
+    ("a member above the last", |i| read_by(&Rules { above: 1, ..RULES }, i)),
+    ("a value of 29 bits", |i| read_by(&Rules { value: (1 << 29) - 1, ..RULES }, i)),
+    ("end value free", |i| read_by(&Rules { end: false, ..RULES }, i)),
+];
 
 /// Rules of a table, 01's or others.
 struct Rules {
@@ -89,16 +55,15 @@ const RULES: Rules =
     Rules { members: (2, 8), ascent: 1, above: 0, value: (1 << 30) - 1, end: true };
 
 /// Reads a table of depth 1 by these rules, another depth by 01's.
-fn read_by(rules: &Rules, depth: u64, bytes: &[u8]) -> Result<(), Stop> {
-    if depth != 1 || check_bytes(depth, bytes) == Err(Stop::Length) {
-        return check_bytes(depth, bytes);
+fn read_by(rules: &Rules, input: &Input) -> Result<(), Stop> {
+    if input.size() != Some(1) {
+        return (WORDS.ask)(input);
     }
-    let words: Vec<u32> =
-        bytes.chunks(4).map(|b| u32::from_be_bytes([b[0], b[1], b[2], b[3]])).collect();
+    let words = words(&input["table"]);
     let mut at = 0;
-    opener(rules, &words, &mut at, table::LAYER, 0)?;
+    opener(rules, &words, &mut at, LAYER, 0)?;
     for e in 0..12 {
-        opener(rules, &words, &mut at, table::EQUATION, e)?;
+        opener(rules, &words, &mut at, EQUATION, e)?;
         let mut low = 0;
         for number in 1.. {
             let member = *words.get(at).ok_or(Stop::Word(at))?;
@@ -117,7 +82,7 @@ fn read_by(rules: &Rules, depth: u64, bytes: &[u8]) -> Result<(), Stop> {
         }
     }
     let end = at as u32;
-    opener(rules, &words, &mut at, table::END, end)?;
+    opener(rules, &words, &mut at, END, end)?;
     if at < words.len() {
         return Err(Stop::Word(at));
     }
@@ -126,9 +91,7 @@ fn read_by(rules: &Rules, depth: u64, bytes: &[u8]) -> Result<(), Stop> {
 
 fn opener(rules: &Rules, words: &[u32], at: &mut usize, kind: u32, v: u32) -> Result<(), Stop> {
     match words.get(*at) {
-        Some(w)
-            if w >> 30 == kind && (w & rules.value == v || kind == table::END && !rules.end) =>
-        {
+        Some(w) if w >> 30 == kind && (w & rules.value == v || kind == END && !rules.end) => {
             *at += 1;
             Ok(())
         }
@@ -138,74 +101,16 @@ fn opener(rules: &Rules, words: &[u32], at: &mut usize, kind: u32, v: u32) -> Re
 
 #[test]
 fn right_rules_pass() {
-    unsafe extern "C" fn f(depth: u64, t: *const u8, n: usize) -> u64 {
-        number(read_by(&RULES, depth, slice::from_raw_parts(t, n)))
-    }
-    compare(&Library { table_check: f, ..RIGHT }).unwrap_or_else(|failure| panic!("{failure}"));
+    passes(&TABLE_CHECK, |i| by_tests(i, &asked(&TABLE_CHECK, 3, |i| read_by(&RULES, i))));
 }
 
-wrong_check!(nine_members, |depth, bytes| {
-    read_by(&Rules { members: (2, 9), ..RULES }, depth, bytes)
-});
-
-wrong_check!(seven_members, |depth, bytes| {
-    read_by(&Rules { members: (2, 7), ..RULES }, depth, bytes)
-});
-
-wrong_check!(one_member, |depth, bytes| {
-    read_by(&Rules { members: (1, 8), ..RULES }, depth, bytes)
-});
-
-wrong_check!(not_descending, |depth, bytes| read_by(&Rules { ascent: 0, ..RULES }, depth, bytes));
-
-wrong_check!(a_member_above_the_last, |depth, bytes| {
-    read_by(&Rules { above: 1, ..RULES }, depth, bytes)
-});
-
-wrong_check!(a_value_of_29_bits, |depth, bytes| {
-    read_by(&Rules { value: (1 << 29) - 1, ..RULES }, depth, bytes)
-});
-
-wrong_check!(end_value_free, |depth, bytes| {
-    read_by(&Rules { end: false, ..RULES }, depth, bytes)
-});
-
-#[test]
-fn a_byte_of_the_table_is_written() {
-    unsafe extern "C" fn f(depth: u64, t: *const u8, n: usize) -> u64 {
-        let result = right_check(depth, t, n);
-        if result == 0 {
-            *(t as *mut u8) ^= 1;
-        }
-        result
+wrong!(house_table_of_another_formula, Difference::Inside { buffer: "table", at: 91, .. }, |i| {
+    let result = right(i);
+    if result == 0 {
+        let mut words = house(i.number("depth") as usize);
+        // In equation 4 of layer 0 ⌊e/k⌋ is 1: its members are 0, 2, 7, 8, and would be 0, 1, 7, 8.
+        words[22] = 1;
+        i["table"] = to_bytes(&words);
     }
-    let failure = compare(&Library { table_check: f, ..RIGHT }).expect_err("a wrong check passed");
-    assert!(matches!(failure.difference, Difference::Inside { at: 0, .. }), "{failure}");
-}
-
-#[test]
-fn house_table_of_another_formula() {
-    fn words(depth: usize) -> Vec<u32> {
-        let mut words = table::house(depth);
-        // In equation 4 of layer 0 e/k is 1: its members are 0 and 2, and would be 0 and 1.
-        words[23] = 1;
-        words
-    }
-    unsafe extern "C" fn f(depth: u64, t: *mut u8, n: usize) -> u64 {
-        house_by(depth, t, n, words)
-    }
-    let failure = compare(&Library { house_table: f, ..RIGHT }).expect_err("a wrong table passed");
-    assert!(matches!(failure.difference, Difference::Inside { at: 95, .. }), "{failure}");
-}
-
-#[test]
-fn house_table_in_a_longer_buffer() {
-    unsafe extern "C" fn f(depth: u64, t: *mut u8, n: usize) -> u64 {
-        match right_house(depth, t, n) {
-            2 if n % 4 == 0 => right_house(depth, t, n - 4),
-            other => other,
-        }
-    }
-    let failure = compare(&Library { house_table: f, ..RIGHT }).expect_err("a wrong writer passed");
-    assert!(matches!(failure.difference, Difference::Result { .. }), "{failure}");
-}
+    result
+});

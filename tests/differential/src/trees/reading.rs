@@ -1,195 +1,100 @@
-//! `cmt_block_read`: trees and marks, and each way to be refused.
+//! `cmt_block_read`: trees and marks.
 
-use crate::difference::Failure;
-use crate::inputs::{
-    block_len, depths_to_ask, each_by_one, large, lend, spoil_mark, with_other_lengths,
-};
-use crate::inputs::{Buffer, Coded, BAD_MARKS, DEPTHS, MADE_FOR};
+#[cfg(test)]
+mod mutants;
+
+use super::{block_len, tree_len, BLOCK_LEN, MARKS_LEN, TREE_LEN};
+use crate::call::Argument::{Number, Read, Written};
+use crate::call::{Call, Test, CALL};
+use crate::comparisons::Comparisons;
+use crate::difference::Compared;
+use crate::input::Input;
+use crate::marks::{absent, MARKS};
 use crate::random::Random;
 use crate::results::number;
-use crate::tables::lists::random_table;
-use cedunmi_sys::{BlockRead, Library};
+use crate::stops::{DEPTH, DEPTHS, LENGTHS};
+use crate::tables::lists::some_table;
+use crate::volumes::Volume;
+use reference::stop::Stop;
 use reference::table::data_symbols;
-use reference::tree::{self, place, tree_symbols, SYMBOL};
+use reference::tree::{self, place, tree_symbols};
+use std::ops::Range;
 
-const SEED: u64 = 1618;
+pub static BLOCK_READ: Call = Call {
+    name: "block_read",
+    sizes: &DEPTHS,
+    arguments: &[
+        Number("depth"),
+        Read("tree", TREE_LEN),
+        Read("marks", MARKS_LEN),
+        Written("block", BLOCK_LEN),
+    ],
+    tests: &[DEPTH, LENGTHS, MARKS, ABSENT],
+    good: |depth, random| to_read(depth, random),
+    reference: |i| {
+        let depth = i.number("depth");
+        let [tree, marks, block] = i.all();
+        number(tree::read_block(depth, tree, marks, block))
+    },
+    own: &[coded_trees, absent, absent_elsewhere],
+    least: &[("end 0", 1000), ("4", 1000), ("9", 500)],
+    ..CALL
+};
 
-pub fn compare(library: &Library) -> Result<u64, Failure> {
-    let mut comparisons = Comparisons::of(library, Random::new(SEED));
-    comparisons.coded_trees()?;
-    comparisons.every_mark()?;
-    comparisons.random_marks()?;
-    comparisons.depths()?;
-    comparisons.lengths()?;
-    comparisons.causes()?;
-    Ok(comparisons.made)
+/// The first data symbol of the base that is absent.
+const ABSENT: Test = Test {
+    number: 9,
+    ask: |i| {
+        let needed = i.size().and_then(|depth| i["marks"].get(needed(depth)));
+        match needed.and_then(|marks| marks.iter().position(|&mark| mark == 0)) {
+            Some(absent) => Err(Stop::Absent(absent)),
+            None => Ok(()),
+        }
+    },
+    spoil: |i, random| {
+        let needed = needed(i.number("depth") as usize);
+        i["marks"][needed.start + random.below(needed.len())] = 0;
+    },
+    own: &[],
+};
+
+/// The places of the block.
+fn needed(depth: usize) -> Range<usize> {
+    place(depth - 1, 0)..place(depth - 1, data_symbols(depth - 1))
 }
 
-pub struct Comparisons {
-    block_read: BlockRead,
-    random: Random,
-    made: u64,
+/// Buffers of the right lengths: random bytes, each symbol held.
+pub fn to_read(depth: usize, random: &mut Random) -> Input {
+    let (tree, marks) = (random.bytes(tree_len(depth)), vec![1; tree_symbols(depth)]);
+    Input::new(&BLOCK_READ, [depth as u64], [tree, marks, random.bytes(block_len(depth))])
 }
 
-/// What a call is lent.
-#[derive(Clone)]
-pub struct Input {
-    pub depth: u64,
-    pub tree: Vec<u8>,
-    pub marks: Vec<u8>,
-    pub block: Vec<u8>,
+/// Trees that the reference wrote.
+fn coded_trees(c: &mut Comparisons) -> Compared {
+    for depth in DEPTHS {
+        for _ in 0..40 {
+            let mut input = to_read(depth, &mut c.random);
+            let words = some_table(depth, &mut c.random);
+            input["tree"] = Volume::new(depth, &words, &mut c.random).tree;
+            c.make_done("a coded tree", &input)?;
+        }
+    }
+    Ok(())
 }
 
-impl Input {
-    /// Buffers of the right lengths: random bytes, each symbol held.
-    pub fn new(depth: usize, random: &mut Random) -> Input {
-        Input {
-            depth: depth as u64,
-            tree: random.bytes(SYMBOL * tree_symbols(depth)),
-            marks: vec![1; tree_symbols(depth)],
-            block: random.bytes(block_len(depth)),
-        }
-    }
-
-    pub fn buffers(&mut self) -> [&mut Vec<u8>; 3] {
-        [&mut self.tree, &mut self.marks, &mut self.block]
-    }
-}
-
-impl Comparisons {
-    pub fn of(library: &Library, random: Random) -> Comparisons {
-        Comparisons { block_read: library.block_read, random, made: 0 }
-    }
-
-    /// Trees that the reference wrote.
-    fn coded_trees(&mut self) -> Result<(), Failure> {
-        for depth in DEPTHS {
-            for _ in 0..40 {
-                let mut input = Input::new(depth, &mut self.random);
-                let words = random_table(depth, &mut self.random);
-                input.tree = Coded::new(depth, &words, &mut self.random).tree;
-                self.make("a coded tree", &input)?;
+/// Many absent where nothing is needed, and few where something is.
+fn absent_elsewhere(c: &mut Comparisons) -> Compared {
+    for depth in DEPTHS {
+        let mut input = to_read(depth, &mut c.random);
+        for turn in 0..150 {
+            input["marks"].fill_with(|| c.random.below(2) as u8);
+            input["marks"][needed(depth)].fill(1);
+            c.make_done("many absent that are not needed", &input)?;
+            for _ in 0..1 + turn % 3 {
+                (ABSENT.spoil)(&mut input, &mut c.random);
             }
+            c.make("some needed ones absent", &input)?;
         }
-        Ok(())
     }
-
-    /// Each place alone: absent, and with a mark that is none.
-    fn every_mark(&mut self) -> Result<(), Failure> {
-        for depth in DEPTHS {
-            let mut input = Input::new(depth, &mut self.random);
-            for place in 0..input.marks.len() {
-                input.marks[place] = 0;
-                self.make("one absent", &input)?;
-                input.marks[place] = BAD_MARKS[place % BAD_MARKS.len()];
-                self.make("one bad mark", &input)?;
-                input.marks[place] = 1;
-            }
-        }
-        Ok(())
-    }
-
-    /// Many absent, in all the tree or where nothing is needed, and some marks
-    /// that are none.
-    fn random_marks(&mut self) -> Result<(), Failure> {
-        for depth in DEPTHS {
-            let mut input = Input::new(depth, &mut self.random);
-            let needed = place(depth - 1, 0)..place(depth - 1, data_symbols(depth - 1));
-            for turn in 0..100 {
-                input.marks.fill_with(|| self.random.below(2) as u8);
-                if turn % 4 > 0 {
-                    input.marks[needed.clone()].fill(1);
-                }
-                self.make("random marks", &input)?;
-                for _ in 0..turn % 3 {
-                    let at = needed.start + self.random.below(needed.len());
-                    input.marks[at] = 0;
-                }
-                self.make("some needed ones absent", &input)?;
-                for _ in 0..1 + turn % 3 {
-                    spoil_mark(&mut input.marks, &mut self.random);
-                }
-                self.make("some bad marks", &input)?;
-            }
-        }
-        Ok(())
-    }
-
-    /// Buffers for one depth, asked for another.
-    fn depths(&mut self) -> Result<(), Failure> {
-        for made_for in MADE_FOR {
-            let mut input = Input::new(made_for, &mut self.random);
-            for depth in depths_to_ask(made_for) {
-                input.depth = depth;
-                self.make("a depth", &input)?;
-            }
-        }
-        Ok(())
-    }
-
-    /// One buffer of another length.
-    fn lengths(&mut self) -> Result<(), Failure> {
-        for depth in DEPTHS {
-            let right = Input::new(depth, &mut self.random);
-            for input in with_other_lengths(&right, Input::buffers, &[]) {
-                self.make("a length", &input)?;
-            }
-        }
-        Ok(())
-    }
-
-    /// Every set of causes: the length of each buffer, the depth, a mark that
-    /// is none, an absent symbol.
-    fn causes(&mut self) -> Result<(), Failure> {
-        for depth in DEPTHS {
-            let right = Input::new(depth, &mut self.random);
-            for causes in 0..1 << 6 {
-                let mut input = right.clone();
-                let has = |cause: usize| causes >> cause & 1 == 1;
-                if has(5) {
-                    let data = self.random.below(data_symbols(depth - 1));
-                    input.marks[place(depth - 1, data)] = 0;
-                }
-                if has(4) {
-                    spoil_mark(&mut input.marks, &mut self.random);
-                }
-                each_by_one(input.buffers(), has, &mut self.random);
-                if has(3) {
-                    input.depth = large(depth)[self.random.below(5)];
-                }
-                self.make("several causes", &input)?;
-            }
-        }
-        Ok(())
-    }
-
-    pub fn make(&mut self, what: &str, input: &Input) -> Result<(), Failure> {
-        self.made += 1;
-        let mut block = input.block.clone();
-        let result = tree::read_block(input.depth, &input.tree, &input.marks, &mut block);
-        let buffers = [
-            Buffer::kept("tree", &input.tree),
-            Buffer::kept("marks", &input.marks),
-            Buffer::changed("block", &input.block, &block),
-        ];
-        let block_read = self.block_read;
-        lend(&mut self.random, buffers, number(result), |[tree, marks, block]| {
-            let (t, m, b) = (tree.pointer(), marks.pointer(), block.pointer());
-            // SAFETY: the pointers go to three arrays, each with a length that lies inside it.
-            unsafe { block_read(input.depth, t, tree.len(), m, marks.len(), b, block.len()) }
-        })
-        .map_err(|difference| Failure { call: input.description(what), difference })
-    }
-}
-
-impl Input {
-    fn description(&self, what: &str) -> String {
-        format!(
-            "reading back, {what}: depth {}, tree of {} bytes, {} marks, block of {}",
-            self.depth,
-            self.tree.len(),
-            self.marks.len(),
-            self.block.len(),
-        )
-    }
+    Ok(())
 }

@@ -1,26 +1,27 @@
-//! Tables: well-formed ones or none, with changes; and lengths to write one in.
+//! Tables: well-formed ones or none; and lengths to write one in.
 
-use crate::edits;
-use crate::recipe::Recipe;
-use cedunmi_sys::Library;
-use differential::difference::Failure;
-use differential::tables::Comparisons;
-use reference::table::{house, to_bytes};
+use super::Target;
+use differential::input::Input;
+use differential::random::Random;
+use differential::tables::{self, house_len, to_fill};
+use reference::table::to_bytes;
 
-pub fn table_check(library: &Library, recipe: &mut Recipe) -> Result<(), Failure> {
-    let mut comparisons = Comparisons::of(library, recipe.random());
-    let made_for = recipe.made_for();
-    let depth = recipe.asked(made_for);
-    let words = if recipe.byte() < 32 { Vec::new() } else { recipe.words(made_for) };
-    let mut table = to_bytes(&words);
-    edits::apply(recipe.rest(), [&mut table]);
-    comparisons.check_bytes("fuzzed table", depth, &table)
-}
+pub static TABLE_CHECK: Target = Target {
+    call: &tables::TABLE_CHECK,
+    input: |recipe| {
+        let made_for = recipe.made_for();
+        let depth = recipe.asked(made_for);
+        let words = if recipe.byte() < 32 { Vec::new() } else { recipe.words(made_for) };
+        Input::new(&tables::TABLE_CHECK, [depth], [to_bytes(&words)])
+    },
+};
 
-pub fn house_table(library: &Library, recipe: &mut Recipe) -> Result<(), Failure> {
-    let mut comparisons = Comparisons::of(library, recipe.random());
-    let made_for = recipe.made_for();
-    let depth = recipe.asked(made_for);
-    let len = recipe.asked(4 * house(made_for).len()).min(1 << 16);
-    comparisons.house(depth, len as usize)
-}
+pub static HOUSE_TABLE: Target = Target {
+    call: &tables::HOUSE_TABLE,
+    input: |recipe| {
+        let made_for = recipe.made_for();
+        let depth = recipe.asked(made_for);
+        let len = recipe.asked(house_len(made_for)).min(1 << 16);
+        to_fill(depth, len as usize, &mut Random::new(depth))
+    },
+};

@@ -1,11 +1,10 @@
 //! Wrong hashes, and wrong members.
 
 use crate::difference::Difference;
-use crate::proofs::compare;
-use crate::right::call::Call;
-use crate::right::repairs::{as_proof_check, Proving};
-use crate::right::RIGHT;
-use cedunmi_sys::Library;
+use crate::input::Input;
+use crate::library::{right, stopped};
+use crate::mutants::{passes, wrong};
+use crate::proofs::PROOF_CHECK as CALL;
 use reference::proof::{hash_for, Head, HEAD};
 use reference::sha256::sha256;
 use reference::table::{equations, house_equation};
@@ -58,14 +57,14 @@ const RULES: Rules = Rules {
 };
 
 /// Checks by these rules a proof of the right form.
-unsafe fn check_by(rules: &Rules, p: Proving) -> u64 {
-    let result = p.right();
-    if ![0, 7, 8].contains(&result) {
+fn check_by(rules: &Rules, i: &mut Input) -> u64 {
+    let in_form = CALL.tests.iter().filter(|test| !matches!(test.number, 7 | 8));
+    if let Some(result) = stopped(i, in_form) {
         return result;
     }
-    let (root, given) = (p.root.bytes(), &p.proof.bytes()[HEAD..]);
-    let equations = equations(p.depth, p.table.bytes()).expect("a table");
-    let head = Head::read(&equations, p.proof.bytes()).expect("a head");
+    let (root, given) = (&i["root"], &i["proof"][HEAD..]);
+    let equations = equations(i.number("depth"), &i["table"]).expect("a table");
+    let head = Head::read(&equations, &i["proof"]).expect("a head");
     let members = (rules.members)(head, equations[head.layer][head.equation].clone());
     let height = head.layer + 1;
     let others = (0..members.len() - 1).map(|other| symbol_at(given, other * height));
@@ -94,90 +93,89 @@ unsafe fn check_by(rules: &Rules, p: Proving) -> u64 {
 
 #[test]
 fn right_rules_pass() {
-    as_proof_check!(f, |p| check_by(&RULES, p));
-    compare(&Library { proof_check: f, ..RIGHT }).unwrap_or_else(|failure| panic!("{failure}"));
+    passes(&CALL, |i| check_by(&RULES, i));
 }
 
 // Hashes.
 
-wrong!(no_hash_compared, Difference::Result { expected: 7, found: 0 | 8 }, |p| {
-    check_by(&Rules { skipped: |_| true, ..RULES }, p)
+wrong!(no_hash_compared, Difference::Result { expected: 7, found: 0 | 8 }, |i| {
+    check_by(&Rules { skipped: |_| true, ..RULES }, i)
 });
 
-wrong!(withheld_path_unchecked, Difference::Result { expected: 7, found: 0 }, |p| {
-    check_by(&Rules { skipped: |look| look.on_withheld_path(), ..RULES }, p)
+wrong!(withheld_path_unchecked, Difference::Result { expected: 7, found: 0 }, |i| {
+    check_by(&Rules { skipped: |look| look.on_withheld_path(), ..RULES }, i)
 });
 
-wrong!(top_of_withheld_path_unchecked, Difference::Result { expected: 7, found: 0 }, |p| {
-    check_by(&Rules { skipped: |look| look.on_withheld_path() && look.layer == 0, ..RULES }, p)
+wrong!(top_of_withheld_path_unchecked, Difference::Result { expected: 7, found: 0 }, |i| {
+    check_by(&Rules { skipped: |look| look.on_withheld_path() && look.layer == 0, ..RULES }, i)
 });
 
-wrong!(middle_of_withheld_path_unchecked, Difference::Result { expected: 7, found: 0 }, |p| {
-    check_by(&Rules { skipped: |look| look.on_withheld_path() && look.layer == 2, ..RULES }, p)
+wrong!(middle_of_withheld_path_unchecked, Difference::Result { expected: 7, found: 0 }, |i| {
+    check_by(&Rules { skipped: |look| look.on_withheld_path() && look.layer == 2, ..RULES }, i)
 });
 
-wrong!(members_unchecked, Difference::Result { expected: 7, found: 0 }, |p| {
-    check_by(&Rules { skipped: |look| look.is_member(), ..RULES }, p)
+wrong!(members_unchecked, Difference::Result { expected: 7, found: 0 }, |i| {
+    check_by(&Rules { skipped: |look| look.is_member(), ..RULES }, i)
 });
 
-wrong!(last_given_member_unchecked, Difference::Result { expected: 7, found: 0 }, |p| {
+wrong!(last_given_member_unchecked, Difference::Result { expected: 7, found: 0 }, |i| {
     let skipped: fn(&Look) -> bool =
         |look| look.is_member() && look.index == (look.members - 2) * (look.head.layer + 1);
-    check_by(&Rules { skipped, ..RULES }, p)
+    check_by(&Rules { skipped, ..RULES }, i)
 });
 
-wrong!(eighth_member_unchecked, Difference::Result { expected: 7, found: 0 }, |p| {
+wrong!(eighth_member_unchecked, Difference::Result { expected: 7, found: 0 }, |i| {
     check_by(
         &Rules {
             skipped: |look| look.index / (look.head.layer + 1) == 6 && look.members == 8,
             ..RULES
         },
-        p,
+        i,
     )
 });
 
-wrong!(paths_unchecked, Difference::Result { expected: 7, found: 0 | 8 }, |p| {
-    check_by(&Rules { skipped: |look| !look.is_member(), ..RULES }, p)
+wrong!(paths_unchecked, Difference::Result { expected: 7, found: 0 | 8 }, |i| {
+    check_by(&Rules { skipped: |look| !look.is_member(), ..RULES }, i)
 });
 
-wrong!(root_unchecked, Difference::Result { expected: 7, found: 0 | 8 }, |p| {
-    check_by(&Rules { skipped: |look| look.layer == 0, ..RULES }, p)
+wrong!(root_unchecked, Difference::Result { expected: 7, found: 0 | 8 }, |i| {
+    check_by(&Rules { skipped: |look| look.layer == 0, ..RULES }, i)
 });
 
-wrong!(one_layer_unchecked, Difference::Result { expected: 7, found: 0 | 8 }, |p| {
-    check_by(&Rules { skipped: |look| look.layer == 3, ..RULES }, p)
+wrong!(one_layer_unchecked, Difference::Result { expected: 7, found: 0 | 8 }, |i| {
+    check_by(&Rules { skipped: |look| look.layer == 3, ..RULES }, i)
 });
 
-wrong!(last_byte_of_a_hash_unchecked, Difference::Result { expected: 7, found: 0 | 8 }, |p| {
-    check_by(&Rules { compared: 0..HASH - 1, ..RULES }, p)
+wrong!(last_byte_of_a_hash_unchecked, Difference::Result { expected: 7, found: 0 | 8 }, |i| {
+    check_by(&Rules { compared: 0..HASH - 1, ..RULES }, i)
 });
 
 // The withheld member.
 
-wrong!(withheld_hash_from_the_first_path, Difference::Result { .. }, |p| {
-    check_by(&Rules { withheld_in: |_, height| height.min(2) - 1, ..RULES }, p)
+wrong!(withheld_hash_from_the_first_path, Difference::Result { .. }, |i| {
+    check_by(&Rules { withheld_in: |_, height| height.min(2) - 1, ..RULES }, i)
 });
 
-wrong!(withheld_hash_from_the_last_given_path, Difference::Result { .. }, |p| {
+wrong!(withheld_hash_from_the_last_given_path, Difference::Result { .. }, |i| {
     let last = |path: usize, height: usize| if height > 1 { path + 1 - height } else { path };
-    check_by(&Rules { withheld_in: last, ..RULES }, p)
+    check_by(&Rules { withheld_in: last, ..RULES }, i)
 });
 
-wrong!(last_byte_of_the_withheld_hash, Difference::Result { expected: 0, found: 8 }, |p| {
-    check_by(&Rules { withheld: 0..HASH - 1, ..RULES }, p)
+wrong!(last_byte_of_the_withheld_hash, Difference::Result { expected: 0, found: 8 }, |i| {
+    check_by(&Rules { withheld: 0..HASH - 1, ..RULES }, i)
 });
 
-wrong!(first_byte_of_the_withheld_hash, Difference::Result { expected: 0, found: 8 }, |p| {
-    check_by(&Rules { withheld: 1..HASH, ..RULES }, p)
+wrong!(first_byte_of_the_withheld_hash, Difference::Result { expected: 0, found: 8 }, |i| {
+    check_by(&Rules { withheld: 1..HASH, ..RULES }, i)
 });
 
-wrong!(no_fault_before_hashes, Difference::Result { expected: 7, found: 8 }, |p| {
-    check_by(&Rules { fault_first: true, ..RULES }, p)
+wrong!(no_fault_before_hashes, Difference::Result { expected: 7, found: 8 }, |i| {
+    check_by(&Rules { fault_first: true, ..RULES }, i)
 });
 
 // Members.
 
-wrong!(members_of_the_house_table, Difference::Result { .. }, |p| {
+wrong!(members_of_the_house_table, Difference::Result { .. }, |i| {
     let members = |head: Head, members: Vec<usize>| {
         let house = house_equation(4 << head.layer, head.equation);
         let alike = house.len() == members.len() && house.contains(&head.withheld);
@@ -187,38 +185,36 @@ wrong!(members_of_the_house_table, Difference::Result { .. }, |p| {
             members
         }
     };
-    check_by(&Rules { members, ..RULES }, p)
+    check_by(&Rules { members, ..RULES }, i)
 });
 
-wrong!(members_descending, Difference::Result { .. }, |p| {
+wrong!(members_descending, Difference::Result { .. }, |i| {
     let members = |_: Head, members: Vec<usize>| members.into_iter().rev().collect();
-    check_by(&Rules { members, ..RULES }, p)
+    check_by(&Rules { members, ..RULES }, i)
 });
 
 // Answers.
 
-wrong!(every_proof_turned_down, Difference::Result { expected: 0, found: 8 }, |p| {
-    match p.right() {
+wrong!(every_proof_turned_down, Difference::Result { expected: 0, found: 8 }, |i| {
+    match right(i) {
         0 => 8,
         r => r,
     }
 });
 
-wrong!(every_proof_of_a_lower_layer_turned_down, Difference::Result { expected: 0, .. }, |p| {
-    match p.right() {
-        0 if p.proof.bytes()[3] > 0 => 7,
+wrong!(every_proof_of_a_lower_layer_turned_down, Difference::Result { expected: 0, .. }, |i| {
+    match right(i) {
+        0 if i["proof"][3] > 0 => 7,
         r => r,
     }
 });
 
-wrong!(no_fault_accepted, Difference::Result { expected: 8, found: 0 }, |p| match p.right() {
+wrong!(no_fault_accepted, Difference::Result { expected: 8, found: 0 }, |i| match right(i) {
     8 => 0,
     r => r,
 });
 
-wrong!(accepted_is_1, Difference::Result { expected: 0, found: 1 }, |p| p.right().max(1));
-
-wrong!(layer_beside_7, Difference::Result { expected: 7, .. }, |p| match p.right() {
-    7 => 7 + 256 * u64::from(p.proof.bytes()[3]),
+wrong!(layer_beside_7, Difference::Result { expected: 7, .. }, |i| match right(i) {
+    7 => 7 + 256 * u64::from(i["proof"][3]),
     r => r,
 });

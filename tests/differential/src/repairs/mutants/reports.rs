@@ -1,8 +1,10 @@
 //! Wrong reports, and a wrong output.
 
 use crate::difference::Difference;
-use crate::right::call::Call;
-use crate::right::repairs::Repairing;
+use crate::input::Input;
+use crate::library::right;
+use crate::mutants::wrong;
+use crate::repairs::REPAIR as CALL;
 use reference::proof::HEAD;
 use reference::tree::SYMBOL;
 
@@ -26,8 +28,8 @@ fn with_stored(result: u64, stored: u64) -> u64 {
 }
 
 /// `right`, with other symbols stored, where it is not refused.
-unsafe fn stored_as(r: Repairing, other: impl FnOnce(u64) -> u64) -> u64 {
-    let result = r.right();
+fn stored_as(i: &mut Input, other: impl FnOnce(u64) -> u64) -> u64 {
+    let result = right(i);
     match end(result) {
         Some(_) => with_stored(result, other(result)),
         None => result,
@@ -35,103 +37,103 @@ unsafe fn stored_as(r: Repairing, other: impl FnOnce(u64) -> u64) -> u64 {
 }
 
 /// The places marked 0.
-unsafe fn absent(r: Repairing) -> u64 {
-    r.marks.bytes().iter().filter(|&&mark| mark == 0).count() as u64
+fn absent(i: &Input) -> u64 {
+    i["marks"].iter().filter(|&&mark| mark == 0).count() as u64
 }
 
 // Symbols stored.
 
-wrong!(none_stored, Difference::Result { .. }, |r| stored_as(r, |_| 0));
+wrong!(none_stored, Difference::Result { .. }, |i| stored_as(i, |_| 0));
 
-wrong!(one_more_stored, Difference::Result { .. }, |r| stored_as(r, |result| stored(result) + 1));
+wrong!(one_more_stored, Difference::Result { .. }, |i| stored_as(i, |result| stored(result) + 1));
 
-wrong!(bad_copies_not_counted, Difference::Result { .. }, |r| {
-    let before = absent(r);
-    stored_as(r, |result| if end(result) == Some(0) { before } else { stored(result) })
+wrong!(bad_copies_not_counted, Difference::Result { .. }, |i| {
+    let before = absent(i);
+    stored_as(i, |result| if end(result) == Some(0) { before } else { stored(result) })
 });
 
-wrong!(all_gaps_counted, Difference::Result { .. }, |r| {
-    let before = absent(r);
-    stored_as(r, |_| before)
+wrong!(all_gaps_counted, Difference::Result { .. }, |i| {
+    let before = absent(i);
+    stored_as(i, |_| before)
 });
 
-wrong!(stored_only_when_whole, Difference::Result { .. }, |r| {
-    stored_as(r, |result| if end(result) == Some(0) { stored(result) } else { 0 })
+wrong!(stored_only_when_whole, Difference::Result { .. }, |i| {
+    stored_as(i, |result| if end(result) == Some(0) { stored(result) } else { 0 })
 });
 
-wrong!(stored_of_8_bits, Difference::Result { .. }, |r| stored_as(r, |result| stored(result)
+wrong!(stored_of_8_bits, Difference::Result { .. }, |i| stored_as(i, |result| stored(result)
     % 256));
 
 // The ends.
 
-wrong!(whole_for_unavailable, Difference::Result { .. }, |r| match r.right() {
+wrong!(whole_for_unavailable, Difference::Result { .. }, |i| match right(i) {
     result if end(result) == Some(2) => with_stored(0, stored(result)),
     result => result,
 });
 
-wrong!(twins_for_fault, Difference::Result { .. }, |r| match r.right() {
+wrong!(twins_for_fault, Difference::Result { .. }, |i| match right(i) {
     result if end(result) == Some(1) => result ^ 2 << 8,
     result => result,
 });
 
-wrong!(no_layer, Difference::Result { .. }, |r| match r.right() {
+wrong!(no_layer, Difference::Result { .. }, |i| match right(i) {
     result if end(result) == Some(2) => result % (1 << 48),
     result => result,
 });
 
-wrong!(layer_counted_from_1, Difference::Result { .. }, |r| match r.right() {
+wrong!(layer_counted_from_1, Difference::Result { .. }, |i| match right(i) {
     result if end(result) == Some(2) => result + (1 << 48),
     result => result,
 });
 
-wrong!(no_proof_length, Difference::Result { .. }, |r| match r.right() {
+wrong!(no_proof_length, Difference::Result { .. }, |i| match right(i) {
     result if end(result) == Some(1) => result % (1 << 48),
     result => result,
 });
 
-wrong!(whole_output_for_the_proof, Difference::Result { .. }, |r| match r.right() {
-    result if end(result) == Some(1) => result % (1 << 48) + ((r.output.len() as u64) << 48),
+wrong!(whole_output_for_the_proof, Difference::Result { .. }, |i| match right(i) {
+    result if end(result) == Some(1) => result % (1 << 48) + ((i["output"].len() as u64) << 48),
     result => result,
 });
 
 // The output.
 
 /// `right`, and then a change to the output with a proof.
-unsafe fn output_as(r: Repairing, change: impl Fn(&mut [u8], usize)) -> u64 {
-    let result = r.right();
+fn output_as(i: &mut Input, change: impl Fn(&mut [u8], usize)) -> u64 {
+    let result = right(i);
     if end(result) == Some(1) {
-        change(r.output.bytes_mut(), more(result) as usize);
+        change(&mut i["output"], more(result) as usize);
     }
     result
 }
 
-wrong!(no_proof_written, Difference::Inside { buffer: "output", .. }, |r| {
-    let before = r.output.bytes().to_vec();
-    output_as(r, |output, _| output.copy_from_slice(&before))
+wrong!(no_proof_written, Difference::Inside { buffer: "output", .. }, |i| {
+    let before = i["output"].clone();
+    output_as(i, |output, _| output.copy_from_slice(&before))
 });
 
-wrong!(rest_of_the_output_zeroed, Difference::Inside { buffer: "output", .. }, |r| {
-    output_as(r, |output, len| output[len..].fill(0))
+wrong!(rest_of_the_output_zeroed, Difference::Inside { buffer: "output", .. }, |i| {
+    output_as(i, |output, len| output[len..].fill(0))
 });
 
-wrong!(last_byte_of_the_proof, Difference::Inside { buffer: "output", .. }, |r| {
-    output_as(r, |output, len| output[len - 1] ^= 1)
+wrong!(last_byte_of_the_proof, Difference::Inside { buffer: "output", .. }, |i| {
+    output_as(i, |output, len| output[len - 1] ^= 1)
 });
 
-wrong!(head_in_the_other_byte_order, Difference::Inside { buffer: "output", .. }, |r| {
-    output_as(r, |output, _| output[..HEAD].chunks_mut(4).for_each(|word| word.reverse()))
+wrong!(head_in_the_other_byte_order, Difference::Inside { buffer: "output", .. }, |i| {
+    output_as(i, |output, _| output[..HEAD].chunks_mut(4).for_each(|word| word.reverse()))
 });
 
-wrong!(withheld_path_not_written, Difference::Inside { buffer: "output", .. }, |r| {
-    let before = r.output.bytes().to_vec();
-    output_as(r, |output, len| {
+wrong!(withheld_path_not_written, Difference::Inside { buffer: "output", .. }, |i| {
+    let before = i["output"].clone();
+    output_as(i, |output, len| {
         let start = len - SYMBOL * usize::from(output[3]);
         output[start..len].copy_from_slice(&before[start..len]);
     })
 });
 
-wrong!(members_in_another_order, Difference::Inside { buffer: "output", .. }, |r| {
-    output_as(r, |output, _| {
+wrong!(members_in_another_order, Difference::Inside { buffer: "output", .. }, |i| {
+    output_as(i, |output, _| {
         let given = SYMBOL * (1 + usize::from(output[3]));
         let (_, rest) = output.split_at_mut(HEAD);
         let (first, rest) = rest.split_at_mut(given);
@@ -139,10 +141,10 @@ wrong!(members_in_another_order, Difference::Inside { buffer: "output", .. }, |r
     })
 });
 
-wrong!(output_zeroed_at_the_start, Difference::Inside { buffer: "output", .. }, |r| {
-    let result = r.right();
+wrong!(output_zeroed_at_the_start, Difference::Inside { buffer: "output", .. }, |i| {
+    let result = right(i);
     if matches!(end(result), Some(0 | 2)) {
-        r.output.bytes_mut().fill(0);
+        i["output"].fill(0);
     }
     result
 });

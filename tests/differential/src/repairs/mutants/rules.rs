@@ -1,8 +1,8 @@
 //! A repairer by rules that can be others than 01's.
 
+use crate::input::Input;
+use crate::library::stopped;
 use crate::results::repaired;
-use crate::right::call::{Call, Part};
-use crate::right::repairs::Repairing;
 use reference::proof::{self, Head};
 use reference::repair::{End, Repaired};
 use reference::sha256::sha256;
@@ -77,20 +77,14 @@ pub const RULES: Rules = Rules {
 };
 
 /// Repairs by these rules what is not refused.
-pub unsafe fn repair_by(rules: &Rules, r: Repairing) -> u64 {
-    let (mut tree, mut marks) = (r.tree.bytes().to_vec(), r.marks.bytes().to_vec());
-    let mut output = r.output.bytes().to_vec();
-    let (tree, marks) = (Part::of_mut(&mut tree), Part::of_mut(&mut marks));
-    let apart = Repairing { tree, marks, output: Part::of_mut(&mut output), ..r };
-    let result = apart.right();
-    if result % 256 != 0 {
+pub fn repair_by(rules: &Rules, i: &mut Input) -> u64 {
+    if let Some(result) = stopped(i, i.call.tests) {
         return result;
     }
-    let equations = equations(r.depth, r.table.bytes()).expect("a table");
-    let lent = r.tree.bytes().to_vec();
-    let (tree, marks) = (r.tree.bytes_mut(), r.marks.bytes_mut());
-    let output = r.output.bytes_mut();
-    let mut work = Work { rules, root: r.root.bytes(), lent, tree, marks, output, stored: 0 };
+    let equations = equations(i.number("depth"), &i["table"]).expect("a table");
+    let lent = i["tree"].clone();
+    let [root, _, tree, marks, output] = i.all();
+    let mut work = Work { rules, root, lent, tree, marks, output, stored: 0 };
     let end = work.all_layers(&equations);
     repaired(Ok(Repaired { end, stored: work.stored }))
 }

@@ -2,15 +2,12 @@
 
 use super::rules::{repair_by, Rules, Taken, Zeroed, RULES};
 use crate::difference::Difference;
-use crate::repairs::compare;
-use crate::right::repairs::as_repair;
-use crate::right::RIGHT;
-use cedunmi_sys::Library;
+use crate::mutants::{passes, wrong};
+use crate::repairs::REPAIR as CALL;
 
 #[test]
 fn right_rules_pass() {
-    as_repair!(f, |r| repair_by(&RULES, r));
-    compare(&Library { repair: f, ..RIGHT }).unwrap_or_else(|failure| panic!("{failure}"));
+    passes(&CALL, |i| repair_by(&RULES, i));
 }
 
 /// A test that a repairer by another rule differs as the pattern says, or in
@@ -20,7 +17,7 @@ macro_rules! other_rule {
         other_rule!($name, $rule: $value, Difference::Result { .. } | Difference::Inside { .. });
     };
     ($name:ident, $rule:ident: $value:expr, $difference:pat) => {
-        wrong!($name, $difference, |r| repair_by(&Rules { $rule: $value, ..RULES }, r));
+        wrong!($name, $difference, |i| repair_by(&Rules { $rule: $value, ..RULES }, i));
     };
 }
 

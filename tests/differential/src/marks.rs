@@ -1,0 +1,67 @@
+//! Marks that a call reads: test 4, and calls with every mark.
+
+#[cfg(test)]
+pub mod mutants;
+
+use crate::call::Test;
+use crate::comparisons::Comparisons;
+use crate::difference::Compared;
+use crate::random::Random;
+use reference::tree::marks_in_form;
+
+/// Marks that are none.
+pub const BAD_MARKS: [u8; 4] = [2, 3, 128, 255];
+
+pub const MARKS: Test = Test {
+    number: 4,
+    ask: |i| marks_in_form(&i["marks"]),
+    spoil: |i, random| spoil_mark(&mut i["marks"], random),
+    own: &[bad_marks],
+};
+
+/// Gives a random symbol a mark that is none.
+pub fn spoil_mark(marks: &mut [u8], random: &mut Random) {
+    let at = random.below(marks.len());
+    marks[at] = BAD_MARKS[random.below(BAD_MARKS.len())];
+}
+
+/// Each place alone with a mark that is none, and several beside random marks.
+fn bad_marks(c: &mut Comparisons, size: usize) -> Compared {
+    let mut input = c.good(size);
+    for place in 0..input["marks"].len() {
+        let mark = BAD_MARKS[place / 3 % BAD_MARKS.len()];
+        let before = std::mem::replace(&mut input["marks"][place], mark);
+        c.make("one bad mark", &input)?;
+        input["marks"][place] = before;
+    }
+    for turn in 0..200 {
+        input["marks"].fill_with(|| c.random.below(2) as u8);
+        for _ in 0..1 + turn % 4 {
+            spoil_mark(&mut input["marks"], &mut c.random);
+        }
+        c.make("some bad marks", &input)?;
+    }
+    Ok(())
+}
+
+/// Each place alone absent, and many.
+pub fn absent(c: &mut Comparisons) -> Compared {
+    for &size in c.call.sizes {
+        let mut input = c.good(size);
+        for place in 0..input["marks"].len() {
+            if place % 16 == 0 {
+                input = c.good(size);
+            }
+            input["marks"][place] = 0;
+            c.make("one absent", &input)?;
+            input["marks"][place] = 1;
+        }
+        for turn in 0..150 {
+            let mut input = c.good(size);
+            let some = [2, 8, 32][turn % 3];
+            input["marks"].fill_with(|| c.random.below(some).min(1) as u8);
+            c.make("random marks", &input)?;
+        }
+    }
+    Ok(())
+}

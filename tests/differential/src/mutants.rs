@@ -1,0 +1,90 @@
+//! Functions that are wrong in one way each. The comparison must find every one
+//! of them, in the place where it is wrong. `described` has those that come from
+//! the descriptions; a call's own are in its module.
+
+pub mod described;
+
+use crate::call::{Ask, Call, Test};
+use crate::comparisons::compare;
+use crate::difference::Difference;
+use crate::input::Input;
+use crate::library::{by, Function, Library};
+use crate::CALLS;
+use std::thread;
+
+/// A test that a wrong function, over a copy of what it is lent, differs as the
+/// pattern says. `CALL` is the call.
+macro_rules! wrong {
+    ($name:ident, $difference:pat, $body:expr) => {
+        #[test]
+        fn $name() {
+            let body: fn(&mut $crate::input::Input) -> u64 = $body;
+            let place = |d: &$crate::difference::Difference| matches!(d, $difference);
+            let function = $crate::library::by(&CALL, body);
+            $crate::mutants::find(&CALL, stringify!($name), function, place).unwrap();
+        }
+    };
+}
+
+/// The same of a call that asks the test of a number otherwise.
+macro_rules! wrong_test {
+    ($name:ident, $number:literal, $difference:pat, $ask:expr) => {
+        wrong!($name, $difference, |i| {
+            let ask: $crate::call::Ask = $ask;
+            $crate::library::by_tests(i, &$crate::mutants::asked(&CALL, $number, ask))
+        });
+    };
+}
+
+pub(crate) use {wrong, wrong_test};
+
+/// Whether the comparison finds a wrong function in its place.
+pub fn find(
+    call: &'static Call,
+    name: &str,
+    function: Function,
+    place: impl Fn(&Difference) -> bool,
+) -> Result<(), String> {
+    match compare(call, &Library::right().with(call, function)) {
+        Ok(_) => Err(format!("{}, {name}: it passed", call.name)),
+        Err(failure) if place(&failure.difference) => Ok(()),
+        Err(failure) => Err(format!("{}, {name}: found elsewhere, {failure}", call.name)),
+    }
+}
+
+/// A function that must pass.
+pub fn passes(call: &'static Call, body: impl Fn(&mut Input) -> u64 + 'static) {
+    let library = Library::right().with(call, by(call, body));
+    compare(call, &library).unwrap_or_else(|failure| panic!("{failure}"));
+}
+
+/// The tests of a call, one of them asked otherwise.
+pub fn asked(call: &Call, number: u64, ask: Ask) -> Vec<Test> {
+    let other = |test: &Test| if test.number == number { Test { ask, ..*test } } else { *test };
+    call.tests.iter().map(other).collect()
+}
+
+/// What is wrong with every call, each asked in a thread.
+fn for_every_call(wrong: fn(&'static Call) -> Vec<String>) {
+    let calls: Vec<_> = CALLS.iter().map(|&call| thread::spawn(move || wrong(call))).collect();
+    let wrong: Vec<String> = calls.into_iter().flat_map(|call| call.join().unwrap()).collect();
+    assert!(wrong.is_empty(), "{}", wrong.join("\n"));
+}
+
+/// So the descriptions are the reference's.
+#[test]
+fn the_right_library_passes() {
+    for_every_call(|call| {
+        let failure = compare(call, &Library::right()).err();
+        failure.map(|failure| failure.to_string()).into_iter().collect()
+    });
+}
+
+#[test]
+fn every_mutant_of_a_description_is_found() {
+    for_every_call(|call| {
+        let mutants = described::mutants(call);
+        println!("{}: {} mutants", call.name, mutants.len());
+        mutants.into_iter().filter_map(|mutant| mutant.find(call).err()).collect()
+    });
+}

@@ -1,0 +1,100 @@
+//! Wrong heads and lengths.
+
+use crate::difference::Difference;
+use crate::input::Input;
+use crate::library::right;
+use crate::mutants::wrong;
+use crate::proofs::{named, PROOF_CHECK as CALL};
+use reference::proof::{proof_len, HEAD};
+use reference::table::{self, equations};
+
+const VALUE: u32 = (1 << 30) - 1;
+
+/// `right` with a word of the head taken for another.
+fn head_as(i: &mut Input, at: usize, taken_for: fn(u32) -> u32) -> u64 {
+    let mut seen = i.clone();
+    if let Some(bytes) = seen["proof"].get_mut(4 * at..4 * at + 4) {
+        bytes.copy_from_slice(&taken_for(word(i, at)).to_be_bytes());
+    }
+    right(&mut seen)
+}
+
+/// A word of the head.
+fn word(i: &Input, at: usize) -> u32 {
+    i["proof"][4 * at..4 * at + 4].iter().fold(0, |word, &byte| word << 8 | u32::from(byte))
+}
+
+/// A test that a check is found which takes a word of the head for another.
+macro_rules! wrong_word {
+    ($name:ident, $at:literal, $taken_for:expr) => {
+        wrong!($name, Difference::Result { expected: 6, .. }, |i| head_as(i, $at, $taken_for));
+    };
+}
+
+wrong_word!(first_kind_not_tested, 0, |word| 1 << 30 | word & VALUE);
+wrong_word!(second_kind_not_tested, 1, |word| 2 << 30 | word & VALUE);
+wrong_word!(third_kind_not_tested, 2, |word| 3 << 30 | word & VALUE);
+wrong_word!(layer_of_8_bits, 0, |word| word & 0xc000_00ff);
+wrong_word!(equation_of_16_bits, 1, |word| word & 0xc000_ffff);
+wrong_word!(withheld_of_29_bits, 2, |word| word & 0xdfff_ffff);
+
+wrong!(only_the_last_withheld, Difference::Result { expected: 0 | 7 | 8, found: 6 }, |i| {
+    match right(i) {
+        0 | 7 | 8 if word(i, 2) & VALUE != (4 << (word(i, 0) & VALUE)) + (word(i, 1) & VALUE) => 6,
+        result => result,
+    }
+});
+
+/// The table with the withheld number among the members of the equation that
+/// the head names, in the place of the first.
+fn with_named_member(i: &Input) -> Option<Vec<u8>> {
+    let mut layers = equations(i.number("depth"), &i["table"]).ok()?;
+    let [layer, equation, withheld] = [(0, 1), (1, 2), (2, 3)]
+        .map(|(at, kind): (usize, u32)| (word(i, at) ^ kind << 30) as usize);
+    let members = layers.get_mut(layer)?.get_mut(equation)?;
+    if withheld >= members[members.len() - 1] {
+        return None;
+    }
+    members[0] = withheld;
+    members.sort_unstable();
+    Some(table::to_bytes(&table::write(&layers)))
+}
+
+wrong!(members_named_in_the_proof, Difference::Result { expected: 6, .. }, |i| match right(i) {
+    6 => with_named_member(i).map_or(6, |table| {
+        let mut seen = i.clone();
+        seen["table"] = table;
+        right(&mut seen)
+    }),
+    result => result,
+});
+
+wrong!(hash_for_head, Difference::Result { expected: 6, found: 7 }, |i| match right(i) {
+    6 => 7,
+    result => result,
+});
+
+wrong!(layer_of_no_tree_is_no_fault, Difference::Result { expected: 6, found: 8 }, |i| {
+    match right(i) {
+        6 if i["proof"][0] == 0x7f => 8,
+        result => result,
+    }
+});
+
+wrong!(longest_proof_first, Difference::Result { found: 2, .. }, |i| match right(i) {
+    result if result > 2 && i["proof"].len() > 9996 => 2,
+    result => result,
+});
+
+wrong!(longer_proof_taken, Difference::Result { expected: 2, .. }, |i| {
+    let mut seen = i.clone();
+    if let Some((head, members)) = named(i) {
+        seen["proof"].truncate(proof_len(head.layer, members));
+    }
+    right(&mut seen)
+});
+
+wrong!(no_head_and_no_length, Difference::Result { expected: 2, .. }, |i| match right(i) {
+    2 if i["proof"].len() == HEAD => 7,
+    result => result,
+});
