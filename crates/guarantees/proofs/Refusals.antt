@@ -250,10 +250,10 @@ module _ (m : List ℕ) (j i : ℕ) (low : getD m (place tree j i) 0 ≤ 1) wher
 
 -- ---- hasher and table
 
-hasher : (m d : List ℕ) → JustWhen (numberOf (hashAnswer (answer m d))) 0 (hashTests m d)
+hasher : (m d : List ℕ) → Just (hashAnswer (answer m d)) (hashTests m d)
 unfolding answer fits
 hasher m d =
-    pick-ind (λ (a : Hashed). JustWhen (numberOf (hashAnswer a)) 0 (hashTests m d)) (leb (length m) longest && eqb (length d) 32)
+    pick-ind (λ (a : Hashed). Just (hashAnswer a) (hashTests m d)) (leb (length m) longest && eqb (length d) 32)
     (λ t.
     let (p, q) = and-yes (leb (length m) longest) (eqb (length d) 32) t in
     passes-unless (leb-true (length m) longest p, eqb-true (length d) 32 q) all-done)

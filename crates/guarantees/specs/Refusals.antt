@@ -152,7 +152,7 @@ pub record Refusals : Type 0 where
   pub done-call : (a : Answer) → (numberOf a ≡ 0) ↔ (a ≡ Done)
   pub done-read : (a : Read) → (numberOf (readAnswer a) ≡ 0) ↔ (a ≡ Whole)
   pub done-hash : (a : Hashed) → (numberOf (hashAnswer a) ≡ 0) ↔ (a ≡ hashed.Done)
-  pub hasher : (m d : List ℕ) → JustWhen (numberOf (hashAnswer (answer m d))) 0 (hashTests m d)
+  pub hasher : (m d : List ℕ) → JustWhen (numberOf (hashAnswer (answer m d))) (valueOf (hashAnswer (answer m d))) (hashTests m d)
   pub table-words : (d : ℕ) (ws : List ℕ) → JustWhen (numberOf (readAnswer (readOf d ws))) (valueOf (readAnswer (readOf d ws))) (wordsTests d ws)
   pub table-bytes : (d : ℕ) (b : List ℕ) → JustWhen (numberOf (readAnswer (readBytesOf d b))) (valueOf (readAnswer (readBytesOf d b))) (tableTests d b)
   pub house-words : (d n : ℕ)
