@@ -12,15 +12,28 @@ use Rattle.parity_table.specs.Table.{equationOf}
 use Rattle.octets.proofs.Choice.{by-test, both}
 use Rattle.model.specs.Shape.{Shape, ShapeOk}
 use Rattle.model.specs.Repair.{End, whole, unavailable, St, endAs, absentAt}
-use Rattle.model.specs.Ends.{Roomy, Stopping, Largest, Closed, gapAt, Complete, Drained, Always}
+use Rattle.model.specs.Ends.{Within, Roomy, Stopping, Largest, Closed, gapAt, Complete, Drained, Always}
 use Rattle.model.specs.Alike.{kindOf}
-use Rattle.model.specs.Finals.{LastLayer, Final}
+use Rattle.model.specs.Finals.{Grown, LastLayer, Final}
 use Rattle.model.proofs.Counts.{every-none}
 use Rattle.model.proofs.Tables.{TableLaws}
-use Rattle.model.proofs.Peel.{NoTake, largest-of}
+use Rattle.model.proofs.Peel.{NoTake}
 use Rattle.model.proofs.Storing.{Mid, grown-mid}
 use Rattle.model.proofs.Peeling.{Stop, always-at, passed-lower}
 use Rattle.model.proofs.Confluence.{complete-grown}
+
+-- In a layer that has grown from what was lent, where only gaps are absent and no equation can be taken, what is absent is the largest stopping set
+-- within the gaps.
+pub closed-largest : (S : Shape) (H : ℕ → ℕ → List ℕ → List ℕ) (root : List ℕ) (tbl : List (List (List ℕ))) (t₀ m₀ t m : List ℕ) (j : ℕ)
+    → Grown S H root tbl t₀ m₀ t m j → Closed S tbl t j (absentAt S m j) → Within (S .n j) (absentAt S m j) (gapAt S H root t₀ m₀ t j)
+    → Largest S tbl j (gapAt S H root t₀ m₀ t j) (absentAt S m j)
+unfolding Stopping
+closed-largest S H root tbl t₀ m₀ t m j grown closed inside =
+    record {
+      inside = inside;
+      stopping = λ e h c. ⊎-elim (λ z. omega (arith, z .0)) (λ two. omega arith) (closed e h);
+      contains = λ u w n. grown u w (λ e h _ _. n e h);
+    }
 
 module _ (S : Shape) (sh : ShapeOk S) (H : ℕ → ℕ → List ℕ → List ℕ) (root : List ℕ) (tbl : List (List (List ℕ))) (ok : TableLaws S tbl) (t₀ m₀ o₀ : List ℕ) (ho : Roomy tbl o₀) where
   -- before layer d, with every layer above it complete
@@ -32,18 +45,13 @@ module _ (S : Shape) (sh : ShapeOk S) (H : ℕ → ℕ → List ℕ → List ℕ
     pub out-kept : st .out ≡ o₀
 
   module _ (j : ℕ) (hj : j < length tbl) (m₁ : List ℕ) (st : St) (mid : Mid S sh H root tbl ok t₀ m₀ o₀ ho j hj m₁ st) (none-left : NoTake S H root tbl ok j hj st) where
-    -- what is absent is the largest stopping set within the gaps
-    largest-here : Largest S tbl j (gapAt S H root t₀ m₀ (st .tree) j) (absentAt S (st .marks) j)
-    largest-here =
-        let lg : Largest S tbl j (absentAt S m₁ j) (absentAt S (st .marks) j) = largest-of S H root tbl ok j hj (absentAt S m₁ j) st (mid .inv) none-left in
-        record {
-          inside = λ x h t. sym (mid .gap-is x h) ∙ lg .inside x h t;
-          stopping = lg .stopping;
-          contains = λ u w n x h t. lg .contains u (λ y k q. mid .gap-is y k ∙ w y k q) n x h t;
-        }
-
     closed-here : Closed S tbl (st .tree) j (absentAt S (st .marks) j)
     closed-here e he = passed-lower S sh H root tbl ok t₀ m₀ o₀ ho j hj m₁ st mid e he (none-left e he)
+
+    largest-here : Largest S tbl j (gapAt S H root t₀ m₀ (st .tree) j) (absentAt S (st .marks) j)
+    largest-here =
+        closed-largest S H root tbl t₀ m₀ (st .tree) (st .marks) j (grown-mid S sh H root tbl ok t₀ m₀ o₀ ho j hj m₁ st mid j (sym (mid .last))) closed-here
+        (λ x h t. sym (mid .gap-is x h) ∙ mid .inv .inside x t)
 
     -- gaps are left
     pub stop-at : (i : ℕ) → i < S .n j → absentAt S (st .marks) j i ≡ true → Stop S H root tbl t₀ m₀ o₀ (endAs (unavailable j) st) (unavailable j)

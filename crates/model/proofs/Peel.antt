@@ -1,4 +1,4 @@
--- Peeling a layer ends at the largest stopping set within its gaps.
+-- What holds in the peeling of a layer: a set of its gaps that no used equation meets exactly once is absent still.
 use mathlib.Core.Path.{_≡_, refl, sym, ap, _∙_, subst}
 use mathlib.Core.Logic.{_⊎_, inl, inr, _≢_, ⊎-elim}
 use mathlib.Core.Bool.{Bool, true, false, not, _&&_}
@@ -8,13 +8,13 @@ use native.Mathlib.Omega.{arith}
 use lib.ListN.{length, getD, set, length-set}
 use lib.Seq.{getD-set-same, getD-set-other}
 use lib.Dec.{leb, ltb, eqb}
-use borrow.Author.Tests.{lt-ltb, ltb-true, ltb-false, leb-true, leb-false, eqb-true, eqb-false}
+use borrow.Author.Tests.{lt-ltb, ltb-true, ltb-false, leb-true, eqb-true, eqb-false}
 use Rattle.parity_table.specs.Members.{lastOf}
 use Rattle.parity_table.specs.Table.{layerOf, equationOf}
 use Rattle.octets.proofs.Choice.{by-test, and-yes, yes-and, both}
 use Rattle.model.specs.Shape.{Shape, place}
 use Rattle.model.specs.Symbols.{bit, count, firstOf}
-use Rattle.model.specs.Ends.{Within, Stopping, Largest}
+use Rattle.model.specs.Ends.{Within}
 use Rattle.model.specs.Repair.{going, St, useEq, writeFault, writeTwins, absentAt, storeSym, takeable, lowestEq, restOf, act, step, peel}
 use Rattle.model.proofs.Counts.{and-no, isIt, count-mono, count-same, count-less, firstOf-counts, every-at}
 use Rattle.model.proofs.Tables.{TableLaws}
@@ -189,17 +189,6 @@ module _ (S : Shape) (H : ℕ → ℕ → List ℕ → List ℕ) (root : List �
       (λ less. settled g f r i′ (omega arith) ge′)
       (uses st e (equationOf tbl j e) (omega (arith, i .listed)) (and-yes (eqb (getD (st .used) e 0) 0) (leb (count (absentAt S (st .marks) j) (equationOf tbl j e)) 1) tk .0)))
       (inv-step g st i) ge
-
-  -- Where nothing can be taken, what is absent is the largest stopping set within the gaps.
-  pub largest-of : (g : ℕ → Bool) (st : St) → InvSt g st → NoTake st → Largest S tbl j g (absentAt S (st .marks) j)
-  unfolding Stopping takeable
-  largest-of g st i nt =
-      record {
-        inside = λ x h t. i .inside x t;
-        stopping = λ e h c. ⊎-elim (λ n. omega (arith, i .done e h n)) (λ n. omega (arith, leb-false (count (absentAt S (st .marks) j) (equationOf tbl j e)) 1 n))
-            (and-no (eqb (getD (st .used) e 0) 0) (leb (count (absentAt S (st .marks) j) (equationOf tbl j e)) 1) (nt e h));
-        contains = λ s w n. largest-within g (st .marks) (st .used) i s w (λ e k _. n e k);
-      }
 
   -- the gaps of the layer satisfy the invariant when its peeling begins
   pub inv-start : (st : St) → ((x : ℕ) → x < S .n j → place S j x < length (st .marks)) → length (st .used) ≡ length (layerOf tbl j)
