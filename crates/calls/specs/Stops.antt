@@ -1,6 +1,5 @@
 -- The number of an answer, and the values that are returned with it: 01, "What stops a call". Definitions only.
 use Prim.Native.Nat.{ℕ, _^_, _<_}
-use Rattle.calls.specs.declared.Stop.{Stop}
 use Rattle.calls.specs.declared.Stop.the-variants.{Depth, Length, Table, Mark, Number, Head, Hash, NoFault, Absent}
 use Rattle.calls.specs.declared.Answer.{Answer}
 use Rattle.calls.specs.declared.Answer.the-variants.{Done, Stopped}

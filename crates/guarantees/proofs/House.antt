@@ -18,7 +18,6 @@ use Rattle.house_table.proofs.HouseRules.{house-rules, house-members}
 use Rattle.parity_table.proofs.Parse.{formed-rules, formed-words}
 use Rattle.house_table.proofs.HouseBytes.{house-bytes-words}
 use Rattle.guarantees.specs.Tables.{IsMember}
-use Rattle.guarantees.specs.Trees.{members}
 use Rattle.guarantees.specs.Terms.{equationsOf}
 use Rattle.guarantees.specs.House.{WordsOf, HouseMember, HouseTable}
 use Rattle.guarantees.proofs.Layouts.{word-at}

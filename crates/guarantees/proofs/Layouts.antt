@@ -4,7 +4,7 @@ use mathlib.Core.List.{List, [], _∷_}
 use Prim.Native.Nat.{ℕ, zero, suc, _+_, _-_, _*_, _/_, _%_, _≤_, _<_}
 use native.Mathlib.Omega.{arith}
 use lib.ListN.{length, getD, take, drop, getD-replicate}
-use lib.Seq.{drop-drop, ext-getD}
+use lib.Seq.{ext-getD}
 use lib.Bits.{bitXor}
 use Rattle.octets.specs.BigEndian.{wordAt}
 use Rattle.octets.specs.ByteLists.{xors}
@@ -18,11 +18,6 @@ use Rattle.model.proofs.Bytes.{length-zeros}
 use Rattle.guarantees.specs.Layouts.{bytesFrom, symbolNo, dataSymbols, allSymbols, treeSymbols, placeOf, symbolAt, markAt, spread, hashFor, xorRun, XorOf, upFrom, wordNo}
 
 -- ---- bytes
-
--- bytes of what follows the first a
-pub bytes-after : (b : List ℕ) (a c n : ℕ) → bytesFrom (drop a b) c n ≡ bytesFrom b (a + c) n
-unfolding bytesFrom
-bytes-after b a c n = ap (take n) (drop-drop c a b)
 
 pub symbol-in : (s : List ℕ) (x : ℕ) → symbolNo s x ≡ symbolIn s x
 unfolding bytesFrom symbolIn

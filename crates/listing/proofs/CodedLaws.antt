@@ -1,12 +1,11 @@
 -- A block coded with the house table of depth 1, and what is printed of it.
 use mathlib.Core.Path.{_≡_, refl, sym, ap, _∙_}
-use mathlib.Core.Bool.{Bool, true, false, _&&_}
+use mathlib.Core.Bool.{Bool, true, _&&_}
 use mathlib.Core.List.{List, []}
 use Prim.Native.Nat.{ℕ, _*_}
 use native.Mathlib.Omega.{arith}
 use lib.ListN.{length, replicate}
 use lib.Dec.{eqb}
-use borrow.Author.Tests.{eq-eqb}
 use Rattle.octets.specs.BigEndian.{bytesOf}
 use Rattle.octets.specs.Choice.{pick}
 use Rattle.octets.proofs.Choice.{by-test, pick-yes, pick-no, yes-and}

@@ -12,7 +12,7 @@ use borrow.Author.Tests.{ltb-true}
 use Rattle.parity_table.specs.Table.{layerOf, equationOf}
 use Rattle.model.specs.Shape.{Shape, ShapeOk}
 use Rattle.model.specs.Symbols.{symbolIn, others, count, symAt}
-use Rattle.model.specs.Coded.{Digests, Agrees, Collision, CollisionWith}
+use Rattle.model.specs.Coded.{Digests, Collision}
 use Rattle.model.specs.Writer.{blockOf, writtenRoot, Written}
 use Rattle.model.specs.Fault.{proofLayer, proofEquation, proofWithheld, proofLength, body, next, afterGiven, proofMembers, proofGiven, accepted, verdict, InWay, InGiven, InPath, ProofHolds}
 use Rattle.model.specs.Repair.{St, whole}
@@ -20,7 +20,7 @@ use Rattle.model.specs.Ends.{WholeEnd, FaultEnd, EndOk, Ended}
 use Rattle.model.proofs.Counts.{isIt, every-member, ascending-once, length-others}
 use Rattle.model.proofs.Tables.{TableLaws}
 use Rattle.model.proofs.Binding.{original-block}
-use Rattle.model.proofs.Sound.{accepted-is, sound}
+use Rattle.model.proofs.Sound.{accepted-is}
 use Rattle.model.proofs.FaultWriter.{head-values}
 use Rattle.model.proofs.Peeling.{taken-member}
 
@@ -71,11 +71,6 @@ fault-head S H root tbl ok o₀ j e x n st hj end =
     let (l, q, w) =
     head-values S (symAt S (st .tree)) j e x ms (omega (arith, ok .shallow)) (omega (arith, ok .sizes j hj, ok .narrow j hj)) (omega (arith, ok .narrow j hj)) in
     (ap proofLayer (end .proof) ∙ l, ap proofEquation (end .proof) ∙ q, ap proofWithheld (end .proof) ∙ w)
-
--- a fault end and a tree that agrees
-pub fault-collision : (S : Shape) → ShapeOk S → (H : ℕ → ℕ → List ℕ → List ℕ) → Digests H → (tbl : List (List (List ℕ))) → TableLaws S tbl → (root o₀ : List ℕ) (j e x n : ℕ) (st : St)
-    → FaultEnd S H root tbl o₀ j e x n st → (f : ℕ → ℕ → List ℕ) → Agrees S H tbl root f → CollisionWith S H tbl (ProofHolds S tbl (take n (st .out))) f
-fault-collision S sh H digests tbl ok root o₀ j e x n st end f agr = sound S sh H digests tbl root f agr ok (take n (st .out)) (end .accepts)
 
 -- a whole end, with the root that was written for a block
 pub whole-block : (S : Shape) → ShapeOk S → (H : ℕ → ℕ → List ℕ → List ℕ) → Digests H → (tbl : List (List (List ℕ))) (block t : List ℕ) → Written S H tbl block t

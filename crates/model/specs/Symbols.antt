@@ -1,10 +1,9 @@
 -- Symbols, their exclusive-or, and where a hash stands: 01, "Layers" and "Parity table". Definitions only.
-use mathlib.Core.Bool.{Bool, true, false, _&&_}
+use mathlib.Core.Bool.{Bool, true, false}
 use mathlib.Core.List.{List, [], _∷_, _++_}
 use Prim.Native.Nat.{ℕ, zero, suc, _+_, _*_, _/_, _%_}
 use lib.ListN.{take, drop, replicate}
 use lib.Seq.{paste}
-use lib.Bits.{bitXor}
 use lib.Dec.{eqb}
 use Rattle.octets.specs.ByteLists.{xors}
 use Rattle.octets.specs.Choice.{pick}

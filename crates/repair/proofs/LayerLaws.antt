@@ -34,7 +34,7 @@ use Rattle.peeling.specs.States.{endOf as endAfter}
 use Rattle.peeling.specs.declared.Outcome.{Outcome}
 use Rattle.peeling.specs.declared.Outcome.the-variants as outcome
 use Rattle.repair.specs.Buffers.{Given}
-use Rattle.repair.specs.Reports.{Layered, endOf, passes, settled}
+use Rattle.repair.specs.Reports.{Layered, passes, settled}
 use Rattle.repair.specs.declared.layer.Passage.{Passage}
 
 -- ---- what its calls ask

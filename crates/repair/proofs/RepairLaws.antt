@@ -20,7 +20,7 @@ use Rattle.repair.specs.declared.layer.Passage.{Passage}
 use Rattle.repair.specs.declared.layer.Passage.the-variants.{On, Stop}
 use Rattle.symbol_hash.specs.SymbolHash.{symbolHash}
 use Rattle.symbol_hash.specs.declared.Kind.{Kind}
-use Rattle.model.specs.Repair.{End, St, working}
+use Rattle.model.specs.Repair.{St, working}
 use Rattle.repair.specs.declared.End.{End as Ended}
 use Rattle.repair.specs.declared.End.the-variants as ended
 use Rattle.parity_table.specs.declared.Answer.the-variants.{Whole}

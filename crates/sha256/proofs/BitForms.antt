@@ -6,9 +6,9 @@ use native.Mathlib.Omega.{arith}
 use lib.Arith.{digits-lt, mod-mul}
 use lib.Pow.{pow-add, pow-pos, shr-lt, shl-shr, shr-shr, mod-pow-add}
 use lib.Bits.{bitAnd, bitOr, bitXor, and-comm, and-mask, or-shifted-r, xor-add-and, xor-block, xor-shr, xor-mod, xor-lt}
-use Rattle.octets.proofs.Bits.{Bitwise, OnBits, bitwise-equal, xor-half, xor-bit, and-half, and-bit, xor-assoc, and-xor}
+use Rattle.octets.proofs.Bits.{bitwise-equal, xor-half, xor-bit, and-half, and-bit, xor-assoc, and-xor}
 use Rattle.sha256.specs.Words.{rotr, complement}
-use Rattle.sha256.specs.Functions.{ch, maj, bigSigma0, bigSigma1}
+use Rattle.sha256.specs.Functions.{ch, maj}
 
 -- ---- Maj and Ch
 

@@ -10,7 +10,7 @@ use Rattle.octets.specs.BigEndian.{be, bytesOf}
 use Rattle.octets.proofs.Bytes.{length-be, length-bytesOf}
 use Rattle.octets.proofs.Stores.{take-sets}
 use Rattle.sha256.specs.Constants.{initial}
-use Rattle.sha256.specs.Padding.{pad, block}
+use Rattle.sha256.specs.Padding.{pad}
 use Rattle.sha256.specs.Hash.{added, compress, hashed, sha256}
 
 length-hashed : (p : List ℕ) (n : ℕ) → length (hashed p n) ≡ 8

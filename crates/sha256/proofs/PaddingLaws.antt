@@ -1,10 +1,10 @@
 -- The padded message and its last blocks.
 use mathlib.Core.Path.{_≡_, refl, sym, ap, ap₂, _∙_}
 use mathlib.Core.List.{List, [], _∷_, _++_, append-assoc, append-nil}
-use Prim.Native.Nat.{ℕ, zero, suc, _+_, _-_, _*_, _/_, _%_, _^_, _≤_, _<_}
+use Prim.Native.Nat.{ℕ, suc, _+_, _-_, _*_, _/_, _%_, _^_, _≤_, _<_}
 use native.Mathlib.Omega.{arith}
 use native.Mathlib.Numerals.{add-one}
-use lib.ListN.{length, getD, take, drop, set, replicate, length-append, length-replicate, length-drop, length-take, replicate-append-replicate, drop-of-length-le}
+use lib.ListN.{length, take, drop, set, replicate, length-append, length-replicate, length-drop, replicate-append-replicate, drop-of-length-le}
 use lib.Seq.{sets, sets-eq, take-append-le, drop-append-le, take-all, take-take, take-at, drop-at, drop-drop, set-at, take-length, paste}
 use Rattle.octets.specs.BigEndian.{be}
 use Rattle.octets.proofs.Bytes.{length-be}

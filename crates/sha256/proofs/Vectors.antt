@@ -1,7 +1,6 @@
 -- The standard's own examples, computed of the definition. Their digests were made by another implementation.
 use mathlib.Core.Path.{_≡_, refl}
-use mathlib.Core.List.{List, [], _∷_}
-use Prim.Native.Nat.{ℕ}
+use mathlib.Core.List.{[], _∷_}
 use Rattle.octets.specs.BigEndian.{be, wordAt, words, bytesOf}
 use Rattle.sha256.specs.Functions.{ch, maj, bigSigma0, bigSigma1, smallSigma0, smallSigma1}
 use Rattle.sha256.specs.Constants.{constants, initial}

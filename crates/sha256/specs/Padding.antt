@@ -1,5 +1,5 @@
 -- FIPS 180-4, sections 5.1.1 and 5.2.1: the padded message and its blocks. Definitions only.
-use mathlib.Core.List.{List, [], _∷_, _++_}
+use mathlib.Core.List.{List, _∷_, _++_}
 use Prim.Native.Nat.{ℕ, _+_, _-_, _*_, _%_}
 use lib.ListN.{length, take, drop, replicate}
 use Rattle.octets.specs.BigEndian.{be}

@@ -7,8 +7,6 @@ mod state; // section 6.2.2: the hash value, and a block taken in
 mod padding; // sections 5.1.1 and 6.2.2: all blocks of a message
 
 ghost use mathlib.Core.Path.{_≡_};
-ghost use Prim.Native.Nat.{_≤_};
-ghost use lib.ListN.{length};
 ghost use Rattle.sha256.specs.Call.{answer, after};
 
 // What the hasher answers.

@@ -8,7 +8,6 @@ use crate::functions::maj;
 use std::num::wrapping_add_u32;
 ghost use mathlib.Core.Path.{_≡_};
 ghost use Prim.Native.Nat.{_+_, _<_};
-ghost use lib.ListN.{getD};
 ghost use Rattle.sha256.specs.Constants.{constants};
 ghost use Rattle.sha256.specs.Hash.{temp1 as sTemp1, temp2 as sTemp2, round as sRound, rounds as sRounds};
 

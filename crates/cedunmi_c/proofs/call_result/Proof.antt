@@ -3,7 +3,6 @@ use mathlib.Core.Path.{_∙_}
 use native.Mathlib.Omega.{arith}
 use borrow.Author.Needs.{needs}
 use Rattle.calls.proofs.TestLaws.{number-low}
-use Rattle.cedunmi_c.specs.Result.{packed}
 use Rattle.cedunmi_c.proofs.ResultLaws.{packed-is}
 use Rattle.cedunmi_c.proofs.call_result.Statement.{statement}
 use Rattle.cedunmi_c.proofs.call_result.Tie as tie

@@ -4,7 +4,7 @@ use borrow.Author.Needs.{needs}
 use Rattle.calls.specs.Stops.{Small}
 use Rattle.volume_calls.proofs.ReadingLaws.{small}
 use Rattle.calls.specs.declared.Answer.{Answer}
-use Rattle.volume_calls.specs.Reading.{BlockLeft, leaves}
+use Rattle.volume_calls.specs.Reading.{BlockLeft}
 use Rattle.cedunmi_c.proofs.ResultLaws.{block-left}
 use Rattle.cedunmi_c.proofs.cmt_block_read.Statement.{statement}
 use Rattle.cedunmi_c.proofs.cmt_block_read.Tie as tie

@@ -1,7 +1,7 @@
 -- `cmt_repair` meets its contract: what the call answers, packed, and leaves.
 use mathlib.Core.Path.{sym, ap, subst}
 use borrow.Author.Needs.{needs}
-use Rattle.fault_calls.specs.Repairing.{Result, RepairLeft, leaves, Fits}
+use Rattle.fault_calls.specs.Repairing.{Result, RepairLeft, Fits}
 use Rattle.fault_calls.proofs.Ends.{repair-fits}
 use Rattle.cedunmi_c.proofs.ResultLaws.{repair-left}
 use Rattle.cedunmi_c.proofs.cmt_repair.Statement.{statement}

@@ -4,7 +4,7 @@ use borrow.Author.Needs.{needs}
 use Rattle.calls.specs.Stops.{Small}
 use Rattle.sample_calls.proofs.TakingLaws.{small}
 use Rattle.calls.specs.declared.Answer.{Answer}
-use Rattle.sample_calls.specs.Taking.{SampleLeft, leaves}
+use Rattle.sample_calls.specs.Taking.{SampleLeft}
 use Rattle.cedunmi_c.proofs.ResultLaws.{sample-left}
 use Rattle.cedunmi_c.proofs.cmt_sample_take.Statement.{statement}
 use Rattle.cedunmi_c.proofs.cmt_sample_take.Tie as tie

@@ -4,7 +4,7 @@ use borrow.Author.Needs.{needs}
 use Rattle.calls.specs.Stops.{Small}
 use Rattle.volume_calls.proofs.WritingLaws.{small}
 use Rattle.calls.specs.declared.Answer.{Answer}
-use Rattle.volume_calls.specs.Writing.{TreeLeft, leaves}
+use Rattle.volume_calls.specs.Writing.{TreeLeft}
 use Rattle.cedunmi_c.proofs.ResultLaws.{tree-left}
 use Rattle.cedunmi_c.proofs.cmt_tree_write.Statement.{statement}
 use Rattle.cedunmi_c.proofs.cmt_tree_write.Tie as tie

@@ -5,7 +5,7 @@ use native.Mathlib.Omega.{arith}
 use Rattle.coded_tree.proofs.MarkLaws.{absent-is, held-is}
 use Rattle.model.proofs.Counts.{lowest-hit, lowest-none, lowest-pass}
 use Rattle.model.specs.Repair.{absentAt}
-use Rattle.model.specs.Shape.{places, tree}
+use Rattle.model.specs.Shape.{places}
 use Rattle.model.specs.Symbols.{lowest}
 use Rattle.model.specs.Shape.{tree as shape}
 use Rattle.coded_tree.proofs.marks.first_absent.Statement.{statement}

@@ -1,5 +1,5 @@
 -- `list` meets its contract. The loop keeps `Putting`: what is left is the lines from symbol i on.
-use mathlib.Core.Path.{_≡_, ap, _∙_}
+use mathlib.Core.Path.{ap, _∙_}
 use mathlib.Core.List.{List}
 use Prim.Native.Nat.{ℕ, _+_, _-_, _≤_}
 use native.Mathlib.Omega.{arith}
@@ -7,7 +7,6 @@ use lib.ListN.{length, take}
 use lib.Seq.{sets}
 use borrow.Author.Needs.{needs}
 use Rattle.octets.proofs.Writes.{Putting, putting-start, putting-step, putting-room, putting-end}
-use Rattle.listing.specs.Listing.{line}
 use Rattle.listing.proofs.TextLaws.{lineOf, linesLeft, lines-turn, lines-none, lines-length, symbol-length, line-of, listed, headed}
 use Rattle.listing.proofs.text.list.Statement.{statement}
 use Rattle.listing.proofs.text.list.Tie as tie
