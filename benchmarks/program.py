@@ -22,7 +22,7 @@ def symbols(depth):
 
 
 def fail(message):
-    sys.exit(f"benchmarks/run: {message}")
+    sys.exit(f"benchmarks: {message}")
 
 
 def environment(changes):
@@ -52,9 +52,9 @@ def build():
     cargo(["build"], PACKAGE)
 
 
-def run(words, changes=(), before=()):
-    """Runs the program, and gives what it and `before` wrote."""
-    command = [*before, str(PROGRAM), *map(str, words)]
+def run(words, changes=(), before=(), built=PROGRAM):
+    """Runs the program as it was built there, and gives what it and `before` wrote."""
+    command = [*before, str(built), *map(str, words)]
     done = subprocess.run(command, env=environment(dict(changes)), capture_output=True, text=True,
                           check=False)
     if done.returncode:
@@ -62,9 +62,9 @@ def run(words, changes=(), before=()):
     return done.stdout + done.stderr
 
 
-def shortest(words, changes=()):
+def shortest(words, changes=(), built=PROGRAM):
     """The fewest nanoseconds of one process, by the other words of the lines that it prints."""
-    lines = [line.split() for line in run(words, changes).splitlines()]
+    lines = [line.split() for line in run(words, changes, built=built).splitlines()]
     return {tuple(key): float(nanoseconds) for *key, nanoseconds in lines}
 
 
@@ -81,9 +81,9 @@ def best_of(command):
     return best
 
 
-def instructions(words, changes):
-    valgrind = ["valgrind", "--tool=callgrind", "--callgrind-out-file=/dev/null"]
-    for line in run(words, changes, valgrind).splitlines():
+def instructions(words, changes=(), options=(), built=PROGRAM):
+    valgrind = ["valgrind", "--tool=callgrind", "--callgrind-out-file=/dev/null", *options]
+    for line in run(words, changes, valgrind, built).splitlines():
         if "Collected :" in line:
             return int(line.split()[-1])
     return fail("valgrind gave no count")

@@ -1,5 +1,6 @@
 //! The implementations of SHA-256 that are compared.
 
+use crate::calls;
 use crate::openssl;
 use sha2::{Digest, Sha256};
 
@@ -16,7 +17,7 @@ pub static HASHERS: [Hasher; 4] = [
 ];
 
 fn cedunmi(message: &[u8], digest: &mut [u8; 32]) {
-    cedunmi_sys::sha256(message, digest);
+    calls::sha256(message, digest);
 }
 
 fn reference(message: &[u8], digest: &mut [u8; 32]) {

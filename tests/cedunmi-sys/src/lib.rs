@@ -41,7 +41,7 @@ argument!(usize, Length);
 macro_rules! declare {
     ($($name:ident($($argument:ident: $kind:ty),* $(,)?);)*) => {
         extern "C" {
-            $(fn $name($($argument: $kind),*) -> u64;)*
+            $(pub fn $name($($argument: $kind),*) -> u64;)*
         }
 
         pub const FUNCTIONS: &[(&str, Function)] = &[$((stringify!($name), {
