@@ -77,7 +77,20 @@ pub struct Test {
     pub spoil: fn(&mut Input, &mut Random),
     /// The comparisons that every call with this test has, at each size.
     pub own: &'static [fn(&mut Comparisons, usize) -> Compared],
+    /// Wrong ways to ask it, each with its name.
+    #[cfg(test)]
+    pub wrong: &'static [(&'static str, Ask)],
 }
+
+/// What a test need not say.
+pub const TEST: Test = Test {
+    number: 0,
+    ask: |_| unreachable!(),
+    spoil: |_, _| unreachable!(),
+    own: &[],
+    #[cfg(test)]
+    wrong: &[],
+};
 
 /// A buffer of a description.
 #[derive(Clone, Copy)]
@@ -149,8 +162,8 @@ impl Length {
             Length::Of(right) => sizes.iter().map(|&size| right(size)).collect(),
             Length::Within { least, most, step } => {
                 let near = |limit: usize| [limit.wrapping_sub(1), limit, limit.wrapping_add(1)];
-                let edges =
-                    near(least).into_iter().chain(near(most)).chain([most.wrapping_add(step)]);
+                let beyond = (1..step).map(|more| least + more).chain([most.wrapping_add(step)]);
+                let edges = near(least).into_iter().chain(near(most)).chain(beyond);
                 edges.filter(|&len| len < 1 << 24).collect()
             }
         }

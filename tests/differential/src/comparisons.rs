@@ -1,7 +1,7 @@
 //! The comparisons of a call: those of its tests, those that all calls get from
 //! their descriptions, then its own.
 
-use crate::call::Call;
+use crate::call::{Call, Length};
 use crate::difference::{Compared, Difference, Failure};
 use crate::input::Input;
 use crate::lent::{Lent, ALIGNMENTS};
@@ -9,6 +9,7 @@ use crate::library::{Function, Library};
 use crate::met::Met;
 use crate::random::Random;
 use crate::results::{outcome, same};
+use reference::table::{house, to_bytes};
 use reference::tree::SYMBOL;
 
 const SEED: u64 = 3141;
@@ -119,14 +120,19 @@ impl Comparisons {
         first.checked_sub(1).into_iter().chain(sizes.iter().copied()).chain([last + 1]).collect()
     }
 
-    /// A good call, or, beside all sizes, buffers that would be as long as that.
+    /// A good call, or, beside all sizes, one that would be good if there were
+    /// that size: buffers as long, and a table of it.
     fn made_for(&mut self, size: usize) -> Input {
         let sizes = self.call.sizes;
         let mut input = self.good(size.clamp(sizes[0], sizes[sizes.len() - 1]));
-        if !sizes.contains(&size) {
-            for (buffer, bytes) in self.call.buffers().zip(&mut input.buffers) {
-                let len = buffer.length.edges(&[size])[0];
-                bytes.resize(len, 1);
+        if sizes.contains(&size) {
+            return input;
+        }
+        for (buffer, bytes) in self.call.buffers().zip(&mut input.buffers) {
+            match buffer.length {
+                Length::Of(right) => bytes.resize(right(size), 1),
+                Length::Within { .. } if buffer.name == "table" => *bytes = to_bytes(&house(size)),
+                Length::Within { .. } => {}
             }
         }
         input

@@ -9,27 +9,29 @@ use crate::difference::Compared;
 use crate::random::Random;
 use reference::tree::marks_in_form;
 
-/// Marks that are none.
-pub const BAD_MARKS: [u8; 4] = [2, 3, 128, 255];
-
 pub const MARKS: Test = Test {
     number: 4,
     ask: |i| marks_in_form(&i["marks"]),
     spoil: |i, random| spoil_mark(&mut i["marks"], random),
     own: &[bad_marks],
+    #[cfg(test)]
+    wrong: mutants::WRONG,
 };
 
+/// How many bytes are no marks: all from 2 on.
+const BAD_MARKS: usize = 254;
+
 /// Gives a random symbol a mark that is none.
-pub fn spoil_mark(marks: &mut [u8], random: &mut Random) {
+fn spoil_mark(marks: &mut [u8], random: &mut Random) {
     let at = random.below(marks.len());
-    marks[at] = BAD_MARKS[random.below(BAD_MARKS.len())];
+    marks[at] = 2 + random.below(BAD_MARKS) as u8;
 }
 
 /// Each place alone with a mark that is none, and several beside random marks.
 fn bad_marks(c: &mut Comparisons, size: usize) -> Compared {
     let mut input = c.good(size);
     for place in 0..input["marks"].len() {
-        let mark = BAD_MARKS[place / 3 % BAD_MARKS.len()];
+        let mark = 2 + (place % BAD_MARKS) as u8;
         let before = std::mem::replace(&mut input["marks"][place], mark);
         c.make("one bad mark", &input)?;
         input["marks"][place] = before;

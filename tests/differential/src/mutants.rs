@@ -88,3 +88,12 @@ fn every_mutant_of_a_description_is_found() {
         mutants.into_iter().filter_map(|mutant| mutant.find(call).err()).collect()
     });
 }
+
+/// So no pair of tests is called apart that the comparison tells in order.
+#[test]
+fn what_is_apart_is_never_asked_in_order() {
+    for_every_call(|call| {
+        let mutants = described::apart(call);
+        mutants.into_iter().filter_map(|mutant| mutant.pass(call).err()).collect()
+    });
+}

@@ -9,7 +9,7 @@ mod shown;
 mod mutants;
 
 use crate::call::Argument::{Number, Read};
-use crate::call::{Call, Length, Test, CALL};
+use crate::call::{Call, Length, Test, CALL, TEST};
 use crate::comparisons::Comparisons;
 use crate::difference::Compared;
 use crate::input::Input;
@@ -22,7 +22,7 @@ use crate::volumes::{equation_of, Volume};
 use reference::proof::{self, hash_for, proof_len, Head, HEAD};
 use reference::sha256::sha256;
 use reference::stop::Stop;
-use reference::table::{self, Layers};
+use reference::table::{self, Layers, END, EQUATION, LAYER};
 use reference::tree::{exactly, exclusive_or, symbol_at, ROOT, SYMBOL};
 
 pub static PROOF_CHECK: Call = Call {
@@ -35,7 +35,7 @@ pub static PROOF_CHECK: Call = Call {
         Read("proof", Length::Within { least: HEAD, most: usize::MAX, step: 1 }),
     ],
     tests: &[DEPTH, LENGTHS, WORDS, HEADS, BODIES, HASHES, FAULT],
-    apart: &[(3, 7), (3, 8), (6, 7), (6, 8)],
+    apart: &[(3, 7), (3, 8)],
     good: |depth, random| {
         let layer = random.below(depth);
         of_fault(depth, layer, random).0
@@ -80,8 +80,9 @@ const HEADS: Test = Test {
         (None, Some(head)) if [0, 4, 8].map(|at| head[at] >> 6) != [1, 2, 3] => Err(Stop::Head),
         _ => Ok(()),
     },
-    spoil: |i, random| i["proof"][random.below(HEAD / 2)] ^= 0x40,
-    own: &[],
+    // A kind, or a value that is none: the low bytes might stay in form.
+    spoil: |i, random| i["proof"][[0, 1, 2, 3, 4, 5, 8, 9, 10][random.below(9)]] ^= 0x40,
+    ..TEST
 };
 
 /// The length that the head demands, or, where it is out of form, some head.
@@ -93,23 +94,24 @@ const BODIES: Test = Test {
     },
     spoil: |i, random| {
         let len = i["proof"].len();
-        i["proof"].resize([len - 1, len + 1, len + SYMBOL][random.below(3)], 1);
+        let others = [len - 1, len + 1, len + SYMBOL, len + (1 << 16)];
+        i["proof"].resize(others[random.below(4)], 1);
     },
-    own: &[],
+    ..TEST
 };
 
 /// Every hash leads to the root.
 const HASHES: Test = Test {
     number: 7,
     ask: |i| match cut(i).map(|(mut i, ..)| (PROOF_CHECK.reference)(&mut i)) {
-        Some(7) => Err(Stop::Hash),
+        Some(result) if result % 256 == 7 => Err(Stop::Hash),
         _ => Ok(()),
     },
     spoil: |i, random| {
         let at = HEAD + random.below(i["proof"].len() - HEAD);
         i["proof"][at] ^= 4;
     },
-    own: &[],
+    ..TEST
 };
 
 /// The exclusive-or of the given members has another hash than the withheld.
@@ -125,7 +127,7 @@ const FAULT: Test = Test {
         let sound = Volume::new(i.number("depth") as usize, &words, random);
         *i = of(&sound, sound.proof(head));
     },
-    own: &[],
+    ..TEST
 };
 
 /// The equations of the table, where it is one.
@@ -134,21 +136,27 @@ fn table(input: &Input) -> Option<Layers> {
     table::equations(input.size()? as u64, &table[..TABLE_LEN.cut(None, table.len())]).ok()
 }
 
-/// The head and the number of members of its equation, where they are in form.
+/// The head and the number of members of its equation, where its values are in
+/// form, whatever its kinds.
 fn named(input: &Input) -> Option<(Head, usize)> {
     let table = table(input)?;
-    let head = Head::read(&table, input["proof"].get(..HEAD)?).ok()?;
+    let mut bytes = input["proof"].get(..HEAD)?.to_vec();
+    for (at, kind) in [(0, LAYER), (4, EQUATION), (8, END)] {
+        bytes[at] = bytes[at] & 0x3f | (kind << 6) as u8;
+    }
+    let head = Head::read(&table, &bytes).ok()?;
     Some((head, table[head.layer][head.equation].len()))
 }
 
-/// The call with what is too long cut, and what its head names, where that is
-/// in form and nothing is too short.
+/// The call with what is too long cut and the kinds of its head right, and what
+/// the head names, where that is in form and nothing is too short.
 fn cut(input: &Input) -> Option<(Input, Head, usize)> {
     let (head, members) = named(input)?;
     let len = proof_len(head.layer, members);
     let mut cut = input.cut(|_| true);
     cut.set("depth", input.size()? as u64);
     cut["proof"].truncate(len);
+    cut["proof"].splice(..HEAD, head.bytes());
     let whole = cut["proof"].len() == len && cut["root"].len() == ROOT;
     whole.then_some((cut, head, members))
 }

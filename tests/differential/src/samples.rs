@@ -32,6 +32,8 @@ pub const NUMBER: Test = Test {
         i.set("number", numbers[random.below(numbers.len())]);
     },
     own: &[every_wrong_number],
+    #[cfg(test)]
+    wrong: mutants::WRONG,
 };
 
 /// The base symbols of a depth.

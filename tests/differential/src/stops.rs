@@ -1,18 +1,26 @@
 //! The first tests of all calls, 1 and 2.
 
-use crate::call::Test;
+use crate::call::{Test, TEST};
 use crate::comparisons::large;
 use reference::stop::Stop;
-use reference::table::layers_of;
+use reference::table::{layers_of, MAX_DEPTH};
 
 /// The depths that there are.
-pub const DEPTHS: [usize; 5] = [1, 2, 3, 4, 5];
+pub const DEPTHS: [usize; MAX_DEPTH as usize] = {
+    let mut depths = [1; MAX_DEPTH as usize];
+    let mut at = 1;
+    while at < depths.len() {
+        depths[at] = depths[at - 1] + 1;
+        at += 1;
+    }
+    depths
+};
 
 pub const DEPTH: Test = Test {
     number: 1,
     ask: |i| layers_of(i.number("depth")).map(|_| ()),
     spoil: |i, random| i.set("depth", large(i.number("depth"))[random.below(5)]),
-    own: &[],
+    ..TEST
 };
 
 /// Of all buffers.
@@ -25,5 +33,5 @@ pub const LENGTHS: Test = Test {
             buffer.length.spoil(&mut i.buffers[b], random);
         }
     },
-    own: &[],
+    ..TEST
 };

@@ -17,9 +17,10 @@ use crate::input::Input;
 use crate::random::Random;
 use crate::results::number;
 use crate::stops::{DEPTH, DEPTHS, LENGTHS};
-use lists::{alterations, random_damage, random_table, some_table, table_of, WORD_KINDS};
+use lists::{alterations, random_damage, random_table, some_table, WORD_KINDS};
 use reference::stop::Stop;
-use reference::table::{self, check_words, house, layers_of, to_bytes, MAX_BYTES};
+use reference::table::{self, check_words, house, layers_of, to_bytes, to_words};
+use reference::table::{MAX_BYTES, MAX_DEPTH};
 
 pub static TABLE_CHECK: Call = Call {
     name: "table_check",
@@ -57,18 +58,16 @@ pub const TABLE_LEN: Length = Length::Within { least: 0, most: MAX_BYTES, step: 
 /// The rules of a table, where its length is wrong of its whole words.
 pub const WORDS: Test = Test {
     number: 3,
-    ask: |i| i.size().map_or(Ok(()), |depth| check_words(depth as u64, &words(&i["table"]))),
-    spoil: |i, random| {
-        let words = i["table"].len() / 4;
-        i["table"][4 * random.below(words)] ^= 0xc0;
+    ask: |i| i.size().map_or(Ok(()), |depth| check_words(depth as u64, &to_words(&i["table"]))),
+    // A word of another kind, or one after the end word.
+    spoil: |i, random| match (i["table"].len() / 4, random.below(4)) {
+        (_, 0) => i["table"].extend([0; 4]),
+        (words, _) => i["table"][4 * random.below(words)] ^= 0xc0,
     },
     own: &[damaged_tables],
+    #[cfg(test)]
+    wrong: mutants::WRONG,
 };
-
-/// The whole words of a table.
-fn words(table: &[u8]) -> Vec<u32> {
-    table.chunks_exact(4).map(|b| u32::from_be_bytes([b[0], b[1], b[2], b[3]])).collect()
-}
 
 pub fn house_len(depth: usize) -> usize {
     4 * house(depth).len()
@@ -86,12 +85,12 @@ pub fn to_fill(depth: u64, len: usize, random: &mut Random) -> Input {
 /// Depths that there are, depths beside them, and some that are one of them
 /// only where bits are lost.
 fn asked() -> impl Iterator<Item = u64> {
-    (0..=7).chain(large(1)).chain(large(5)).chain([u64::MAX])
+    (0..=MAX_DEPTH + 2).chain(large(1)).chain(large(MAX_DEPTH)).chain([u64::MAX])
 }
 
 /// House tables and random ones, each read for every depth.
 fn depths(c: &mut Comparisons) -> Compared {
-    for made_for in 0..=7 {
+    for made_for in 0..=MAX_DEPTH as usize + 2 {
         for words in [house(made_for), random_table(made_for, &mut c.random)] {
             for depth in asked() {
                 c.make("a table of some depth", &listed(depth, &words))?;
@@ -117,7 +116,7 @@ fn every_word(c: &mut Comparisons) -> Compared {
     Ok(())
 }
 
-/// Words after the end word, and equations of nine members.
+/// Words after the end word.
 fn more_words(c: &mut Comparisons) -> Compared {
     for depth in DEPTHS {
         let whole = house(depth);
@@ -129,9 +128,6 @@ fn more_words(c: &mut Comparisons) -> Compared {
                     c.make("words after the end word", &listed(depth as u64, &words))?;
                 }
             }
-        }
-        for size in 1..=10 {
-            c.make("equations of one size", &listed(depth as u64, &table_of(depth, size)))?;
         }
     }
     Ok(())
@@ -168,7 +164,7 @@ fn random_words(c: &mut Comparisons) -> Compared {
 /// Lengths that are no multiple of 4, or over the limit, or just not.
 fn byte_lengths(c: &mut Comparisons) -> Compared {
     for depth in asked() {
-        for made_for in 1..=7 {
+        for made_for in 1..=MAX_DEPTH as usize + 2 {
             let len = house_len(made_for);
             for other in (len - 9..len + 10).chain(MAX_BYTES - 9..MAX_BYTES + 10) {
                 let mut input = listed(depth, &house(made_for));
@@ -188,7 +184,7 @@ fn byte_lengths(c: &mut Comparisons) -> Compared {
 fn house_tables(c: &mut Comparisons) -> Compared {
     for depth in asked() {
         let near = |made_for| [-4, -1, 0, 1, 4].map(|more| house_len(made_for) as isize + more);
-        for len in (0..=7).flat_map(near).chain([0, 1, 4, 60, 16_384]) {
+        for len in (0..=MAX_DEPTH as usize + 2).flat_map(near).chain([0, 1, 4, 60, 16_384]) {
             let input = to_fill(depth, len as usize, &mut c.random);
             c.make("a length", &input)?;
         }

@@ -9,6 +9,7 @@ pub const WRONG: &[(&str, Ask)] = &[
     ("3 is absent", |i| bad_mark(i, |_, mark| mark > 1 && mark != 3)),
     ("128 is absent", |i| bad_mark(i, |_, mark| mark % 128 > 1)),
     ("255 is held", |i| bad_mark(i, |_, mark| mark > 1 && mark < 255)),
+    ("two bits tested", |i| bad_mark(i, |_, mark| mark & 0x82 != 0)),
     ("the first mark not tested", |i| bad_mark(i, |place, mark| place > 0 && mark > 1)),
     ("the last mark not tested", |i| {
         bad_mark(i, |place, mark| place + 1 < i["marks"].len() && mark > 1)

@@ -1,18 +1,15 @@
 //! Wrong functions that a description gives.
 
-use crate::call::{Ask, Call, Length, Test};
+use crate::call::{Call, Length, Test};
+use crate::comparisons::compare;
 use crate::difference::Difference;
 use crate::input::Input;
-use crate::library::{buffers, by, by_tests, right, Function};
+use crate::library::{buffers, by, by_tests, right, Function, Library};
 use crate::mutants::{asked, find};
 use crate::results::number;
-use crate::{marks, samples, tables};
 use cedunmi_sys::Word;
+use reference::table::{house, to_bytes};
 use std::rc::Rc;
-
-/// Wrong ways to ask the tests that calls share.
-const ASKED_OTHERWISE: &[(u64, &[(&str, Ask)])] =
-    &[(3, tables::mutants::WRONG), (4, marks::mutants::WRONG), (5, samples::mutants::WRONG)];
 
 /// The place of a byte to change, by the length of the buffer.
 pub type At = fn(isize) -> Option<isize>;
@@ -53,12 +50,29 @@ impl Mutant {
             _ => false,
         })
     }
+
+    /// Whether the comparison finds nothing.
+    pub fn pass(self, call: &'static Call) -> Result<(), String> {
+        match compare(call, &Library::right().with(call, self.function)) {
+            Ok(_) => Ok(()),
+            Err(failure) => Err(format!("{}, {}: it was found, {failure}", call.name, self.name)),
+        }
+    }
+}
+
+/// Calls that ask a test after one of which the description says that it cannot
+/// be asked then.
+pub fn apart(call: &'static Call) -> Vec<Mutant> {
+    let mut mutants = Mutants { call, all: Vec::new() };
+    mutants.of_orders(|pair| call.apart.contains(&pair));
+    mutants.all
 }
 
 pub fn mutants(call: &'static Call) -> Vec<Mutant> {
     let mut mutants = Mutants { call, all: Vec::new() };
     mutants.of_results();
     mutants.of_tests();
+    mutants.of_orders(|pair| pair.0 != pair.1 && !call.apart.contains(&pair));
     mutants.of_lengths();
     mutants.of_numbers();
     mutants.of_sizes();
@@ -95,58 +109,68 @@ impl Mutants {
     /// Other numbers and values.
     fn of_results(&mut self) {
         for number in numbers(self.call) {
-            for (what, changed) in [("as another number", 0x80), ("with another value", 0x100)] {
+            let bits =
+                [("as another number", 7), ("with another value", 8), ("with another second", 32)];
+            for (what, bit) in bits {
                 self.instead(format!("{number} {what}"), Place::For(number), move |_, result| {
-                    (result % 256 == number).then_some(result ^ changed)
+                    (result % 256 == number).then_some(result ^ 1 << bit)
                 });
             }
         }
     }
 
-    /// Tests left out, asked too early, or asked otherwise.
+    /// Tests left out, or asked otherwise.
     fn of_tests(&mut self) {
         let call = self.call;
-        for (t, &Test { number, .. }) in call.tests.iter().enumerate() {
+        for (t, test) in call.tests.iter().enumerate() {
+            let number = test.number;
             let without = by(call, move |i| by_tests(i, but(call, t)));
             self.add(format!("{number} left out"), Place::For(number), without);
-            for later in &call.tests[t + 1..] {
-                let apart = call.apart.contains(&(number, later.number));
-                if !apart && number != later.number {
-                    let name = format!("{number} after {}", later.number);
-                    self.instead(name, Place::As(later.number), move |i, _| early(i, t, later));
-                }
-            }
-            for (_, wrong) in ASKED_OTHERWISE.iter().filter(|(of, _)| *of == number) {
-                for &(what, ask) in *wrong {
-                    let wrong = by(call, move |i| by_tests(i, &asked(call, number, ask)));
-                    self.add(format!("{number}: {what}"), Place::Result, wrong);
-                }
+            for &(what, ask) in test.wrong {
+                let wrong = by(call, move |i| by_tests(i, &asked(call, number, ask)));
+                self.add(format!("{number}: {what}"), Place::Result, wrong);
             }
         }
     }
 
-    /// A length not tested, a longer buffer cut, a limit that is refused.
+    /// Tests asked too early, by the numbers of the two.
+    fn of_orders(&mut self, pairs: impl Fn((u64, u64)) -> bool) {
+        let tests = self.call.tests;
+        for (t, &Test { number, .. }) in tests.iter().enumerate() {
+            for later in tests[t + 1..].iter().filter(|later| pairs((number, later.number))) {
+                let name = format!("{number} after {}", later.number);
+                self.instead(name, Place::As(later.number), move |i, _| early(i, t, later));
+            }
+        }
+    }
+
+    /// Wrong lengths taken, or cut to a right one, each way of being wrong alone;
+    /// limits that are refused.
     fn of_lengths(&mut self) {
         let call = self.call;
         let lengths = call.tests.iter().position(|test| test.number == 2).expect("lengths");
         for (b, buffer) in call.buffers().enumerate() {
             let name = buffer.name;
-            self.instead(format!("{name} of any length"), Place::For(2), move |i, result| {
-                let alone = result == 2 && i.lengths_fit(|other| other != b);
-                alone.then(|| by_tests(&mut i.clone(), but(call, lengths)))
-            });
-            let mut limits = Vec::new();
-            if let Length::Within { least, most, .. } = buffer.length {
-                limits = vec![least, most];
-            }
-            if limits.last() == Some(&usize::MAX) {
-                limits.pop();
-            } else {
-                self.instead(format!("{name} cut"), Place::For(2), move |i, result| {
-                    (result == 2).then(|| right(&mut i.cut(|cut| cut == b)))
+            for Wrong { what, least, most, step, rest } in wrong_lengths(buffer.length) {
+                let so = move |i: &Input, result: u64| {
+                    let len = i.buffers[b].len();
+                    let hit = (least..=most).contains(&len) && len % step == rest;
+                    result == 2 && hit && i.lengths_fit(|other| other != b)
+                };
+                self.instead(format!("{name} {what} taken"), Place::For(2), move |i, result| {
+                    so(i, result).then(|| by_tests(&mut i.clone(), but(call, lengths)))
                 });
+                if what != SHORT {
+                    self.instead(format!("{name} {what} cut"), Place::For(2), move |i, result| {
+                        so(i, result).then(|| right(&mut i.cut(|cut| cut == b)))
+                    });
+                }
             }
-            for limit in limits {
+            let limits = match buffer.length {
+                Length::Within { least, most, .. } => vec![least, most],
+                Length::Of(_) => vec![],
+            };
+            for limit in limits.into_iter().filter(|&limit| limit < usize::MAX) {
                 self.instead(
                     format!("{name} of {limit} refused"),
                     Place::As(2),
@@ -172,7 +196,8 @@ impl Mutants {
         }
     }
 
-    /// Sizes that are refused, and such as there are not that are taken.
+    /// Sizes that are refused, and such as there are not that are taken where all
+    /// else is as for them.
     fn of_sizes(&mut self) {
         let Call { sizes, tests, .. } = *self.call;
         if self.call.numbers().next().is_none() {
@@ -182,7 +207,8 @@ impl Mutants {
             let (right, wrong) =
                 if sizes.contains(&size) { (0, tests[0].number) } else { (tests[0].number, 0) };
             self.instead(format!("size {size} as {wrong}"), Place::For(right), move |i, result| {
-                (i.numbers[0] == size as u64 && result % 256 == right).then_some(wrong)
+                let asked = i.numbers[0] == size as u64 && result % 256 == right;
+                (asked && (right == 0 || fits_size(i, size))).then_some(wrong)
             });
         }
     }
@@ -224,6 +250,39 @@ impl Mutants {
     }
 }
 
+/// Lengths that are wrong in one way: those from `least` to `most` that leave this
+/// rest by the step.
+struct Wrong {
+    what: String,
+    least: usize,
+    most: usize,
+    step: usize,
+    rest: usize,
+}
+
+/// A length that cannot be cut to a right one.
+const SHORT: &str = "too short";
+
+/// The ways in which a length can be wrong.
+fn wrong_lengths(length: Length) -> Vec<Wrong> {
+    let any = Wrong { what: "of any length".into(), least: 0, most: usize::MAX, step: 1, rest: 0 };
+    let (least, most, step) = match length {
+        Length::Within { least, most, step } => (least, most, step),
+        Length::Of(_) => return vec![any],
+    };
+    let mut ways = Vec::new();
+    if least > 0 {
+        ways.push(Wrong { what: SHORT.into(), most: least - 1, ..any });
+    }
+    if most < usize::MAX {
+        ways.push(Wrong { what: format!("over {most}"), least: most + 1, step, ..any });
+    }
+    let rests =
+        (1..step).map(|rest| Wrong { what: format!("of rest {rest}"), least, most, step, rest });
+    ways.extend(rests);
+    ways
+}
+
 /// The numbers that a description names.
 fn numbers(call: &Call) -> Vec<u64> {
     let mut numbers: Vec<u64> = call.tests.iter().map(|test| test.number).collect();
@@ -231,6 +290,14 @@ fn numbers(call: &Call) -> Vec<u64> {
     numbers.sort_unstable();
     numbers.dedup();
     numbers
+}
+
+/// Whether buffers, and a table where there is one, are those of a size.
+fn fits_size(input: &Input, size: usize) -> bool {
+    input.call.buffers().zip(&input.buffers).all(|(buffer, bytes)| match buffer.length {
+        Length::Of(right) => bytes.len() == right(size),
+        Length::Within { .. } => buffer.name != "table" || *bytes == to_bytes(&house(size)),
+    })
 }
 
 /// The tests of a call but one.

@@ -54,7 +54,7 @@ pub fn known_stopping_sets(c: &mut Comparisons) -> Compared {
 /// by any table.
 pub fn lost_parity(c: &mut Comparisons) -> Compared {
     for turn in 0..20 {
-        let depth = 1 + turn % 5;
+        let depth = DEPTHS[turn % DEPTHS.len()];
         let words = some_table(depth, &mut c.random);
         let volume = Volume::new(depth, &words, &mut c.random);
         let mut input = of(&volume, &mut c.random);

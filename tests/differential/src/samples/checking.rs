@@ -5,7 +5,7 @@ mod mutants;
 
 use super::{base_symbol, base_symbols, sample_len, NUMBER, SAMPLE_LEN};
 use crate::call::Argument::{Number, Read};
-use crate::call::{Call, Test, CALL};
+use crate::call::{Call, Test, CALL, TEST};
 use crate::comparisons::Comparisons;
 use crate::difference::Compared;
 use crate::input::Input;
@@ -57,7 +57,7 @@ const HASHES: Test = Test {
         let index = random.below(i["sample"].len() / SYMBOL);
         break_hash(i, index, random.below(HASH));
     },
-    own: &[],
+    ..TEST
 };
 
 /// A sample of a tree.

@@ -5,7 +5,7 @@ mod mutants;
 
 use super::{base_symbol, base_symbols, sample_len, NUMBER, SAMPLE_LEN};
 use crate::call::Argument::{Number, Read, Written};
-use crate::call::{Call, Test, CALL};
+use crate::call::{Call, Test, CALL, TEST};
 use crate::comparisons::Comparisons;
 use crate::difference::Compared;
 use crate::input::Input;
@@ -53,7 +53,7 @@ const ABSENT: Test = Test {
         let places = places(i);
         i["marks"][places[random.below(places.len())]] = 0;
     },
-    own: &[],
+    ..TEST
 };
 
 /// Buffers of the right lengths: random bytes, each symbol held.

@@ -1,13 +1,13 @@
 //! Wrong readers of tables, and wrong house tables.
 
-use super::{words, HOUSE_TABLE as CALL, TABLE_CHECK, WORDS};
+use super::{HOUSE_TABLE as CALL, TABLE_CHECK, WORDS};
 use crate::call::Ask;
 use crate::difference::Difference;
 use crate::input::Input;
 use crate::library::{by_tests, right};
 use crate::mutants::{asked, passes, wrong};
 use reference::stop::Stop;
-use reference::table::{check_words, house, to_bytes, END, EQUATION, LAYER};
+use reference::table::{check_words, house, to_bytes, to_words, END, EQUATION, LAYER};
 
 /// Wrong ways to ask test 3.
 pub const WRONG: &[(&str, Ask)] = &[
@@ -24,7 +24,7 @@ pub const WRONG: &[(&str, Ask)] = &[
     ("no place", |i| (WORDS.ask)(i).map_err(|_| Stop::Word(0))),
     ("words after the end word", |i| match ((WORDS.ask)(i), i.size()) {
         (Err(Stop::Word(at)), Some(depth)) => {
-            check_words(depth as u64, &words(&i["table"])[..at]).map_err(|_| Stop::Word(at))
+            check_words(depth as u64, &to_words(&i["table"])[..at]).map_err(|_| Stop::Word(at))
         }
         (result, _) => result,
     }),
@@ -36,6 +36,17 @@ pub const WRONG: &[(&str, Ask)] = &[
     ("a value of 29 bits", |i| read_by(&Rules { value: (1 << 29) - 1, ..RULES }, i)),
     ("end value free", |i| read_by(&Rules { end: false, ..RULES }, i)),
 ];
+
+/// `right`, but whether words follow the end word is asked after the test of a
+/// number.
+pub fn trailing_words_after(number: u64, i: &mut Input) -> u64 {
+    let mut shorter = i.clone();
+    shorter["table"].truncate(i["table"].len().saturating_sub(4));
+    match (right(i), right(&mut shorter)) {
+        (result, later) if result % 256 == 3 && later % 256 == number => later,
+        (result, _) => result,
+    }
+}
 
 /// Rules of a table, 01's or others.
 struct Rules {
@@ -59,7 +70,7 @@ fn read_by(rules: &Rules, input: &Input) -> Result<(), Stop> {
     if input.size() != Some(1) {
         return (WORDS.ask)(input);
     }
-    let words = words(&input["table"]);
+    let words = to_words(&input["table"]);
     let mut at = 0;
     opener(rules, &words, &mut at, LAYER, 0)?;
     for e in 0..12 {

@@ -5,7 +5,7 @@ mod mutants;
 
 use super::{block_len, tree_len, BLOCK_LEN, MARKS_LEN, TREE_LEN};
 use crate::call::Argument::{Number, Read, Written};
-use crate::call::{Call, Test, CALL};
+use crate::call::{Call, Test, CALL, TEST};
 use crate::comparisons::Comparisons;
 use crate::difference::Compared;
 use crate::input::Input;
@@ -55,7 +55,7 @@ const ABSENT: Test = Test {
         let needed = needed(i.number("depth") as usize);
         i["marks"][needed.start + random.below(needed.len())] = 0;
     },
-    own: &[],
+    ..TEST
 };
 
 /// The places of the block.

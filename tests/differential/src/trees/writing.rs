@@ -9,7 +9,6 @@ use crate::call::{Call, CALL};
 use crate::comparisons::Comparisons;
 use crate::difference::Compared;
 use crate::input::Input;
-use crate::marks::BAD_MARKS;
 use crate::messages::{Content, CONTENTS};
 use crate::random::Random;
 use crate::results::number;
@@ -69,7 +68,7 @@ fn blocks(c: &mut Comparisons) -> Compared {
 /// Whatever the buffers held, marks that are none too.
 fn lent_bytes(c: &mut Comparisons) -> Compared {
     for depth in DEPTHS {
-        for byte in [0, 1].into_iter().chain(BAD_MARKS) {
+        for byte in [0, 1, 2, 3, 128, 255] {
             let mut input = c.good(depth);
             ["tree", "marks", "root"].into_iter().for_each(|buffer| input[buffer].fill(byte));
             c.make_done("buffers of one byte", &input)?;

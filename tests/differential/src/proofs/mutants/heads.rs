@@ -5,6 +5,7 @@ use crate::input::Input;
 use crate::library::right;
 use crate::mutants::wrong;
 use crate::proofs::{named, PROOF_CHECK as CALL};
+use crate::tables::mutants::trailing_words_after;
 use reference::proof::{proof_len, HEAD};
 use reference::table::{self, equations};
 
@@ -81,9 +82,27 @@ wrong!(layer_of_no_tree_is_no_fault, Difference::Result { expected: 6, found: 8 
     }
 });
 
-wrong!(longest_proof_first, Difference::Result { found: 2, .. }, |i| match right(i) {
-    result if result > 2 && i["proof"].len() > 9996 => 2,
+wrong!(third_kind_after_the_length, Difference::Result { expected: 6, found: 2 }, |i| {
+    match head_as(i, 2, |word| 3 << 30 | word & VALUE) {
+        2 => 2,
+        _ => right(i),
+    }
+});
+
+wrong!(long_proof_before_the_table, Difference::Result { found: 2, .. }, |i| match right(i) {
+    result if result % 256 == 3 && i["proof"].len() > 16_384 => 2,
     result => result,
+});
+
+wrong!(long_proof_before_the_head, Difference::Result { expected: 6, found: 2 }, |i| {
+    match right(i) {
+        6 if i["proof"].len() > 16_384 => 2,
+        result => result,
+    }
+});
+
+wrong!(words_after_the_end_word_last, Difference::Result { found: 6, .. }, |i| {
+    trailing_words_after(6, i)
 });
 
 wrong!(longer_proof_taken, Difference::Result { expected: 2, .. }, |i| {

@@ -1,9 +1,10 @@
-//! Wrong steps.
+//! Wrong steps, and a test in a wrong place.
 
 use super::rules::{repair_by, Rules, Taken, Zeroed, RULES};
 use crate::difference::Difference;
 use crate::mutants::{passes, wrong};
 use crate::repairs::REPAIR as CALL;
+use crate::tables::mutants::trailing_words_after;
 
 #[test]
 fn right_rules_pass() {
@@ -20,6 +21,10 @@ macro_rules! other_rule {
         wrong!($name, $difference, |i| repair_by(&Rules { $rule: $value, ..RULES }, i));
     };
 }
+
+// Tests.
+
+wrong!(words_after_the_end_word_last, Difference::Result { .. }, |i| trailing_words_after(4, i));
 
 // Layers.
 
