@@ -1,7 +1,7 @@
 //! The comparisons of a call: those of its tests, those that all calls get from
 //! their descriptions, then its own.
 
-use crate::call::{Call, Length};
+use crate::call::Call;
 use crate::difference::{Compared, Difference, Failure};
 use crate::input::Input;
 use crate::lent::{Lent, ALIGNMENTS};
@@ -9,7 +9,6 @@ use crate::library::{Function, Library};
 use crate::met::Met;
 use crate::random::Random;
 use crate::results::{outcome, same};
-use reference::table::{house, to_bytes};
 use reference::tree::SYMBOL;
 
 const SEED: u64 = 3141;
@@ -121,19 +120,12 @@ impl Comparisons {
     }
 
     /// A good call, or, beside all sizes, one that would be good if there were
-    /// that size: buffers as long, and a table of it.
+    /// that size.
     fn made_for(&mut self, size: usize) -> Input {
         let sizes = self.call.sizes;
         let mut input = self.good(size.clamp(sizes[0], sizes[sizes.len() - 1]));
-        if sizes.contains(&size) {
-            return input;
-        }
-        for (buffer, bytes) in self.call.buffers().zip(&mut input.buffers) {
-            match buffer.length {
-                Length::Of(right) => bytes.resize(right(size), 1),
-                Length::Within { .. } if buffer.name == "table" => *bytes = to_bytes(&house(size)),
-                Length::Within { .. } => {}
-            }
+        if !sizes.contains(&size) {
+            input.make_for(size);
         }
         input
     }

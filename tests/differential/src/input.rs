@@ -1,6 +1,7 @@
 //! What a call is lent.
 
-use crate::call::Call;
+use crate::call::{Call, Length};
+use reference::table::{house, to_bytes};
 use std::ops::{Index, IndexMut};
 
 /// Numbers and buffers, in the order of the call's arguments.
@@ -65,6 +66,18 @@ impl Input {
             input.buffers[b].truncate(len);
         }
         input
+    }
+
+    /// Gives buffers the lengths of a size, whether there is that size or not, and
+    /// the call a table of it.
+    pub fn make_for(&mut self, size: usize) {
+        for (buffer, bytes) in self.call.buffers().zip(&mut self.buffers) {
+            match buffer.length {
+                Length::Of(right) => bytes.resize(right(size), 1),
+                Length::Within { .. } if buffer.name == "table" => *bytes = to_bytes(&house(size)),
+                Length::Within { .. } => {}
+            }
+        }
     }
 
     pub fn description(&self) -> String {

@@ -52,10 +52,17 @@ pub fn find(
     }
 }
 
+/// Whether the comparison finds nothing wrong with a function.
+pub fn pass(call: &'static Call, name: &str, function: Function) -> Result<(), String> {
+    match compare(call, &Library::right().with(call, function)) {
+        Ok(_) => Ok(()),
+        Err(failure) => Err(format!("{}, {name}: it was found, {failure}", call.name)),
+    }
+}
+
 /// A function that must pass.
 pub fn passes(call: &'static Call, body: impl Fn(&mut Input) -> u64 + 'static) {
-    let library = Library::right().with(call, by(call, body));
-    compare(call, &library).unwrap_or_else(|failure| panic!("{failure}"));
+    pass(call, "what is right", by(call, body)).unwrap();
 }
 
 /// The tests of a call, one of them asked otherwise.

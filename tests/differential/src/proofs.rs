@@ -182,6 +182,21 @@ fn of_fault(depth: usize, layer: usize, random: &mut Random) -> (Input, Volume, 
     (of(&volume, volume.proof(head)), volume, head)
 }
 
+/// Compares with the proof of a fault in each layer of each depth, with its tree
+/// and its head.
+fn each_fault(
+    c: &mut Comparisons,
+    compare: impl Fn(&mut Comparisons, &Input, &Volume, Head) -> Compared,
+) -> Compared {
+    for depth in DEPTHS {
+        for layer in 0..depth {
+            let (input, volume, head) = of_fault(depth, layer, &mut c.random);
+            compare(c, &input, &volume, head)?;
+        }
+    }
+    Ok(())
+}
+
 /// A call with the root and the table of a correctly coded tree: whatever the
 /// proof, it must not pass.
 fn make_for_right_tree(c: &mut Comparisons, what: &str, input: &Input) -> Compared {

@@ -16,6 +16,9 @@ pub const DEPTHS: [usize; MAX_DEPTH as usize] = {
     depths
 };
 
+/// The depths that tables are made for go two beyond.
+pub const BEYOND: usize = DEPTHS.len() + 2;
+
 pub const DEPTH: Test = Test {
     number: 1,
     ask: |i| layers_of(i.number("depth")).map(|_| ()),

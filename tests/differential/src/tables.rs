@@ -16,7 +16,7 @@ use crate::difference::Compared;
 use crate::input::Input;
 use crate::random::Random;
 use crate::results::number;
-use crate::stops::{DEPTH, DEPTHS, LENGTHS};
+use crate::stops::{BEYOND, DEPTH, DEPTHS, LENGTHS};
 use lists::{alterations, random_damage, random_table, some_table, WORD_KINDS};
 use reference::stop::Stop;
 use reference::table::{self, check_words, house, layers_of, to_bytes, to_words};
@@ -85,12 +85,12 @@ pub fn to_fill(depth: u64, len: usize, random: &mut Random) -> Input {
 /// Depths that there are, depths beside them, and some that are one of them
 /// only where bits are lost.
 fn asked() -> impl Iterator<Item = u64> {
-    (0..=MAX_DEPTH + 2).chain(large(1)).chain(large(MAX_DEPTH)).chain([u64::MAX])
+    (0..=BEYOND as u64).chain(large(1)).chain(large(MAX_DEPTH)).chain([u64::MAX])
 }
 
 /// House tables and random ones, each read for every depth.
 fn depths(c: &mut Comparisons) -> Compared {
-    for made_for in 0..=MAX_DEPTH as usize + 2 {
+    for made_for in 0..=BEYOND {
         for words in [house(made_for), random_table(made_for, &mut c.random)] {
             for depth in asked() {
                 c.make("a table of some depth", &listed(depth, &words))?;
@@ -164,7 +164,7 @@ fn random_words(c: &mut Comparisons) -> Compared {
 /// Lengths that are no multiple of 4, or over the limit, or just not.
 fn byte_lengths(c: &mut Comparisons) -> Compared {
     for depth in asked() {
-        for made_for in 1..=MAX_DEPTH as usize + 2 {
+        for made_for in 1..=BEYOND {
             let len = house_len(made_for);
             for other in (len - 9..len + 10).chain(MAX_BYTES - 9..MAX_BYTES + 10) {
                 let mut input = listed(depth, &house(made_for));
@@ -184,7 +184,7 @@ fn byte_lengths(c: &mut Comparisons) -> Compared {
 fn house_tables(c: &mut Comparisons) -> Compared {
     for depth in asked() {
         let near = |made_for| [-4, -1, 0, 1, 4].map(|more| house_len(made_for) as isize + more);
-        for len in (0..=MAX_DEPTH as usize + 2).flat_map(near).chain([0, 1, 4, 60, 16_384]) {
+        for len in (0..=BEYOND).flat_map(near).chain([0, 1, 4, 60, 16_384]) {
             let input = to_fill(depth, len as usize, &mut c.random);
             c.make("a length", &input)?;
         }

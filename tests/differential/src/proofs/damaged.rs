@@ -1,6 +1,6 @@
 //! Proofs with damage to their members and paths, or of another length.
 
-use super::{of, of_fault};
+use super::{each_fault, of, of_fault};
 use crate::comparisons::Comparisons;
 use crate::difference::Compared;
 use crate::stops::DEPTHS;
@@ -10,20 +10,17 @@ use reference::tree::{HASH, ROOT, SYMBOL};
 /// Each byte, or, of the longer proofs, some of each symbol: one bit of it
 /// changed.
 pub fn bytes(c: &mut Comparisons) -> Compared {
-    for depth in DEPTHS {
-        for layer in 0..depth {
-            let (right, ..) = of_fault(depth, layer, &mut c.random);
-            for at in HEAD..right["proof"].len() {
-                if depth > 2 && c.random.below(12) > 0 {
-                    continue;
-                }
-                let mut input = right.clone();
-                input["proof"][at] ^= 1 << c.random.below(8);
-                c.make("a damaged byte", &input)?;
+    each_fault(c, |c, right, volume, _| {
+        for at in HEAD..right["proof"].len() {
+            if volume.depth > 2 && c.random.below(12) > 0 {
+                continue;
             }
+            let mut input = right.clone();
+            input["proof"][at] ^= 1 << c.random.below(8);
+            c.make("a damaged byte", &input)?;
         }
-    }
-    Ok(())
+        Ok(())
+    })
 }
 
 pub fn root_bytes(c: &mut Comparisons) -> Compared {
@@ -42,57 +39,48 @@ pub fn root_bytes(c: &mut Comparisons) -> Compared {
 /// The hash for each symbol of the proof, the only one that is wrong, in
 /// one byte.
 pub fn hashes(c: &mut Comparisons) -> Compared {
-    for depth in DEPTHS {
-        for layer in 0..depth {
-            let (_, volume, head) = of_fault(depth, layer, &mut c.random);
-            for (layer, symbol) in head.symbols(volume.members(head)) {
-                for byte in [0, c.random.below(HASH), HASH - 1] {
-                    let mut broken = volume.clone();
-                    broken.break_hash(layer, symbol, byte);
-                    let input = of(&broken, broken.proof(head));
-                    c.make("one wrong hash", &input)?;
-                }
+    each_fault(c, |c, _, volume, head| {
+        for (layer, symbol) in head.symbols(volume.members(head)) {
+            for byte in [0, c.random.below(HASH), HASH - 1] {
+                let mut broken = volume.clone();
+                broken.break_hash(layer, symbol, byte);
+                let input = of(&broken, broken.proof(head));
+                c.make("one wrong hash", &input)?;
             }
         }
-    }
-    Ok(())
+        Ok(())
+    })
 }
 
 /// Cut and extended: to every length at depth 1, else near those that end
 /// a part.
 pub fn lengths_of_proofs(c: &mut Comparisons) -> Compared {
-    for depth in DEPTHS {
-        for layer in 0..depth {
-            let (right, ..) = of_fault(depth, layer, &mut c.random);
-            let len = right["proof"].len();
-            for other in 0..len + 300 {
-                let edge = (other + SYMBOL - HEAD) % SYMBOL;
-                if depth == 1 || other < 40 || !(3..SYMBOL - 2).contains(&edge) {
-                    let mut input = right.clone();
-                    input["proof"].resize(other, 0);
-                    c.make("a length of the proof", &input)?;
-                }
+    each_fault(c, |c, right, volume, _| {
+        let len = right["proof"].len();
+        for other in 0..len + 300 {
+            let edge = (other + SYMBOL - HEAD) % SYMBOL;
+            if volume.depth == 1 || other < 40 || !(3..SYMBOL - 2).contains(&edge) {
+                let mut input = right.clone();
+                input["proof"].resize(other, 0);
+                c.make("a length of the proof", &input)?;
             }
         }
-    }
-    Ok(())
+        Ok(())
+    })
 }
 
 /// Two symbols of the proof in each other's place.
 pub fn swapped_symbols(c: &mut Comparisons) -> Compared {
-    for depth in DEPTHS {
-        for layer in 0..depth {
-            let (right, ..) = of_fault(depth, layer, &mut c.random);
-            let symbols = (right["proof"].len() - HEAD) / SYMBOL;
-            for one in 0..symbols {
-                for other in 0..one {
-                    let mut input = right.clone();
-                    let (low, high) = input["proof"].split_at_mut(HEAD + SYMBOL * one);
-                    low[HEAD + SYMBOL * other..][..SYMBOL].swap_with_slice(&mut high[..SYMBOL]);
-                    c.make("two symbols swapped", &input)?;
-                }
+    each_fault(c, |c, right, _, _| {
+        let symbols = (right["proof"].len() - HEAD) / SYMBOL;
+        for one in 0..symbols {
+            for other in 0..one {
+                let mut input = right.clone();
+                let (low, high) = input["proof"].split_at_mut(HEAD + SYMBOL * one);
+                low[HEAD + SYMBOL * other..][..SYMBOL].swap_with_slice(&mut high[..SYMBOL]);
+                c.make("two symbols swapped", &input)?;
             }
         }
-    }
-    Ok(())
+        Ok(())
+    })
 }

@@ -1,6 +1,6 @@
 //! Heads of every wrong sort.
 
-use super::of_fault;
+use super::{each_fault, of_fault};
 use crate::comparisons::Comparisons;
 use crate::difference::Compared;
 use crate::stops::DEPTHS;
@@ -26,53 +26,44 @@ const LARGE: [u32; 12] = [
 
 /// Each word of the head with each kind.
 pub fn kinds(c: &mut Comparisons) -> Compared {
-    for depth in DEPTHS {
-        for layer in 0..depth {
-            let (right, _, head) = of_fault(depth, layer, &mut c.random);
-            for kinds in 0..1 << 6 {
-                let kind = |word: u32| kinds >> (2 * word) & 3;
-                let mut input = right.clone();
-                put_head(&mut input["proof"], head, [kind(0), kind(1), kind(2)]);
-                c.make("kinds", &input)?;
-            }
+    each_fault(c, |c, right, _, head| {
+        for kinds in 0..1 << 6 {
+            let kind = |word: u32| kinds >> (2 * word) & 3;
+            let mut input = right.clone();
+            put_head(&mut input["proof"], head, [kind(0), kind(1), kind(2)]);
+            c.make("kinds", &input)?;
         }
-    }
-    Ok(())
+        Ok(())
+    })
 }
 
 /// Each word with each value that is near, and with large ones.
 pub fn values(c: &mut Comparisons) -> Compared {
-    for depth in DEPTHS {
-        for layer in 0..depth {
-            let (right, _, head) = of_fault(depth, layer, &mut c.random);
-            let near = [8, 3 * data_symbols(layer) + 4, symbols(layer) + 4];
-            let now = [head.layer, head.equation, head.withheld];
-            for word in 0..3 {
-                let large = LARGE.into_iter().flat_map(|l| [l, l | now[word] as u32]);
-                for value in (0..near[word] as u32).chain(large) {
-                    let mut input = right.clone();
-                    put_value(&mut input["proof"], word, value);
-                    c.make("a value", &input)?;
-                }
+    each_fault(c, |c, right, _, head| {
+        let near = [8, 3 * data_symbols(head.layer) + 4, symbols(head.layer) + 4];
+        let now = [head.layer, head.equation, head.withheld];
+        for word in 0..3 {
+            let large = LARGE.into_iter().flat_map(|l| [l, l | now[word] as u32]);
+            for value in (0..near[word] as u32).chain(large) {
+                let mut input = right.clone();
+                put_value(&mut input["proof"], word, value);
+                c.make("a value", &input)?;
             }
         }
-    }
-    Ok(())
+        Ok(())
+    })
 }
 
 /// Each bit of the head.
 pub fn bits(c: &mut Comparisons) -> Compared {
-    for depth in DEPTHS {
-        for layer in 0..depth {
-            let (right, ..) = of_fault(depth, layer, &mut c.random);
-            for bit in 0..8 * HEAD {
-                let mut input = right.clone();
-                input["proof"][bit / 8] ^= 0x80 >> (bit % 8);
-                c.make("a bit of the head", &input)?;
-            }
+    each_fault(c, |c, right, _, _| {
+        for bit in 0..8 * HEAD {
+            let mut input = right.clone();
+            input["proof"][bit / 8] ^= 0x80 >> (bit % 8);
+            c.make("a bit of the head", &input)?;
         }
-    }
-    Ok(())
+        Ok(())
+    })
 }
 
 /// Heads, in form or not, before bodies of the length that they demand, or

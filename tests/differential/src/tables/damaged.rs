@@ -3,14 +3,14 @@
 use super::lists::{random_damage, random_table, some_table, table_of};
 use crate::comparisons::Comparisons;
 use crate::difference::Compared;
-use reference::table::{house, to_bytes, MAX_DEPTH};
+use crate::stops::BEYOND;
+use reference::table::{house, to_bytes};
 
 /// No words, equations of all sizes, tables of other depths, damaged ones.
 pub fn damaged_tables(c: &mut Comparisons, depth: usize) -> Compared {
     let mut lists = vec![Vec::new()];
     lists.extend((1..=10).map(|size| table_of(depth, size)));
-    let depths = 0..=MAX_DEPTH as usize + 2;
-    lists.extend(depths.flat_map(|other| [house(other), random_table(other, &mut c.random)]));
+    lists.extend((0..=BEYOND).flat_map(|other| [house(other), random_table(other, &mut c.random)]));
     for turn in 0..300 {
         let table = some_table(depth, &mut c.random);
         lists.push(random_damage(&table, 1 + turn % 3, &mut c.random));
