@@ -73,12 +73,17 @@ def keep_shorter(best, others):
         best[key] = min(best.get(key, nanoseconds), nanoseconds)
 
 
+def best_of_each(words, programs, processes=PROCESSES):
+    """The fewest nanoseconds of many processes, in the same form, of each program, taken in turns."""
+    fewest = [{} for _ in programs]
+    for _ in range(processes):
+        for built, best in zip(programs, fewest):
+            keep_shorter(best, shortest(words, built=built))
+    return fewest
+
+
 def best_of(command):
-    """The fewest nanoseconds of many processes, in the same form."""
-    best = {}
-    for _ in range(PROCESSES):
-        keep_shorter(best, shortest([command, TRIALS]))
-    return best
+    return best_of_each([command, TRIALS], [PROGRAM])[0]
 
 
 def instructions(words, changes=(), options=(), built=PROGRAM):
