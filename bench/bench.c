@@ -3,41 +3,27 @@
  * files. The exit status is the call's number (include/cedunmi.h), and standard error
  * says what it means.
  */
+#define _POSIX_C_SOURCE 200809L
 #include "cedunmi.h"
 
 #include <errno.h>
+#include <fcntl.h>
 #include <stdio.h>
 #include <stdlib.h>
 #include <string.h>
+#include <sys/stat.h>
+#include <unistd.h>
 
 /* Exit statuses that are no call's numbers. */
 enum { WRONG_USE = 64, UNREADABLE = 66 };
 
 static const char usage[] =
-    "bench sample DEPTH NUMBER ROOT SAMPLE    check a sample of a base symbol\n"
+    "bench sample DEPTH NUMBER ROOT SAMPLE    check a sample of a base page\n"
     "bench proof DEPTH ROOT TABLE PROOF       check a fault proof\n"
     "\n"
-    "DEPTH and NUMBER are decimal numbers, the others are files. DEPTH, ROOT and TABLE must come from where\n"
+    "DEPTH 1 to 5; NUMBER a decimal number too; the others are files. DEPTH, ROOT and TABLE must come from where\n"
     "they can be trusted. Exit status: 0 accepted; 1 to 8 not, and why not; 64 bad usage; 66 a file cannot\n"
     "be read.\n";
-
-/* What the numbers of the two checkers mean. */
-static const char *const meanings[] = {
-    [CMT_DONE] = "accepted: ",
-    [CMT_WRONG_DEPTH] = "the depth is not 1 to 5",
-    [CMT_WRONG_LENGTH] = "a file's length is wrong",
-    [CMT_WRONG_TABLE] = "the table breaks a rule",
-    [CMT_WRONG_NUMBER] = "the base has no symbol of this number",
-    [CMT_WRONG_HEAD] = "the proof's head has a wrong kind, layer or equation, or the equation has no such member",
-    [CMT_WRONG_HASH] = "a hash doesn't lead to the root",
-    [CMT_NO_FAULT] = "the withheld hash fits, no fault shown",
-};
-
-static const char *meaning(uint64_t status)
-{
-    int known = status < sizeof meanings / sizeof *meanings && meanings[status] != NULL;
-    return known ? meanings[status] : "a number that no checker gives";
-}
 
 struct file {
     uint8_t *bytes;
@@ -50,35 +36,42 @@ static void stop(int status, const char *what, const char *why)
     exit(status);
 }
 
-/* Twice the room, which is never none: the library takes no null pointer. */
-static void grow(struct file *file, size_t *room, const char *name)
+/* Opens a file, and says where it is known to be longer than any of its kind. */
+static int open_file(const char *name, size_t longest)
 {
-    *room = *room == 0 ? 4096 : 2 * *room;
-    uint8_t *bytes = realloc(file->bytes, *room);
-    if (bytes == NULL) {
-        stop(UNREADABLE, name, "too large");
-    }
-    file->bytes = bytes;
-}
-
-static struct file read_whole(const char *name)
-{
-    struct file file = {NULL, 0};
-    size_t room = 0;
-    FILE *stream = fopen(name, "rb");
-    if (stream == NULL) {
+    struct stat about;
+    int from = open(name, O_RDONLY);
+    if (from < 0 || fstat(from, &about) != 0) {
         stop(UNREADABLE, name, strerror(errno));
     }
+    if (S_ISREG(about.st_mode) && about.st_size > (off_t)longest) {
+        fprintf(stderr, "bench: %s: %lld bytes, and the longest of its kind has %zu\n", name,
+                (long long)about.st_size, longest);
+    }
+    return from;
+}
+
+/*
+ * A file's bytes, but at most one more than the longest of its kind has: to the
+ * call every longer length is as wrong. There is always room: the library takes
+ * no null pointer.
+ */
+static struct file read_file(const char *name, size_t longest)
+{
+    struct file file = {malloc(longest + 1), 0};
+    int from = open_file(name, longest);
+    ssize_t got = 0;
+    if (file.bytes == NULL) {
+        stop(UNREADABLE, name, "no memory");
+    }
     do {
-        if (file.len == room) {
-            grow(&file, &room, name);
-        }
-        file.len += fread(file.bytes + file.len, 1, room - file.len, stream);
-        if (ferror(stream)) {
+        got = read(from, file.bytes + file.len, longest + 1 - file.len);
+        if (got < 0) {
             stop(UNREADABLE, name, strerror(errno));
         }
-    } while (!feof(stream));
-    fclose(stream);
+        file.len += (size_t)got;
+    } while (got > 0 && file.len <= longest);
+    close(from);
     return file;
 }
 
@@ -102,7 +95,8 @@ static uint64_t number(const char *text)
 static uint64_t check_sample(char **words)
 {
     uint64_t depth = number(words[0]), base = number(words[1]);
-    struct file root = read_whole(words[2]), sample = read_whole(words[3]);
+    struct file root = read_file(words[2], CMT_ROOT_BYTES);
+    struct file sample = read_file(words[3], CMT_SAMPLE_BYTES(CMT_DEPTH_MAX));
     uint64_t result = cmt_sample_check(depth, base, root.bytes, root.len, sample.bytes, sample.len);
     free(root.bytes);
     free(sample.bytes);
@@ -112,7 +106,9 @@ static uint64_t check_sample(char **words)
 static uint64_t check_proof(char **words)
 {
     uint64_t depth = number(words[0]);
-    struct file root = read_whole(words[1]), table = read_whole(words[2]), proof = read_whole(words[3]);
+    struct file root = read_file(words[1], CMT_ROOT_BYTES);
+    struct file table = read_file(words[2], CMT_TABLE_BYTES_MAX);
+    struct file proof = read_file(words[3], CMT_OUTPUT_BYTES(CMT_DEPTH_MAX));
     uint64_t result = cmt_proof_check(depth, root.bytes, root.len, table.bytes, table.len,
                                       proof.bytes, proof.len);
     free(root.bytes);
@@ -125,10 +121,8 @@ static uint64_t check_proof(char **words)
 static int explain(uint64_t result, const char *accepted)
 {
     uint64_t status = cmt_number(result);
-    fprintf(stderr, "bench: %s", meaning(status));
-    if (status == CMT_DONE) {
-        fputs(accepted, stderr);
-    } else if (status == CMT_WRONG_TABLE) {
+    fprintf(stderr, "bench: %s", status == CMT_DONE ? accepted : cmt_explain(status));
+    if (status == CMT_WRONG_TABLE) {
         fprintf(stderr, ", first wrong word %llu", (unsigned long long)cmt_value(result));
     }
     fputc('\n', stderr);
@@ -138,10 +132,11 @@ static int explain(uint64_t result, const char *accepted)
 int main(int count, char **words)
 {
     if (count == 6 && strcmp(words[1], "sample") == 0) {
-        return explain(check_sample(words + 2), "every hash in the sample leads to the root");
+        return explain(check_sample(words + 2), "accepted: every hash in the sample leads to the root");
     }
     if (count == 6 && strcmp(words[1], "proof") == 0) {
-        return explain(check_proof(words + 2), "the proof shows that the volume was not coded as this table says");
+        return explain(check_proof(words + 2),
+                       "accepted: the proof shows that the volume was not coded as this table says");
     }
     fputs(usage, stderr);
     return WRONG_USE;

@@ -1,9 +1,8 @@
-// Codes a volume, loses a fifth of its symbols, repairs it, reads it back, and checks a sample.
+// Codes a volume, loses a fifth of its pages, repairs it, reads it back, and checks a sample.
 #include "cedunmi.h"
 
 #include <iostream>
 #include <stdexcept>
-#include <string>
 #include <vector>
 
 using Bytes = std::vector<std::uint8_t>;
@@ -12,12 +11,12 @@ using Bytes = std::vector<std::uint8_t>;
 static std::uint64_t done(std::uint64_t result)
 {
     if (cmt_number(result) != CMT_DONE) {
-        throw std::runtime_error("stopped with " + std::to_string(cmt_number(result)));
+        throw std::runtime_error(cmt_explain(cmt_number(result)));
     }
     return result;
 }
 
-// A block of bytes that differ from symbol to symbol.
+// A block of bytes that differ from page to page.
 static Bytes block_of(std::uint64_t depth)
 {
     Bytes block(CMT_BLOCK_BYTES(depth));

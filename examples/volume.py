@@ -1,4 +1,4 @@
-"""Codes a volume, loses a fifth of its symbols, repairs it, reads it back, and checks a sample.
+"""Codes a volume, loses a fifth of its pages, repairs it, reads it back, and checks a sample.
 
     volume.py LIBRARY    the library as a shared object
 """
@@ -34,11 +34,11 @@ def done(name, *arguments):
 
 
 depth, number = 3, 50
-symbols = 16 * (2**depth - 1)
+pages = 16 * (2**depth - 1)
 block = bytearray((i + i // 256) % 256 for i in range(1024 * 2**(depth - 1)))
 back = bytearray(len(block))
 table = bytearray(4 * (60 * (2**depth - 1) + 1))
-tree, marks, root = bytearray(256 * symbols), bytearray(symbols), bytearray(512)
+tree, marks, root = bytearray(256 * pages), bytearray(pages), bytearray(512)
 output, sample = bytearray(12 + 256 * (8 * depth - 1)), bytearray(256 * (2 * depth - 1))
 
 done("cmt_house_table", depth, table)

@@ -1,10 +1,11 @@
 /*
  * Cedunmi: coded Merkle trees, proved.
  *
- * Link with libcedunmi_c.a. The library needs no start-up call, keeps nothing
- * between calls and allocates no memory. docs/FORMAT.md has every byte of the
- * buffers, and says what a symbol, a mark, a layer, the base, a place and a
- * withheld member are.
+ * Link with libcedunmi, which is libcedunmi_c.a where it is built. The library
+ * needs no start-up call, keeps nothing between calls and allocates no memory.
+ * docs/FORMAT.md has every byte of the buffers, and says what a page, a mark, a
+ * layer, the base, a place and a withheld member are. A page is a symbol: the
+ * papers and the proofs say symbol, this header says page.
  *
  * Results. Every call returns one uint64_t. Its low eight bits are a number:
  *
@@ -14,12 +15,12 @@
  *   3  stopped: the table breaks a rule; the value is the first wrong word, or
  *      the number of words where the table is short
  *   4  stopped: a mark is neither 0 nor 1; the value is the lowest such place
- *   5  stopped: the base has no symbol of this number
+ *   5  stopped: the base has no page of this number
  *   6  stopped: the proof's head has a wrong kind, layer or equation, or the
  *      equation has no such member
  *   7  stopped: a hash doesn't lead to the root
- *   8  stopped: the withheld hash fits, the proof shows no fault
- *   9  stopped: a needed symbol is absent; the value is the index in the sample
+ *   8  stopped: the withheld hash fits: the proof shows no fault
+ *   9  stopped: a needed page is absent; the value is the index in the sample
  *      of the first, or, reading a block, its base number
  *
  * A call makes its tests in the order in which its numbers are listed below,
@@ -27,6 +28,8 @@
  * buffer. The bits above the low eight are the value that goes with the number,
  * zero where there is none. Read them with cmt_number() and cmt_value(); of a
  * repair that ended, with cmt_repair_end() and the functions after it.
+ * cmt_explain() and cmt_explain_end() have the words for numbers and ends. A
+ * compiler that can warns where a result is dropped.
  *
  * Buffers. Every pointer is followed by its length in bytes. What the caller
  * must see to, since no call can test it, and without which nothing is promised:
@@ -57,6 +60,28 @@
 #include <stddef.h>
 #include <stdint.h>
 
+/* The version, as three numbers and as a text, which has dots between them. */
+#define CMT_VERSION_MAJOR 0
+#define CMT_VERSION_MINOR 1
+#define CMT_VERSION_PATCH 0
+#define CMT_VERSION CMT_DOTTED(CMT_VERSION_MAJOR, CMT_VERSION_MINOR, CMT_VERSION_PATCH)
+#define CMT_DOTTED(major, minor, patch) CMT_TEXT(major) "." CMT_TEXT(minor) "." CMT_TEXT(patch)
+#define CMT_TEXT(number) #number
+
+/* Before a declaration: the compiler warns where what the function gives is dropped. */
+#if defined(__GNUC__) || defined(__clang__)
+#define CMT_CHECKED __attribute__((warn_unused_result))
+#else
+#define CMT_CHECKED
+#endif
+
+/* A number as a size_t, by the language's own cast. */
+#ifdef __cplusplus
+#define CMT_SIZE(number) (static_cast<size_t>(number))
+#else
+#define CMT_SIZE(number) ((size_t)(number))
+#endif
+
 #ifdef __cplusplus
 extern "C" {
 #endif
@@ -75,12 +100,13 @@ enum {
     CMT_ABSENT = 9
 };
 
-/* The ends that cmt_repair_end() gives. */
+/* What cmt_repair_end() gives: the end of a repair, or that it stopped and has none. */
 enum {
     CMT_WHOLE = 0,
     CMT_FAULT = 1,
     CMT_UNAVAILABLE = 2,
-    CMT_TWINS = 3
+    CMT_TWINS = 3,
+    CMT_NO_END = 16777216
 };
 
 /* The most stack that a call uses, in bytes. */
@@ -95,13 +121,13 @@ enum {
 #define CMT_TABLE_BYTES_MAX 16384
 
 /* The bytes of the house table of a depth from 1 to CMT_DEPTH_MAX. */
-#define CMT_HOUSE_TABLE_BYTES(depth) (4 * (60 * (((size_t)1 << (depth)) - 1) + 1))
+#define CMT_HOUSE_TABLE_BYTES(depth) (4 * (60 * ((CMT_SIZE(1) << (depth)) - 1) + 1))
 
 /* The lengths of a tree's buffers at a depth from 1 to CMT_DEPTH_MAX, in bytes. */
-#define CMT_MARKS_BYTES(depth) (16 * (((size_t)1 << (depth)) - 1))
+#define CMT_MARKS_BYTES(depth) (16 * ((CMT_SIZE(1) << (depth)) - 1))
 #define CMT_TREE_BYTES(depth) (256 * CMT_MARKS_BYTES(depth))
-#define CMT_BLOCK_BYTES(depth) (256 * ((size_t)4 << ((depth) - 1)))
-#define CMT_SAMPLE_BYTES(depth) (256 * (2 * (size_t)(depth) - 1))
+#define CMT_BLOCK_BYTES(depth) (256 * (CMT_SIZE(4) << ((depth) - 1)))
+#define CMT_SAMPLE_BYTES(depth) (256 * (2 * CMT_SIZE(depth) - 1))
 #define CMT_ROOT_BYTES 512
 
 /*
@@ -111,7 +137,7 @@ enum {
  */
 #define CMT_PROOF_HEAD_BYTES 12
 #define CMT_PROOF_BYTES(layer, members) \
-    (CMT_PROOF_HEAD_BYTES + 256 * (((size_t)(members) - 1) * ((size_t)(layer) + 1) + (size_t)(layer)))
+    (CMT_PROOF_HEAD_BYTES + 256 * ((CMT_SIZE(members) - 1) * (CMT_SIZE(layer) + 1) + CMT_SIZE(layer)))
 #define CMT_OUTPUT_BYTES(depth) CMT_PROOF_BYTES((depth) - 1, 8)
 #define CMT_TWINS_BYTES 512
 
@@ -127,19 +153,19 @@ static inline uint64_t cmt_value(uint64_t result)
     return result / 256;
 }
 
-/*
- * How a repair ended. Test cmt_number() first: of a repair that stopped this is
- * no end, though it may look like one (where it stopped with 1 or 2, like CMT_WHOLE).
- */
+/* How a repair ended: one of the ends, CMT_NO_END where it stopped. */
 static inline uint64_t cmt_repair_end(uint64_t result)
 {
+    if (cmt_number(result) != CMT_DONE) {
+        return CMT_NO_END;
+    }
     return result / 256 % 16777216;
 }
 
-/* How many symbols a repair that ended has formed and stored. */
+/* How many pages a repair has formed and stored; 0 where it stopped. */
 static inline uint64_t cmt_repair_stored(uint64_t result)
 {
-    return result / 4294967296 % 65536;
+    return cmt_number(result) == CMT_DONE ? result / 4294967296 % 65536 : 0;
 }
 
 /* The bytes of the proof that a repair wrote; 0 where its end is not CMT_FAULT. */
@@ -154,6 +180,54 @@ static inline uint64_t cmt_repair_layer(uint64_t result)
     return cmt_repair_end(result) == CMT_UNAVAILABLE ? result / 281474976710656 : 0;
 }
 
+/* What a number that cmt_number() gives means. */
+static inline const char *cmt_explain(uint64_t number)
+{
+    switch (number) {
+    case CMT_DONE:
+        return "done, or accepted";
+    case CMT_WRONG_DEPTH:
+        return "the depth is not 1 to 5";
+    case CMT_WRONG_LENGTH:
+        return "a length is wrong";
+    case CMT_WRONG_TABLE:
+        return "the table breaks a rule";
+    case CMT_WRONG_MARK:
+        return "a mark is neither 0 nor 1";
+    case CMT_WRONG_NUMBER:
+        return "the base has no page of this number";
+    case CMT_WRONG_HEAD:
+        return "the proof's head has a wrong kind, layer or equation, or the equation has no such member";
+    case CMT_WRONG_HASH:
+        return "a hash doesn't lead to the root";
+    case CMT_NO_FAULT:
+        return "the withheld hash fits: the proof shows no fault";
+    case CMT_ABSENT:
+        return "a needed page is absent";
+    default:
+        return "a number that no call gives";
+    }
+}
+
+/* What an end that cmt_repair_end() gives means. */
+static inline const char *cmt_explain_end(uint64_t end)
+{
+    switch (end) {
+    case CMT_WHOLE:
+        return "whole: every page is held, and the tree agrees with the root and the table";
+    case CMT_FAULT:
+        return "fault: the volume was not coded as the table says";
+    case CMT_UNAVAILABLE:
+        return "unavailable: no equation gives another page of the layer";
+    case CMT_TWINS:
+        return "twins: two different pages of equal SHA-256 were found";
+    case CMT_NO_END:
+        return "no end: the repair stopped";
+    default:
+        return "an end that no repair has";
+    }
+}
+
 /*
  * SHA-256 (FIPS 180-4) of the message, written to the digest.
  *
@@ -163,6 +237,7 @@ static inline uint64_t cmt_repair_layer(uint64_t result)
  *
  * The message may be empty. It is never changed.
  */
+CMT_CHECKED
 uint64_t cmt_sha256(const uint8_t *message, size_t message_len,
                     uint8_t *digest, size_t digest_len);
 
@@ -177,6 +252,7 @@ uint64_t cmt_sha256(const uint8_t *message, size_t message_len,
  *                   with the words up to it. Of a table that is only short it
  *                   is the number of its words.
  */
+CMT_CHECKED
 uint64_t cmt_table_check(uint64_t depth, const uint8_t *table, size_t table_len);
 
 /*
@@ -186,10 +262,11 @@ uint64_t cmt_table_check(uint64_t depth, const uint8_t *table, size_t table_len)
  * CMT_WRONG_DEPTH   the depth is not 1 to CMT_DEPTH_MAX.
  * CMT_WRONG_LENGTH  table_len is not CMT_HOUSE_TABLE_BYTES(depth).
  */
+CMT_CHECKED
 uint64_t cmt_house_table(uint64_t depth, uint8_t *table, size_t table_len);
 
 /*
- * Codes a block: writes its tree, a mark of 1 for every symbol, and its root.
+ * Codes a block: writes its tree, a mark of 1 for every page, and its root.
  *
  * CMT_DONE          all three are written.
  * CMT_WRONG_DEPTH   the depth is not 1 to CMT_DEPTH_MAX.
@@ -197,6 +274,7 @@ uint64_t cmt_house_table(uint64_t depth, uint8_t *table, size_t table_len);
  *                   table's is over CMT_TABLE_BYTES_MAX or no multiple of 4.
  * CMT_WRONG_TABLE   the table breaks a rule, as for cmt_table_check().
  */
+CMT_CHECKED
 uint64_t cmt_tree_write(uint64_t depth, const uint8_t *table, size_t table_len,
                         const uint8_t *block, size_t block_len,
                         uint8_t *tree, size_t tree_len,
@@ -204,47 +282,50 @@ uint64_t cmt_tree_write(uint64_t depth, const uint8_t *table, size_t table_len,
                         uint8_t *root, size_t root_len);
 
 /*
- * Reads the block back: copies the base's data symbols, each of which must be
+ * Reads the block back: copies the base's data pages, each of which must be
  * marked held. It looks at marks and never at hashes.
  *
- * CMT_DONE          the block is the base's data symbols, in their order.
+ * CMT_DONE          the block is the base's data pages, in their order.
  * CMT_WRONG_DEPTH   the depth is not 1 to CMT_DEPTH_MAX.
  * CMT_WRONG_LENGTH  a buffer has another length than this depth asks.
  * CMT_WRONG_MARK    cmt_value() is the lowest place with a mark that is neither
  *                   0 nor 1, anywhere in the tree.
  * CMT_ABSENT        cmt_value() is the number of the base's first absent data
- *                   symbol.
+ *                   page.
  */
+CMT_CHECKED
 uint64_t cmt_block_read(uint64_t depth, const uint8_t *tree, size_t tree_len,
                         const uint8_t *marks, size_t marks_len,
                         uint8_t *block, size_t block_len);
 
 /*
- * Takes a sample of a base symbol. It looks at marks and never at hashes.
+ * Takes a sample of a base page. It looks at marks and never at hashes.
  *
- * CMT_DONE          the sample is the base symbol, and from each layer above, going
- *                   up, a data symbol and a parity symbol.
+ * CMT_DONE          the sample is the base page, and from each layer above, going
+ *                   up, a data page and a parity page.
  * CMT_WRONG_DEPTH   the depth is not 1 to CMT_DEPTH_MAX.
  * CMT_WRONG_LENGTH  a buffer has another length than this depth asks.
  * CMT_WRONG_MARK    as for cmt_block_read().
- * CMT_WRONG_NUMBER  the base has no symbol of this number.
- * CMT_ABSENT        cmt_value() is the index in the sample of the first symbol that
- *                   is absent, 0 for the base symbol.
+ * CMT_WRONG_NUMBER  the base has no page of this number.
+ * CMT_ABSENT        cmt_value() is the index in the sample of the first page that
+ *                   is absent, 0 for the base page.
  */
+CMT_CHECKED
 uint64_t cmt_sample_take(uint64_t depth, uint64_t number,
                          const uint8_t *tree, size_t tree_len,
                          const uint8_t *marks, size_t marks_len,
                          uint8_t *sample, size_t sample_len);
 
 /*
- * Checks a sample of a base symbol against the root.
+ * Checks a sample of a base page against the root.
  *
  * CMT_DONE          every hash in it leads to the root.
  * CMT_WRONG_DEPTH   the depth is not 1 to CMT_DEPTH_MAX.
  * CMT_WRONG_LENGTH  a buffer has another length than this depth asks.
- * CMT_WRONG_NUMBER  the base has no symbol of this number.
+ * CMT_WRONG_NUMBER  the base has no page of this number.
  * CMT_WRONG_HASH    a hash doesn't lead to the root.
  */
+CMT_CHECKED
 uint64_t cmt_sample_check(uint64_t depth, uint64_t number,
                           const uint8_t *root, size_t root_len,
                           const uint8_t *sample, size_t sample_len);
@@ -268,31 +349,33 @@ uint64_t cmt_sample_check(uint64_t depth, uint64_t number,
  *                   or on the withheld one's.
  * CMT_NO_FAULT      the hashes are equal.
  */
+CMT_CHECKED
 uint64_t cmt_proof_check(uint64_t depth, const uint8_t *root, size_t root_len,
                          const uint8_t *table, size_t table_len,
                          const uint8_t *proof, size_t proof_len);
 
 /*
- * Repairs a tree, layer by layer from the top: makes a held symbol whose hash
+ * Repairs a tree, layer by layer from the top: makes a held page whose hash
  * is not the committed one absent, zeroes the absent places, and forms what the
  * equations give. Tree and marks are read and written. Stops with 1, 2, 3 or 4,
- * as cmt_tree_write() and cmt_block_read() do. Otherwise the number is CMT_DONE,
- * and cmt_repair_end() is one of:
+ * as cmt_tree_write() and cmt_block_read() do, and then cmt_repair_end() is
+ * CMT_NO_END. Otherwise the number is CMT_DONE, and cmt_repair_end() is one of:
  *
- * CMT_WHOLE         every symbol is marked held, and the tree is correctly
+ * CMT_WHOLE         every page is marked held, and the tree is correctly
  *                   coded and agrees with the root and the table.
  * CMT_FAULT         the output begins with a fault proof that
  *                   cmt_proof_check() accepts, of cmt_repair_proof_bytes().
  * CMT_UNAVAILABLE   no equation has just one of the places of cmt_repair_layer()
  *                   that are now marked 0, so none gives any of them; those that
  *                   have none of these places hold.
- * CMT_TWINS         the output begins with two different symbols of equal
+ * CMT_TWINS         the output begins with two different pages of equal
  *                   SHA-256, CMT_TWINS_BYTES in all.
  *
  * Each also gives cmt_repair_stored(). The rest of the output, all of it where
  * nothing is written, and the layers below the last one entered are as they
  * were.
  */
+CMT_CHECKED
 uint64_t cmt_repair(uint64_t depth, const uint8_t *root, size_t root_len,
                     const uint8_t *table, size_t table_len,
                     uint8_t *tree, size_t tree_len,

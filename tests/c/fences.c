@@ -20,6 +20,14 @@ typedef uint64_t sha256(const uint8_t *, size_t, uint8_t *, size_t);
 
 static uint8_t *message_room, *digest_room, *table_room;
 
+/* Set where a call gave another number than it should. */
+static int another;
+
+static void expect(uint64_t number, uint64_t result)
+{
+    another |= cmt_number(result) != number;
+}
+
 /* Room for `bytes` bytes, whole pages, with a fence on each side. */
 static uint8_t *fenced(size_t bytes)
 {
@@ -45,9 +53,11 @@ static void touched(int signal)
 /* Lends both buffers at their starts, then both at their ends. */
 static void lend(sha256 *call, size_t message_len, size_t digest_len)
 {
-    call(message_room, message_len, digest_room, digest_len);
-    call(message_room + MESSAGE_ROOM - message_len, message_len,
-         digest_room + PAGE - digest_len, digest_len);
+    int right = message_len <= CMT_SHA256_MESSAGE_MAX && digest_len == CMT_SHA256_DIGEST_BYTES;
+    uint64_t number = right ? CMT_DONE : CMT_WRONG_LENGTH;
+    expect(number, call(message_room, message_len, digest_room, digest_len));
+    expect(number, call(message_room + MESSAGE_ROOM - message_len, message_len,
+                        digest_room + PAGE - digest_len, digest_len));
 }
 
 static void lend_all(sha256 *call)
@@ -63,12 +73,26 @@ static void lend_all(sha256 *call)
     }
 }
 
+/* What the check of such a table gives where it is not the house table. */
+static uint64_t no_house_table(uint64_t depth, size_t len)
+{
+    if (depth < 1 || depth > CMT_DEPTH_MAX) {
+        return CMT_WRONG_DEPTH;
+    }
+    return len > CMT_TABLE_BYTES_MAX || len % 4 != 0 ? CMT_WRONG_LENGTH : CMT_WRONG_TABLE;
+}
+
 /* Lends a table's bytes at the start of their room, then at its end, to be written and to be read. */
 static void lend_table(uint64_t depth, size_t len)
 {
+    uint64_t checked = no_house_table(depth, len);
+    uint64_t written = checked == CMT_WRONG_DEPTH ? CMT_WRONG_DEPTH : CMT_WRONG_LENGTH;
+    if (checked == CMT_WRONG_TABLE && len == CMT_HOUSE_TABLE_BYTES(depth)) {
+        checked = written = CMT_DONE;
+    }
     for (size_t start = 0; start <= TABLE_ROOM - len; start += TABLE_ROOM - len) {
-        cmt_house_table(depth, table_room + start, len);
-        cmt_table_check(depth, table_room + start, len);
+        expect(written, cmt_house_table(depth, table_room + start, len));
+        expect(checked, cmt_table_check(depth, table_room + start, len));
         if (len == TABLE_ROOM) {
             break;
         }
@@ -152,16 +176,18 @@ static int lend_volume(struct volume *v, int at_end)
                                    CMT_TREE_BYTES(v->depth), CMT_MARKS_BYTES(v->depth),
                                    CMT_OUTPUT_BYTES(v->depth)}};
     uint64_t result = lend_repair(v, right, at_end);
-    size_t proof_len = cmt_repair_end(result) == CMT_FAULT ? cmt_repair_proof_bytes(result) : 0;
+    size_t proof_len = cmt_repair_proof_bytes(result);
+    expect(CMT_DONE, result);
     for (size_t n = 0; n < 16 && n < proof_len; n++) {
-        lend_proof(v, right, at_end, n);
-        lend_proof(v, right, at_end, proof_len - n);
+        expect(CMT_WRONG_LENGTH, lend_proof(v, right, at_end, n));
+        expect(n == 0 ? CMT_DONE : CMT_WRONG_LENGTH, lend_proof(v, right, at_end, proof_len - n));
     }
     for (int cut = 0; cut < ROOMS; cut++) {
         struct lengths shorter = right;
         shorter.of[cut]--;
-        lend_repair(v, shorter, at_end);
-        lend_proof(v, shorter, at_end, proof_len);
+        int whole = proof_len > 0 && cut != ROOT && cut != TABLE;
+        expect(CMT_WRONG_LENGTH, lend_repair(v, shorter, at_end));
+        expect(whole ? CMT_DONE : CMT_WRONG_LENGTH, lend_proof(v, shorter, at_end, proof_len));
     }
     return proof_len > 0;
 }
@@ -173,8 +199,8 @@ static int lend_volumes(void)
     int proofs = 0;
     for (uint64_t depth = 1; depth <= CMT_DEPTH_MAX; depth++) {
         for (size_t lost = 0; lost < 16; lost += 5) {
-            volume_begin(&v, depth);
-            volume_write(&v);
+            expect(CMT_DONE, volume_begin(&v, depth));
+            expect(CMT_DONE, volume_write(&v));
             for (size_t place = 0; place < CMT_MARKS_BYTES(depth); place++) {
                 v.marks[place] = place % 16 >= lost;
             }
@@ -240,6 +266,10 @@ int main(void)
     lend_tables();
     if (lend_volumes() < 2 * CMT_DEPTH_MAX) {
         printf("fences: proofs were not lent at every depth\n");
+        return 1;
+    }
+    if (another) {
+        printf("fences: a call gave another number\n");
         return 1;
     }
     printf("fences: ok\n");

@@ -1,7 +1,9 @@
 /*
  * The header by itself, as C and as C++: it compiles without a warning, may be
  * included twice, and calls through it give the published digest of "abc", the
- * house table's first wrong word where one is put, and 01's cases of repair.
+ * house table's first wrong word where one is put, and 01's cases of repair. Its
+ * words for numbers and ends are as they should be, a repair that stopped has
+ * no end, and the version's text is that of its numbers.
  */
 #include "cedunmi.h"
 #include "cedunmi.h"
@@ -56,7 +58,7 @@ static int fault_is_right(void)
     int written = cases_tree();
     memcpy(right, volume.root, sizeof right);
     memset(volume.tree + 7 * 256, 1, 256);
-    cmt_sha256(volume.tree + 7 * 256, 256, volume.root + 7 * 32, 32);
+    written &= cmt_sha256(volume.tree + 7 * 256, 256, volume.root + 7 * 32, 32) == CMT_DONE;
     uint64_t result = volume_repair(&volume);
     if (!written || cmt_number(result) != CMT_DONE || cmt_repair_end(result) != CMT_FAULT ||
         cmt_repair_stored(result) != 0 || cmt_repair_proof_bytes(result) != 780 ||
@@ -80,27 +82,135 @@ static int repairs_are_right(void)
            repair_is_right(eight, sizeof eight, CMT_UNAVAILABLE, 1) && fault_is_right();
 }
 
-int main(void)
+/* Whether a result is a repair's that stopped with this number, and so has no end. */
+static int has_no_end(uint64_t result, uint64_t number)
+{
+    return cmt_number(result) == number && cmt_repair_end(result) == CMT_NO_END &&
+           cmt_repair_stored(result) == 0 && cmt_repair_proof_bytes(result) == 0 &&
+           cmt_repair_layer(result) == 0;
+}
+
+/* A repair that stops with each of its numbers, two of them with a value that reads as an end. */
+static int stops_have_no_end(void)
+{
+    int right = cases_tree();
+    volume.depth = CMT_DEPTH_MAX + 1;
+    right &= has_no_end(volume_repair(&volume), CMT_WRONG_DEPTH);
+    volume.depth = 1;
+    right &= has_no_end(cmt_repair(1, volume.root, CMT_ROOT_BYTES - 1, volume.table, CMT_HOUSE_TABLE_BYTES(1),
+                                   volume.tree, CMT_TREE_BYTES(1), volume.marks, CMT_MARKS_BYTES(1),
+                                   volume.output, CMT_OUTPUT_BYTES(1)),
+                        CMT_WRONG_LENGTH);
+    volume.marks[CMT_FAULT] = 2;
+    uint64_t result = volume_repair(&volume);
+    right &= has_no_end(result, CMT_WRONG_MARK) && cmt_value(result) == CMT_FAULT;
+    volume.table[4 * CMT_UNAVAILABLE] ^= 1;
+    result = volume_repair(&volume);
+    right &= has_no_end(result, CMT_WRONG_TABLE) && cmt_value(result) == CMT_UNAVAILABLE;
+    for (uint64_t number = 1; number < 256; number++) {
+        right &= has_no_end(number, number) && has_no_end(UINT64_MAX - 255 + number, number);
+    }
+    return right;
+}
+
+/* The ends that a result has room for: all below CMT_NO_END, with what goes with them. */
+static int ends_have_room(void)
+{
+    const uint64_t step = 256, most = UINT64_MAX - 255, whole = most - step * (CMT_NO_END - 1);
+    const uint64_t fault = whole + step * CMT_FAULT, unavailable = whole + step * CMT_UNAVAILABLE;
+    return cmt_repair_end(whole) == CMT_WHOLE && cmt_repair_end(most) == CMT_NO_END - 1 && cmt_repair_stored(most) == 65535 &&
+           cmt_repair_end(fault) == CMT_FAULT && cmt_repair_proof_bytes(fault) == 65535 &&
+           cmt_repair_layer(fault) == 0 && cmt_repair_end(unavailable) == CMT_UNAVAILABLE &&
+           cmt_repair_layer(unavailable) == 65535 && cmt_repair_proof_bytes(unavailable) == 0;
+}
+
+struct words {
+    uint64_t of;
+    const char *text;
+};
+
+static int texts_are_right(void)
+{
+    static const char none[] = "a number that no call gives";
+    static const struct words numbers[] = {
+        {CMT_DONE, "done, or accepted"},
+        {CMT_WRONG_DEPTH, "the depth is not 1 to 5"},
+        {CMT_WRONG_LENGTH, "a length is wrong"},
+        {CMT_WRONG_TABLE, "the table breaks a rule"},
+        {CMT_WRONG_MARK, "a mark is neither 0 nor 1"},
+        {CMT_WRONG_NUMBER, "the base has no page of this number"},
+        {CMT_WRONG_HEAD, "the proof's head has a wrong kind, layer or equation, or the equation has no such member"},
+        {CMT_WRONG_HASH, "a hash doesn't lead to the root"},
+        {CMT_NO_FAULT, "the withheld hash fits: the proof shows no fault"},
+        {CMT_ABSENT, "a needed page is absent"},
+    };
+    const uint64_t known = sizeof numbers / sizeof *numbers;
+    int right = known == 10 && strcmp(cmt_explain(UINT64_MAX), none) == 0;
+    for (uint64_t number = 0; number < 512; number++) {
+        const char *text = number < known ? numbers[number].text : none;
+        right &= (number >= known || numbers[number].of == number) && strcmp(cmt_explain(number), text) == 0;
+    }
+    return right;
+}
+
+static int end_texts_are_right(void)
+{
+    static const char none[] = "an end that no repair has";
+    static const struct words ends[] = {
+        {CMT_WHOLE, "whole: every page is held, and the tree agrees with the root and the table"},
+        {CMT_FAULT, "fault: the volume was not coded as the table says"},
+        {CMT_UNAVAILABLE, "unavailable: no equation gives another page of the layer"},
+        {CMT_TWINS, "twins: two different pages of equal SHA-256 were found"},
+        {CMT_NO_END, "no end: the repair stopped"},
+        {CMT_TWINS + 1, none},
+        {CMT_NO_END - 1, none},
+        {CMT_NO_END + 1, none},
+        {UINT64_MAX, none},
+    };
+    int right = 1;
+    for (size_t i = 0; i < sizeof ends / sizeof *ends; i++) {
+        right &= strcmp(cmt_explain_end(ends[i].of), ends[i].text) == 0;
+    }
+    return right;
+}
+
+static int version_is_right(void)
+{
+    char text[64];
+    int len = snprintf(text, sizeof text, "%d.%d.%d", CMT_VERSION_MAJOR, CMT_VERSION_MINOR, CMT_VERSION_PATCH);
+    return len > 0 && strcmp(text, CMT_VERSION) == 0;
+}
+
+static int digests_are_right(void)
 {
     const uint8_t message[3] = {'a', 'b', 'c'};
     uint8_t digest[sizeof abc] = {0};
     uint64_t result = cmt_sha256(message, sizeof message, digest, sizeof digest - 1);
-    if (cmt_number(result) != CMT_WRONG_LENGTH) {
-        printf("header: a digest of 31 bytes was not refused\n");
-        return 1;
-    }
+    int refused = cmt_number(result) == CMT_WRONG_LENGTH;
     result = cmt_sha256(message, sizeof message, digest, sizeof digest);
-    if (cmt_number(result) != CMT_DONE || memcmp(digest, abc, sizeof abc) != 0) {
-        printf("header: a wrong digest\n");
-        return 1;
-    }
-    if (!tables_are_right()) {
-        printf("header: a wrong answer on a table\n");
-        return 1;
-    }
-    if (!repairs_are_right()) {
-        printf("header: a wrong repair or proof\n");
-        return 1;
+    return refused && cmt_number(result) == CMT_DONE && memcmp(digest, abc, sizeof abc) == 0;
+}
+
+int main(void)
+{
+    static const struct {
+        const char *name;
+        int (*right)(void);
+    } parts[] = {
+        {"digests", digests_are_right},
+        {"tables", tables_are_right},
+        {"repairs and proofs", repairs_are_right},
+        {"repairs that stop", stops_have_no_end},
+        {"ends", ends_have_room},
+        {"the words for numbers", texts_are_right},
+        {"the words for ends", end_texts_are_right},
+        {"the version", version_is_right},
+    };
+    for (size_t i = 0; i < sizeof parts / sizeof *parts; i++) {
+        if (!parts[i].right()) {
+            printf("header: %s: not as they should be\n", parts[i].name);
+            return 1;
+        }
     }
     printf("header: ok\n");
     return 0;

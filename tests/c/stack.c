@@ -20,43 +20,47 @@ static struct volume volume;
 static uint8_t sample[CMT_SAMPLE_BYTES(CMT_DEPTH_MAX)];
 static size_t message_len, proof_len;
 
+/* Not 0 where a call stopped, and so did not do its work. */
+static uint64_t stopped;
+
 static void sha256(void)
 {
-    cmt_sha256(message, message_len, digest, sizeof digest);
+    stopped |= cmt_number(cmt_sha256(message, message_len, digest, sizeof digest));
 }
 
 static void house_table(void)
 {
-    volume_house_table(&volume);
+    stopped |= cmt_number(volume_house_table(&volume));
 }
 
 /* Follows house_table(), so that the table is read to its end. */
 static void table_check(void)
 {
-    cmt_table_check(CMT_DEPTH_MAX, volume.table, sizeof volume.table);
+    stopped |= cmt_number(cmt_table_check(CMT_DEPTH_MAX, volume.table, sizeof volume.table));
 }
 
 /* These follow house_table() and each other, so that each does all its work. */
 static void tree_write(void)
 {
-    volume_write(&volume);
+    stopped |= cmt_number(volume_write(&volume));
 }
 
 static void block_read(void)
 {
-    cmt_block_read(CMT_DEPTH_MAX, volume.tree, sizeof volume.tree, volume.marks,
-                   sizeof volume.marks, volume.block, sizeof volume.block);
+    stopped |= cmt_number(cmt_block_read(CMT_DEPTH_MAX, volume.tree, sizeof volume.tree, volume.marks,
+                                         sizeof volume.marks, volume.block, sizeof volume.block));
 }
 
 static void sample_take(void)
 {
-    cmt_sample_take(CMT_DEPTH_MAX, 7, volume.tree, sizeof volume.tree, volume.marks,
-                    sizeof volume.marks, sample, sizeof sample);
+    stopped |= cmt_number(cmt_sample_take(CMT_DEPTH_MAX, 7, volume.tree, sizeof volume.tree, volume.marks,
+                                          sizeof volume.marks, sample, sizeof sample));
 }
 
 static void sample_check(void)
 {
-    cmt_sample_check(CMT_DEPTH_MAX, 7, volume.root, sizeof volume.root, sample, sizeof sample);
+    stopped |= cmt_number(
+        cmt_sample_check(CMT_DEPTH_MAX, 7, volume.root, sizeof volume.root, sample, sizeof sample));
 }
 
 /* Symbols are formed in every layer, and a fault is found in the base. */
@@ -72,14 +76,14 @@ static void repair(void)
 
 static void repair_whole(void)
 {
-    volume_repair(&volume);
+    stopped |= cmt_number(volume_repair(&volume));
 }
 
 /* Follows repair(). */
 static void proof_check(void)
 {
     volume_change_table(&volume);
-    volume_check(&volume, proof_len);
+    stopped |= cmt_number(volume_check(&volume, proof_len));
     volume_change_table(&volume);
 }
 
@@ -143,7 +147,7 @@ int main(void)
         printf("stack: the measuring misses a known use\n");
         return 1;
     }
-    volume_begin(&volume, CMT_DEPTH_MAX);
+    stopped |= cmt_number(volume_begin(&volume, CMT_DEPTH_MAX));
     wrong |= over("cmt_sha256", used_by_sha256());
     wrong |= over("cmt_house_table", used(house_table));
     wrong |= over("cmt_table_check", used(table_check));
@@ -156,6 +160,10 @@ int main(void)
     wrong |= over("cmt_repair", used(repair_whole));
     if (proof_len != CMT_PROOF_BYTES(CMT_DEPTH_MAX - 1, 4)) {
         printf("stack: the repair found no fault\n");
+        return 1;
+    }
+    if (stopped != 0) {
+        printf("stack: a call stopped\n");
         return 1;
     }
     return wrong;

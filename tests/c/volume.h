@@ -17,17 +17,20 @@ struct volume {
     uint8_t output[CMT_OUTPUT_BYTES(CMT_DEPTH_MAX)];
 };
 
+CMT_CHECKED
 static inline uint64_t volume_house_table(struct volume *v)
 {
     return cmt_house_table(v->depth, v->table, CMT_HOUSE_TABLE_BYTES(v->depth));
 }
 
-/* The block and the table: each symbol of the block is one byte throughout. */
+/* The block and the table: each page of the block is one byte throughout. */
+CMT_CHECKED
 static inline uint64_t volume_begin(struct volume *v, uint64_t depth)
 {
+    static const uint8_t bytes[8] = {1, 2, 4, 8, 16, 32, 64, 128};
     v->depth = depth;
     for (size_t i = 0; i < CMT_BLOCK_BYTES(depth); i++) {
-        v->block[i] = (uint8_t)(1 << i / 256 % 8);
+        v->block[i] = bytes[i / 256 % 8];
     }
     return volume_house_table(v);
 }
@@ -36,9 +39,10 @@ static inline uint64_t volume_begin(struct volume *v, uint64_t depth)
  * that table the tree of the house table has a fault in its base. */
 static inline void volume_change_table(struct volume *v)
 {
-    v->table[CMT_HOUSE_TABLE_BYTES(v->depth) - 4 * 5 + 3] ^= 2 ^ 1;
+    v->table[CMT_HOUSE_TABLE_BYTES(v->depth) - 4 * 5 + 3] ^= 3;
 }
 
+CMT_CHECKED
 static inline uint64_t volume_write(struct volume *v)
 {
     return cmt_tree_write(v->depth, v->table, CMT_HOUSE_TABLE_BYTES(v->depth), v->block,
@@ -46,6 +50,7 @@ static inline uint64_t volume_write(struct volume *v)
                           CMT_MARKS_BYTES(v->depth), v->root, sizeof v->root);
 }
 
+CMT_CHECKED
 static inline uint64_t volume_repair(struct volume *v)
 {
     return cmt_repair(v->depth, v->root, sizeof v->root, v->table, CMT_HOUSE_TABLE_BYTES(v->depth),
@@ -54,6 +59,7 @@ static inline uint64_t volume_repair(struct volume *v)
 }
 
 /* Checks the first bytes of the output as a proof. */
+CMT_CHECKED
 static inline uint64_t volume_check(const struct volume *v, size_t proof_len)
 {
     return cmt_proof_check(v->depth, v->root, sizeof v->root, v->table,
