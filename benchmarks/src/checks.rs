@@ -1,6 +1,5 @@
 //! Checking the longest fault proof and a sample of depth 1 to 5, beside the reference and beside hashing alone.
 
-use crate::calls;
 use crate::turns::{each, shortest, Work};
 use crate::volume::{hash, long_table, Volume};
 use reference::proof::{self, Head};
@@ -46,7 +45,7 @@ impl Checked {
 
 const PROOF: [Work<Checked>; 3] = [
     ("cedunmi", |Checked { volume: v, bytes, .. }| {
-        each(TIMES, || assert_eq!(calls::proof_check(v.depth, &v.root, &v.table, bytes), 0))
+        each(TIMES, || assert_eq!(cedunmi_sys::cmt_proof_check(v.depth, &v.root, &v.table, bytes), 0))
     }),
     ("reference", |Checked { volume: v, bytes, .. }| {
         each(TIMES, || assert!(proof::check(v.depth, &v.root, &v.table, bytes).is_ok()))
@@ -56,7 +55,7 @@ const PROOF: [Work<Checked>; 3] = [
 
 const SAMPLE: [Work<Checked>; 3] = [
     ("cedunmi", |Checked { volume: v, bytes, .. }| {
-        each(TIMES, || assert_eq!(calls::sample_check(v.depth, NUMBER, &v.root, bytes), 0))
+        each(TIMES, || assert_eq!(cedunmi_sys::cmt_sample_check(v.depth, NUMBER, &v.root, bytes), 0))
     }),
     ("reference", |Checked { volume: v, bytes, .. }| {
         each(TIMES, || assert!(sample::check(v.depth, NUMBER, &v.root, bytes).is_ok()))

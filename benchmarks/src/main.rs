@@ -8,7 +8,6 @@
 //!     benchmarks repair TRIALS          prints NAME, CASE, DEPTH, SYMBOLS and the fewest nanoseconds to repair a tree
 //!     benchmarks checks TRIALS          prints NAME, proof or sample, DEPTH, BYTES and the fewest nanoseconds to check it
 
-mod calls;
 mod checks;
 mod clock;
 mod openssl;

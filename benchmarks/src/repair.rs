@@ -1,6 +1,5 @@
 //! Repairing trees of depth 1 to 5 with the house table, beside the reference and beside hashing alone.
 
-use crate::calls;
 use crate::turns::{each, shortest, Work};
 use crate::volume::{hash, Volume};
 use reference::repair::{output_len, repair, End, Repaired};
@@ -34,7 +33,7 @@ impl Lent {
     fn cedunmi(&mut self) -> f64 {
         let Lent { volume: v, tree, marks, output } = self;
         each(1, || {
-            let result = calls::repair(v.depth, &v.root, &v.table, tree, marks, output);
+            let result = cedunmi_sys::cmt_repair(v.depth, &v.root, &v.table, tree, marks, output);
             assert_eq!(result % 256, 0);
         })
     }

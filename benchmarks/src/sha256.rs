@@ -1,6 +1,5 @@
 //! The implementations of SHA-256 that are compared.
 
-use crate::calls;
 use crate::openssl;
 use sha2::{Digest, Sha256};
 
@@ -17,7 +16,7 @@ pub static HASHERS: [Hasher; 4] = [
 ];
 
 fn cedunmi(message: &[u8], digest: &mut [u8; 32]) {
-    calls::sha256(message, digest);
+    cedunmi_sys::cmt_sha256(message, digest);
 }
 
 fn reference(message: &[u8], digest: &mut [u8; 32]) {

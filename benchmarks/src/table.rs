@@ -1,6 +1,5 @@
 //! Reading the house table of depth 5, beside the reference and beside hashing.
 
-use crate::calls;
 use crate::turns::{each, shortest, Work};
 use crate::volume::hash;
 use reference::table;
@@ -15,7 +14,7 @@ const SYMBOLS: usize = 31;
 
 /// What is timed, each on the table's bytes.
 const WORK: [Work<Vec<u8>>; 3] = [
-    ("cedunmi", |b| each(TIMES, || assert_eq!(calls::table_check(DEPTH, b), 0))),
+    ("cedunmi", |b| each(TIMES, || assert_eq!(cedunmi_sys::cmt_table_check(DEPTH, b), 0))),
     ("reference", |b| each(TIMES, || assert!(table::check_bytes(DEPTH, b).is_ok()))),
     ("sixteenth", |b| each(TIMES, || hash(b, SYMBOLS))),
 ];

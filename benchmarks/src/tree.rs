@@ -1,6 +1,5 @@
 //! Writing trees of depth 1 to 5 with the house table, beside the reference and beside hashing alone.
 
-use crate::calls;
 use crate::turns::{each, shortest, Work};
 use crate::volume::{hash, Volume};
 use reference::table::house;
@@ -10,7 +9,7 @@ const TIMES: usize = 8;
 
 fn cedunmi(v: &mut Volume) {
     let (tree, marks, root) = (&mut v.tree, &mut v.marks, &mut v.root);
-    assert_eq!(calls::tree_write(v.depth, &v.table, &v.block, tree, marks, root), 0);
+    assert_eq!(cedunmi_sys::cmt_tree_write(v.depth, &v.table, &v.block, tree, marks, root), 0);
 }
 
 const WORK: [Work<Volume>; 3] = [

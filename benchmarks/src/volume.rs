@@ -1,6 +1,5 @@
 //! Trees of the house table, and of the table with the longest equations.
 
-use crate::calls;
 use reference::table::{data_symbols, house, to_bytes, write, Layers};
 use reference::tree::{self, block_len, tree_symbols, ROOT, SYMBOL};
 
@@ -62,6 +61,6 @@ pub fn long_table(depth: usize) -> Vec<u32> {
 pub fn hash(tree: &[u8], symbols: usize) {
     let mut digest = [0; 32];
     for symbol in tree.chunks_exact(SYMBOL).cycle().take(symbols) {
-        assert_eq!(calls::sha256(symbol, &mut digest), 0);
+        assert_eq!(cedunmi_sys::cmt_sha256(symbol, &mut digest), 0);
     }
 }

@@ -6,7 +6,7 @@ use crate::comparisons::Comparisons;
 use crate::difference::Compared;
 use crate::input::Input;
 use crate::random::Random;
-use cedunmi_sys::Word;
+use cedunmi_sys::{Lent, Word};
 use reference::stop::Stop;
 
 pub struct Call {
@@ -127,10 +127,9 @@ impl Call {
             }
             let &(pointer, len) = buffers.next().expect("a buffer");
             words.push(match argument {
-                Argument::Read(..) => Word::Read(pointer),
-                _ => Word::Written(pointer),
+                Argument::Read(..) => Word::Read(Lent { pointer, len }),
+                _ => Word::Written(Lent { pointer, len }),
             });
-            words.push(Word::Length(len));
         }
         words
     }

@@ -5,7 +5,7 @@ use crate::call::{Call, Test};
 use crate::input::Input;
 use crate::results::number;
 use crate::CALLS;
-use cedunmi_sys::{Word, FUNCTIONS};
+use cedunmi_sys::{Declared, Word, FUNCTIONS};
 use std::collections::BTreeMap;
 use std::rc::Rc;
 use std::slice;
@@ -19,7 +19,7 @@ pub struct Library(BTreeMap<&'static str, Function>);
 impl Library {
     /// The proved library.
     pub fn linked() -> Library {
-        let function = |&(name, function): &(&'static str, cedunmi_sys::Function)| {
+        let function = |&(name, _, function): &Declared| {
             // SAFETY: the pointers go to arrays, each with a length that lies inside its array.
             let function: Function = Rc::new(move |words: &[Word]| unsafe { function(words) });
             (name.strip_prefix("cmt_").unwrap_or(name), function)
@@ -59,12 +59,12 @@ pub fn by(call: &'static Call, body: impl Fn(&mut Input) -> u64 + 'static) -> Fu
 
 /// The buffers that the words lend.
 pub fn buffers(words: &[Word]) -> Vec<(*mut u8, usize)> {
-    let pairs = words.windows(2).filter_map(|pair| match *pair {
-        [Word::Read(pointer), Word::Length(len)] => Some((pointer as *mut u8, len)),
-        [Word::Written(pointer), Word::Length(len)] => Some((pointer, len)),
-        _ => None,
+    let lent = words.iter().filter_map(|word| match *word {
+        Word::Number(_) => None,
+        Word::Read(lent) => Some((lent.pointer as *mut u8, lent.len)),
+        Word::Written(lent) => Some((lent.pointer, lent.len)),
     });
-    pairs.collect()
+    lent.collect()
 }
 
 /// A copy of what the words lend.

@@ -5,7 +5,7 @@ use std::env;
 use std::path::{Path, PathBuf};
 
 fn main() {
-    let made = Path::new(env!("CARGO_MANIFEST_DIR")).join("../../target/staticlib");
+    let made = Path::new(env!("CARGO_MANIFEST_DIR")).join("../../../target/staticlib");
     let folder = env::var_os("CEDUNMI_LIB_DIR").map_or(made, PathBuf::from);
     let archive = folder.join("libcedunmi_c.a");
     if !archive.is_file() {

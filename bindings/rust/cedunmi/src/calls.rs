@@ -1,0 +1,84 @@
+//! The calls. What a call writes is made with the length that its depth asks; of a depth that there is not
+//! it is empty, and the call names the depth.
+
+use crate::result::{done, ended};
+use crate::{Depth, Repaired, Stop, DIGEST_BYTES, ROOT_BYTES};
+use cedunmi_sys as library;
+
+/// A coded volume.
+#[derive(Clone, Debug, PartialEq, Eq)]
+pub struct Coded {
+    pub tree: Vec<u8>,
+    pub marks: Vec<u8>,
+    pub root: [u8; ROOT_BYTES],
+}
+
+/// Zeros, as many as a depth asks.
+fn room(depth: u64, bytes: fn(Depth) -> usize) -> Vec<u8> {
+    vec![0; Depth::new(depth).map_or(0, bytes)]
+}
+
+/// SHA-256 of a message of at most `MESSAGE_MAX` bytes.
+pub fn sha256(message: &[u8]) -> Result<[u8; DIGEST_BYTES], Stop> {
+    let mut digest = [0; DIGEST_BYTES];
+    done(library::cmt_sha256(message, &mut digest))?;
+    Ok(digest)
+}
+
+/// Whether the bytes are a well-formed parity table of this depth.
+pub fn check_table(depth: u64, table: &[u8]) -> Result<(), Stop> {
+    done(library::cmt_table_check(depth, table))
+}
+
+/// The house table.
+pub fn house_table(depth: u64) -> Result<Vec<u8>, Stop> {
+    let mut table = room(depth, Depth::house_table_bytes);
+    done(library::cmt_house_table(depth, &mut table))?;
+    Ok(table)
+}
+
+/// Codes a block.
+pub fn code(depth: u64, table: &[u8], block: &[u8]) -> Result<Coded, Stop> {
+    let (mut tree, mut marks) = (room(depth, Depth::tree_bytes), room(depth, Depth::symbols));
+    let mut root = [0; ROOT_BYTES];
+    done(library::cmt_tree_write(depth, table, block, &mut tree, &mut marks, &mut root))?;
+    Ok(Coded { tree, marks, root })
+}
+
+/// The block of a tree, each of whose data symbols in the base must be marked held. No hash is looked at.
+pub fn read_block(depth: u64, tree: &[u8], marks: &[u8]) -> Result<Vec<u8>, Stop> {
+    let mut block = room(depth, Depth::block_bytes);
+    done(library::cmt_block_read(depth, tree, marks, &mut block))?;
+    Ok(block)
+}
+
+/// A sample of a base symbol.
+pub fn take_sample(depth: u64, number: u64, tree: &[u8], marks: &[u8]) -> Result<Vec<u8>, Stop> {
+    let mut sample = room(depth, Depth::sample_bytes);
+    done(library::cmt_sample_take(depth, number, tree, marks, &mut sample))?;
+    Ok(sample)
+}
+
+/// Checks a sample of a base symbol against the root.
+pub fn check_sample(depth: u64, number: u64, root: &[u8], sample: &[u8]) -> Result<(), Stop> {
+    done(library::cmt_sample_check(depth, number, root, sample))
+}
+
+/// Checks a fault proof against the root and the table: accepted, the volume with this root was not coded as
+/// this table says.
+pub fn check_proof(depth: u64, root: &[u8], table: &[u8], proof: &[u8]) -> Result<(), Stop> {
+    done(library::cmt_proof_check(depth, root, table, proof))
+}
+
+/// Repairs a tree and its marks.
+pub fn repair(
+    depth: u64,
+    root: &[u8],
+    table: &[u8],
+    tree: &mut [u8],
+    marks: &mut [u8],
+) -> Result<Repaired, Stop> {
+    let mut output = room(depth, Depth::output_bytes);
+    let result = library::cmt_repair(depth, root, table, tree, marks, &mut output);
+    ended(result, output)
+}

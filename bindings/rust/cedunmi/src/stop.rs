@@ -1,0 +1,75 @@
+//! Why a call stopped.
+
+use crate::explain;
+use std::fmt;
+
+/// The numbers of the header, with their values.
+#[derive(Clone, Copy, Debug, PartialEq, Eq)]
+#[non_exhaustive]
+pub enum Stop {
+    WrongDepth,
+    WrongLength,
+    /// The first wrong word, or the number of words where the table is short.
+    WrongTable {
+        word: u64,
+    },
+    /// The lowest place with a mark that is neither 0 nor 1.
+    WrongMark {
+        place: u64,
+    },
+    WrongNumber,
+    WrongHead,
+    WrongHash,
+    NoFault,
+    /// The index in the sample of the first that is absent, or, reading a block, its base number.
+    Absent {
+        number: u64,
+    },
+    /// A result that this crate does not know: the library is another version's.
+    Unknown {
+        result: u64,
+    },
+}
+
+impl Stop {
+    /// The number in the header; 0 for a result that has none.
+    pub fn number(self) -> u8 {
+        match self {
+            Stop::WrongDepth => 1,
+            Stop::WrongLength => 2,
+            Stop::WrongTable { .. } => 3,
+            Stop::WrongMark { .. } => 4,
+            Stop::WrongNumber => 5,
+            Stop::WrongHead => 6,
+            Stop::WrongHash => 7,
+            Stop::NoFault => 8,
+            Stop::Absent { .. } => 9,
+            Stop::Unknown { .. } => 0,
+        }
+    }
+
+    /// What it means, without its value.
+    pub fn meaning(self) -> &'static str {
+        match self {
+            Stop::Unknown { .. } => explain(u64::MAX),
+            _ => explain(self.number().into()),
+        }
+    }
+}
+
+impl fmt::Display for Stop {
+    fn fmt(&self, f: &mut fmt::Formatter<'_>) -> fmt::Result {
+        f.write_str(self.meaning())?;
+        match self {
+            Stop::WrongTable { word } => {
+                write!(f, ": word {word} is the first wrong one, or the table ends there")
+            }
+            Stop::WrongMark { place } => write!(f, ": that of page {place} is the lowest such"),
+            Stop::Absent { number } => write!(f, ": number {number}"),
+            Stop::Unknown { result } => write!(f, ": {result:#x}"),
+            _ => Ok(()),
+        }
+    }
+}
+
+impl std::error::Error for Stop {}

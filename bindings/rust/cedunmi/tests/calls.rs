@@ -1,0 +1,65 @@
+//! Each call from the crate's own side: what it gives, and each stop that it can give, at every depth.
+
+use cedunmi::{Depth, End, Stop};
+
+/// A volume whose bytes differ from page to page, coded with the house table.
+fn coded(depth: u64) -> (Vec<u8>, Vec<u8>, cedunmi::Coded) {
+    let bytes = Depth::new(depth).expect("a depth").block_bytes();
+    let volume: Vec<u8> = (0..bytes).map(|i| (i + i / 256) as u8).collect();
+    let table = cedunmi::house_table(depth).expect("the house table");
+    let coded = cedunmi::code(depth, &table, &volume).expect("a tree");
+    (volume, table, coded)
+}
+
+#[test]
+fn a_volume_goes_round() {
+    for depth in 1..=5 {
+        let (volume, table, coded) = coded(depth);
+        assert_eq!(cedunmi::check_table(depth, &table), Ok(()));
+        assert_eq!(cedunmi::read_block(depth, &coded.tree, &coded.marks), Ok(volume));
+        let sample = cedunmi::take_sample(depth, 13, &coded.tree, &coded.marks).expect("a sample");
+        assert_eq!(cedunmi::check_sample(depth, 13, &coded.root, &sample), Ok(()));
+        assert_eq!(cedunmi::check_sample(depth, 12, &coded.root, &sample), Err(Stop::WrongHash));
+        for i in 0..2 * depth as usize - 1 {
+            let place = Depth::new(depth).expect("a depth").sampled_place(13, i);
+            assert_eq!(sample[256 * i..][..256], coded.tree[256 * place..][..256]);
+        }
+    }
+}
+
+#[test]
+fn ends_come_with_what_they_show() {
+    let (_, table, coded) = coded(2);
+    let (mut tree, mut marks) = (coded.tree.clone(), vec![0; coded.marks.len()]);
+    let end = cedunmi::repair(2, &coded.root, &table, &mut tree, &mut marks).expect("an end");
+    assert_eq!((end.stored, end.end), (0, End::Unavailable { layer: 0 }));
+    let (mut tree, mut marks, mut root) = (coded.tree.clone(), coded.marks.clone(), coded.root);
+    tree[256 * 7..][..256].copy_from_slice(&[1; 256]);
+    root[32 * 7..][..32].copy_from_slice(&cedunmi::sha256(&[1; 256]).expect("a digest"));
+    let proof = match cedunmi::repair(2, &root, &table, &mut tree, &mut marks).expect("an end").end
+    {
+        End::Fault { proof } => proof,
+        other => panic!("{other}"),
+    };
+    assert_eq!((proof.len(), cedunmi::check_proof(2, &root, &table, &proof)), (780, Ok(())));
+    assert_eq!(cedunmi::check_proof(2, &coded.root, &table, &proof), Err(Stop::NoFault));
+}
+
+#[test]
+fn every_stop_comes() {
+    let (volume, table, coded) = coded(1);
+    assert_eq!(cedunmi::house_table(6), Err(Stop::WrongDepth));
+    assert_eq!(cedunmi::code(1 << 32 | 1, &table, &volume), Err(Stop::WrongDepth));
+    assert_eq!(cedunmi::code(1, &table, &volume[1..]), Err(Stop::WrongLength));
+    assert_eq!(cedunmi::sha256(&vec![0; cedunmi::MESSAGE_MAX + 1]), Err(Stop::WrongLength));
+    assert_eq!(cedunmi::check_table(1, &table[..240]), Err(Stop::WrongTable { word: 60 }));
+    let mut marks = coded.marks.clone();
+    marks[9] = 2;
+    assert_eq!(cedunmi::read_block(1, &coded.tree, &marks), Err(Stop::WrongMark { place: 9 }));
+    marks[9] = 1;
+    marks[3] = 0;
+    assert_eq!(cedunmi::read_block(1, &coded.tree, &marks), Err(Stop::Absent { number: 3 }));
+    assert_eq!(cedunmi::take_sample(1, 16, &coded.tree, &marks), Err(Stop::WrongNumber));
+    let proof = [0; 780];
+    assert_eq!(cedunmi::check_proof(1, &coded.root, &table, &proof), Err(Stop::WrongHead));
+}
