@@ -1,0 +1,175 @@
+//! The end of a repair in words: the one place where an end becomes lines and a status.
+
+use crate::failure::{DAMAGED, ENDS};
+use crate::report::{layers, Pages};
+use cedunmi::{Depth, End, Repaired};
+
+/// Where what a repair shows goes.
+pub enum Shown<'a> {
+    /// Nowhere: nothing is written.
+    Nowhere,
+    In(&'a str),
+}
+
+/// The exit status of a repair that ended so.
+pub fn status(end: &End) -> u8 {
+    match end.number() {
+        0 => 0,
+        number => ENDS + number,
+    }
+}
+
+/// The exit status where nothing is repaired: a tree that a repair would change is damaged.
+pub fn status_as_is(repaired: &Repaired) -> u8 {
+    match repaired {
+        Repaired { stored: 0, end: End::Whole } => 0,
+        Repaired { end: End::Whole, .. } => DAMAGED,
+        Repaired { end, .. } => status(end),
+    }
+}
+
+/// The report of a repair: layers, pages stored, end.
+pub fn report(
+    depth: Depth,
+    repaired: &Repaired,
+    before: &Pages,
+    after: &Pages,
+    shown: &Shown,
+) -> String {
+    let Repaired { stored, end } = repaired;
+    let layers = layers(depth, end, before, after);
+    format!("{layers}stored: {stored}\n{}\n", ended(end, after, depth, shown))
+}
+
+/// The end in one line, with what to do about it.
+pub fn ended(end: &End, after: &Pages, depth: Depth, shown: &Shown) -> String {
+    match (end, shown) {
+        (End::Fault { proof }, Shown::In(name)) => {
+            format!("{}; the proof of {} bytes is in {name}", end.meaning(), proof.len())
+        }
+        (End::Fault { proof }, Shown::Nowhere) => {
+            format!("{}; the proof would have {} bytes", end.meaning(), proof.len())
+        }
+        (End::Unavailable { layer }, _) => {
+            let missing = depth.places(*layer).filter(|place| after.marks[*place] == 0).count();
+            format!("unavailable: no equation gives another page of layer {layer}; bring some of its {missing} missing pages, and repair again")
+        }
+        (End::Twins { .. }, Shown::In(name)) => format!("{}; they are in {name}", end.meaning()),
+        _ => end.meaning().to_string(),
+    }
+}
+
+#[cfg(test)]
+mod tests {
+    use super::*;
+    use crate::failure::{Failure, UNKNOWN};
+    use cedunmi::Stop;
+
+    fn depth() -> Depth {
+        Depth::new(2).expect("a depth")
+    }
+
+    /// A tree of which every page is held.
+    fn held() -> Pages {
+        Pages { tree: vec![0; depth().tree_bytes()], marks: vec![1; depth().symbols()] }
+    }
+
+    fn told(
+        stored: usize,
+        end: End,
+        before: &Pages,
+        after: &Pages,
+        shown: &Shown,
+    ) -> (String, u8, u8) {
+        let repaired = Repaired { stored, end };
+        let text = report(depth(), &repaired, before, after, shown);
+        (text, status(&repaired.end), status_as_is(&repaired))
+    }
+
+    #[test]
+    fn whole() {
+        let (after, mut before) = (held(), held());
+        let said = "whole: every page is held, and the tree agrees with the root and the table\n";
+        let none = "layer 0: 16 pages, 0 to 15: 0 absent, 0 bad; 0 stored, 0 missing\n\
+                    layer 1: 32 pages, 16 to 47: 0 absent, 0 bad; 0 stored, 0 missing\n";
+        let now = told(0, End::Whole, &before, &after, &Shown::Nowhere);
+        assert_eq!(now, (format!("{none}stored: 0\n{said}"), 0, 0));
+        before.marks[2] = 0;
+        before.tree[256 * 5 + 255] = 1;
+        before.tree[256 * 47] = 1;
+        let lines = "layer 0: 16 pages, 0 to 15: 1 absent, 1 bad; 2 stored, 0 missing\n  bad copies: 5\n\
+                     layer 1: 32 pages, 16 to 47: 0 absent, 1 bad; 1 stored, 0 missing\n  bad copies: 47\n";
+        let now = told(3, End::Whole, &before, &after, &Shown::In("proof"));
+        assert_eq!(now, (format!("{lines}stored: 3\n{said}"), 0, 30));
+    }
+
+    #[test]
+    fn fault() {
+        let proof = [&[0x40, 0, 0, 0][..], &[0; 776]].concat();
+        let lines = "layer 0: 16 pages, 0 to 15: 0 absent, 0 bad; 0 stored, 0 missing\n\
+                     layer 1: 32 pages, 16 to 47: not entered\nstored: 0\n\
+                     fault: the volume was not coded as the table says; ";
+        let now = |shown| told(0, End::Fault { proof: proof.clone() }, &held(), &held(), &shown);
+        assert_eq!(
+            now(Shown::In("a/proof")),
+            (format!("{lines}the proof of 780 bytes is in a/proof\n"), 31, 31)
+        );
+        assert_eq!(
+            now(Shown::Nowhere),
+            (format!("{lines}the proof would have 780 bytes\n"), 31, 31)
+        );
+    }
+
+    #[test]
+    fn unavailable() {
+        let (mut before, mut after) = (held(), held());
+        before.marks[20] = 0;
+        after.marks[20] = 0;
+        after.marks[47] = 0;
+        let lines = "layer 0: 16 pages, 0 to 15: 0 absent, 0 bad; 0 stored, 0 missing\n\
+                     layer 1: 32 pages, 16 to 47: 1 absent, 1 bad; 0 stored, 2 missing\n\
+                     \x20 bad copies: 47\n\x20 missing: 20 47\nstored: 0\n\
+                     unavailable: no equation gives another page of layer 1; \
+                     bring some of its 2 missing pages, and repair again\n";
+        let now = told(0, End::Unavailable { layer: 1 }, &before, &after, &Shown::In("proof"));
+        assert_eq!(now, (lines.to_string(), 32, 32));
+    }
+
+    #[test]
+    fn twins() {
+        let now =
+            told(7, End::Twins { symbols: vec![0; 512] }, &held(), &held(), &Shown::In("twins"));
+        assert!(now.0.ends_with("stored: 7\ntwins: two different pages of equal SHA-256 were found; they are in twins\n"));
+        assert_eq!((now.1, now.2), (33, 33));
+        let now = told(7, End::Twins { symbols: vec![0; 512] }, &held(), &held(), &Shown::Nowhere);
+        assert!(now.0.ends_with("\ntwins: two different pages of equal SHA-256 were found\n"));
+    }
+
+    /// Every stop there is: its status is its number, and its line begins with it.
+    #[test]
+    fn stops() {
+        let stops = [
+            (Stop::WrongDepth, "1: the depth is not 1 to 5"),
+            (Stop::WrongLength, "2: a length is wrong"),
+            (Stop::WrongTable { word: 61 }, "3: the table breaks a rule: word 61 is the first wrong one, or the table ends there"),
+            (Stop::WrongMark { place: 3 }, "4: a mark is neither 0 nor 1: that of page 3 is the lowest such"),
+            (Stop::WrongNumber, "5: the base has no page of this number"),
+            (
+                Stop::WrongHead,
+                "6: the proof's head has a wrong kind, layer or equation, or the equation has no such member",
+            ),
+            (Stop::WrongHash, "7: a hash doesn't lead to the root"),
+            (Stop::NoFault, "8: the withheld hash fits: the proof shows no fault"),
+            (Stop::Absent { number: 4 }, "9: a needed page is absent: number 4"),
+        ];
+        for (number, (stop, line)) in (1..).zip(stops) {
+            let failure = Failure::stopped(stop);
+            assert_eq!((failure.status, &failure.lines[..]), (number, &[line.to_string()][..]));
+        }
+        let failure = Failure::stopped(Stop::Unknown { result: 0x1ff });
+        assert_eq!(
+            (failure.status, &failure.lines[0][..]),
+            (UNKNOWN, "a number that no call gives: 0x1ff")
+        );
+    }
+}

@@ -1,0 +1,21 @@
+//! `check DEPTH ROOT TABLE TREE MARKS`
+
+use super::repair::Attempt;
+use super::Done;
+use crate::answer::{self, Shown};
+use crate::arguments::Arguments;
+use crate::input::Reader;
+use crate::said;
+
+pub fn run(arguments: &Arguments) -> Done {
+    let [depth, root, table, tree, marks] = arguments.take()?;
+    let attempt = Attempt::read(
+        &mut Reader::new(arguments.options.quiet),
+        [depth, root, table, tree, marks],
+    )?;
+    let after = attempt.repair()?;
+    if !arguments.options.quiet {
+        said::report(&after.report(&Shown::Nowhere))?;
+    }
+    Ok(answer::status_as_is(&after.repaired))
+}

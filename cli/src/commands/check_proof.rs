@@ -1,0 +1,18 @@
+//! `check-proof DEPTH ROOT TABLE PROOF`
+
+use super::{told, Done};
+use crate::arguments::{decimal, Arguments};
+use crate::input::{stopped, Reader};
+use crate::kind::Kind;
+
+pub fn run(arguments: &Arguments) -> Done {
+    let [depth, root, table, proof] = arguments.take()?;
+    let depth = decimal("DEPTH", depth)?;
+    let mut reader = Reader::new(arguments.options.quiet);
+    let root = reader.read(root, Kind::Root)?;
+    let table = reader.read(table, Kind::Table)?;
+    let proof = reader.read(proof, Kind::Proof)?;
+    cedunmi::check_proof(depth, &root.bytes, &table.bytes, &proof.bytes)
+        .map_err(|stop| stopped(stop, depth, &[&root, &table, &proof]))?;
+    told(arguments, "accepted: the volume with this root was not coded as this table says")
+}

@@ -1,0 +1,14 @@
+//! `check-table DEPTH TABLE`
+
+use super::{told, Done};
+use crate::arguments::{decimal, Arguments};
+use crate::input::{stopped, Reader};
+use crate::kind::Kind;
+
+pub fn run(arguments: &Arguments) -> Done {
+    let [depth, table] = arguments.take()?;
+    let depth = decimal("DEPTH", depth)?;
+    let table = Reader::new(arguments.options.quiet).read(table, Kind::Table)?;
+    cedunmi::check_table(depth, &table.bytes).map_err(|stop| stopped(stop, depth, &[&table]))?;
+    told(arguments, "accepted: the table is well-formed")
+}

@@ -1,0 +1,20 @@
+//! `explain NUMBER`
+
+use super::Done;
+use crate::arguments::{decimal, Arguments};
+use crate::explain;
+use crate::failure::Failure;
+use crate::said;
+
+pub fn run(arguments: &Arguments) -> Done {
+    let [number] = arguments.take()?;
+    let number = decimal("NUMBER", number)?;
+    let text = explain::of(number);
+    said::data(
+        text.ok_or_else(|| {
+            Failure::usage("numbers are 0 to 9, and the exit statuses of cedunmi help")
+        })?
+        .as_bytes(),
+    )?;
+    Ok(0)
+}

@@ -1,0 +1,69 @@
+//! `read DEPTH ROOT TABLE TREE MARKS VOLUME`, and `read --unverified DEPTH TREE MARKS VOLUME`
+
+use super::repair::{After, Attempt};
+use super::Done;
+use crate::answer;
+use crate::arguments::{decimal, Arguments};
+use crate::failure::Failure;
+use crate::input::{stopped, Reader};
+use crate::kind::Kind;
+use crate::output::{Content, Output};
+use crate::said;
+use cedunmi::{Depth, End, Stop};
+
+/// Reads what a repair in memory gives, so that the volume is the one of root and table.
+pub fn run(arguments: &Arguments) -> Done {
+    let [depth, root, table, tree, marks, volume] = arguments.take()?;
+    let attempt = Attempt::read(
+        &mut Reader::new(arguments.options.quiet),
+        [depth, root, table, tree, marks],
+    )?;
+    let depth = decimal("DEPTH", depth)?;
+    let output = Output::file(volume, arguments.options, &attempt.inputs())?;
+    let after = attempt.repair()?;
+    let status = answer::status_as_is(&after.repaired);
+    if after.repaired.end != End::Whole {
+        let failure =
+            Failure::new(status, format!("the volume was not read: {}", after.repaired.end));
+        return Err(
+            failure.and("cedunmi check says more; read --unverified reads it by the marks alone")
+        );
+    }
+    let bytes = cedunmi::read_block(depth, &after.pages.tree, &after.pages.marks)
+        .map_err(Failure::stopped)?;
+    output.put(Content::File(&bytes))?;
+    if status != 0 && !arguments.options.quiet {
+        said::remark(&damaged(&after));
+    }
+    Ok(status)
+}
+
+fn damaged(after: &After) -> String {
+    let (absent, bad) = after.lacked();
+    format!("the volume is right by root and table, but the tree is damaged: {absent} pages absent, {bad} bad; repair it")
+}
+
+pub fn unverified(arguments: &Arguments) -> Done {
+    let [depth, tree, marks, volume] = arguments.take()?;
+    let depth = decimal("DEPTH", depth)?;
+    let mut reader = Reader::new(arguments.options.quiet);
+    let tree = reader.read(tree, Kind::Tree)?;
+    let marks = reader.read(marks, Kind::Marks)?;
+    let inputs = [&tree, &marks];
+    let output = Output::file(volume, arguments.options, &inputs)?;
+    let bytes = cedunmi::read_block(depth, &tree.bytes, &marks.bytes)
+        .map_err(|stop| absent(stop, depth, stopped(stop, depth, &inputs)))?;
+    output.put(Content::File(&bytes))?;
+    Ok(0)
+}
+
+/// With 9, the page that is to be brought.
+fn absent(stop: Stop, depth: u64, failure: Failure) -> Failure {
+    match (stop, Depth::new(depth)) {
+        (Stop::Absent { number }, Some(depth)) => failure.and(format!(
+            "it is page {}",
+            depth.places(depth.layers() - 1).start + number as usize
+        )),
+        _ => failure,
+    }
+}

@@ -1,0 +1,32 @@
+//! `typed TEXT ROOT`
+
+use super::Done;
+use crate::arguments::Arguments;
+use crate::failure::{Failure, SLIP};
+use crate::input::{stopped, Reader};
+use crate::kind::Kind;
+use crate::output::{Content, Output};
+use crate::printed::{self, Slips};
+use crate::said;
+use cedunmi::Stop;
+
+pub fn run(arguments: &Arguments) -> Done {
+    let [text, root] = arguments.take()?;
+    let text = Reader::new(arguments.options.quiet).read(text, Kind::Text)?;
+    if text.bytes.len() > Kind::Text.most() {
+        return Err(stopped(Stop::WrongLength, 1, &[&text]));
+    }
+    let output = Output::file(root, arguments.options, &[&text])?;
+    let typed = printed::parse(&text.bytes).map_err(|slips| match slips {
+        Slips::Lines(lines) => Failure { status: SLIP, lines },
+        Slips::Stopped(stop) => Failure::stopped(stop),
+    })?;
+    output.put(Content::File(&typed.root))?;
+    if typed.unchecked > 0 && !arguments.options.quiet {
+        said::remark(&format!(
+            "{} of the hashes came without a check: a slip in them would not be found",
+            typed.unchecked
+        ));
+    }
+    Ok(0)
+}

@@ -1,0 +1,88 @@
+//! What each number and each exit status means, and what to do about it.
+
+use crate::failure::{DAMAGED, ENDS, NOT_MADE, NOT_WRITTEN, SLIP, UNKNOWN, UNREADABLE, USAGE};
+use cedunmi::{explain, explain_end};
+
+/// What to do about a status.
+const TO_DO: &[(u8, &str)] = &[
+    (0, "nothing"),
+    (1, "give the depth that the manual names"),
+    (2, "the lines after it say which file has how many bytes, and how many it should have"),
+    (3, "get the table again: another copy, or by cedunmi table where it is the house table"),
+    (4, "the marks file is damaged: set that page's mark to 0, and repair"),
+    (5, "give a number below 16, 32, 64, 128, 256 at depth 1, 2, 3, 4, 5"),
+    (6, "turn the proof down, unless depth and table are not the manual's"),
+    (7, "turn it down, unless depth and root are not the manual's: it is damaged, or of another volume"),
+    (8, "turn the proof down: the volume stays in the catalogue"),
+    (9, "bring that page, or repair the tree"),
+    (DAMAGED, "mend the tree by cedunmi repair"),
+    (31, "see that depth, root and table are the manual's; then send the proof to others, who strike the volume by it"),
+    (32, "bring some of the missing pages from other shops, mark them, and repair again"),
+    (33, "keep them, and tell everybody: SHA-256 can't be relied on any more"),
+    (USAGE, "cedunmi help COMMAND shows what it takes"),
+    (SLIP, "compare the lines that are named with the print, digit by digit"),
+    (UNREADABLE, "look at its name and its rights"),
+    (UNKNOWN, "program and library are of two versions: build both again"),
+    (NOT_MADE, "give another name, or --force to replace what is there"),
+    (NOT_WRITTEN, "make room on the disk; every file is as it was"),
+];
+
+/// What a status means.
+fn meaning(status: u8) -> &'static str {
+    match status {
+        0 => "done, accepted, or whole",
+        DAMAGED => "the tree is damaged, and a repair makes it whole",
+        31..=33 => explain_end(u64::from(status - ENDS)),
+        USAGE => "bad usage",
+        SLIP => "the typed text has a slip",
+        UNREADABLE => "an input can't be read",
+        UNKNOWN => "the library answered what this program does not know",
+        NOT_MADE => "an output can't be made, is there already, or is an input",
+        NOT_WRITTEN => "an output could not be written whole",
+        number => explain(number.into()),
+    }
+}
+
+/// The text for a number, where it is a status.
+pub fn of(number: u64) -> Option<String> {
+    let (status, to_do) = TO_DO.iter().find(|(status, _)| u64::from(*status) == number)?;
+    Some(format!("{status}: {}\nto do: {to_do}\n", meaning(*status)))
+}
+
+#[cfg(test)]
+mod tests {
+    use super::*;
+    use crate::help::MANUAL;
+
+    /// The statuses that the manual lists, its `1 to 9` being nine.
+    fn listed() -> Vec<u64> {
+        let lines = MANUAL
+            .lines()
+            .skip_while(|line| *line != "Exit status")
+            .skip(1)
+            .take_while(|line| !line.is_empty());
+        let mut numbers = Vec::new();
+        for line in lines {
+            let head = &line[..10];
+            let words: Vec<u64> =
+                head.split_whitespace().filter_map(|word| word.parse().ok()).collect();
+            if head.contains("to") {
+                numbers.extend(words[0]..=words[1]);
+            } else {
+                numbers.extend(words);
+            }
+        }
+        numbers
+    }
+
+    #[test]
+    fn every_status_of_the_manual_is_explained_and_no_other() {
+        let explained: Vec<u64> = (0..=300).filter(|number| of(*number).is_some()).collect();
+        assert_eq!(listed(), explained);
+        for number in explained {
+            let text = of(number).expect("a text");
+            assert!(text.starts_with(&format!("{number}: ")) && text.lines().count() == 2);
+            assert!(!text.contains("no call gives") && !text.contains("no repair has"));
+        }
+    }
+}

@@ -1,0 +1,79 @@
+//! The kinds of files, and how long they are.
+
+use cedunmi::{Depth, MESSAGE_MAX, PROOF_HEAD_BYTES, ROOT_BYTES, TABLE_BYTES_MAX};
+
+#[derive(Clone, Copy, Debug, PartialEq, Eq)]
+pub enum Kind {
+    Volume,
+    Tree,
+    Marks,
+    Root,
+    Table,
+    Sample,
+    Proof,
+    Message,
+    Text,
+}
+
+impl Kind {
+    pub fn name(self) -> &'static str {
+        match self {
+            Kind::Volume => "volume",
+            Kind::Tree => "tree",
+            Kind::Marks => "marks file",
+            Kind::Root => "root",
+            Kind::Table => "table",
+            Kind::Sample => "sample",
+            Kind::Proof => "fault proof",
+            Kind::Message => "message",
+            Kind::Text => "typed root",
+        }
+    }
+
+    /// The most bytes that one of this kind has, at any depth: nothing is read further than one byte more,
+    /// which the call refuses like any longer file.
+    pub fn most(self) -> usize {
+        match self {
+            Kind::Table => TABLE_BYTES_MAX,
+            Kind::Proof => Depth::MAX.output_bytes(),
+            Kind::Message => MESSAGE_MAX,
+            Kind::Text => 65_536,
+            _ => self.bytes(Depth::MAX).unwrap_or(0),
+        }
+    }
+
+    /// The bytes at a depth, where that fixes them.
+    fn bytes(self, depth: Depth) -> Option<usize> {
+        match self {
+            Kind::Volume => Some(depth.block_bytes()),
+            Kind::Tree => Some(depth.tree_bytes()),
+            Kind::Marks => Some(depth.symbols()),
+            Kind::Root => Some(ROOT_BYTES),
+            Kind::Sample => Some(depth.sample_bytes()),
+            Kind::Table | Kind::Proof | Kind::Message | Kind::Text => None,
+        }
+    }
+
+    /// What is wrong with a length at a depth, if anything is: how long such a file is.
+    pub fn wanted(self, depth: Depth, len: u64) -> Option<String> {
+        match self {
+            Kind::Table if len % 4 != 0 || len > TABLE_BYTES_MAX as u64 => {
+                Some(format!("a table has a multiple of 4, at most {TABLE_BYTES_MAX}"))
+            }
+            Kind::Proof => Some(format!(
+                "a fault proof has as many as its head demands, {PROOF_HEAD_BYTES} or more"
+            )),
+            Kind::Message if len > MESSAGE_MAX as u64 => {
+                Some(format!("at most {MESSAGE_MAX} can be hashed"))
+            }
+            Kind::Text if len > Kind::Text.most() as u64 => {
+                Some(format!("a typed root has at most {}", Kind::Text.most()))
+            }
+            Kind::Root if len != ROOT_BYTES as u64 => Some(format!("a root has {ROOT_BYTES}")),
+            _ => {
+                let bytes = self.bytes(depth).filter(|&bytes| bytes as u64 != len)?;
+                Some(format!("a {} of depth {} has {bytes}", self.name(), depth.layers()))
+            }
+        }
+    }
+}

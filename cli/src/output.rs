@@ -1,0 +1,70 @@
+//! What is written: a file, or a folder of files, whole or not at all. Everything is first written beside its
+//! place under a new name, and all of it is on the disk before the first name is changed.
+
+mod locks;
+mod placing;
+mod target;
+mod temporary;
+
+use crate::arguments::Options;
+use crate::failure::Failure;
+use crate::input::Input;
+use crate::said;
+pub use locks::Locks;
+use std::ffi::OsStr;
+pub use target::Target;
+
+/// What a target is to hold.
+#[derive(Clone, Copy)]
+pub enum Content<'a> {
+    File(&'a [u8]),
+    Folder(&'a [(&'a str, &'a [u8])]),
+}
+
+/// Where a command's one output goes, with the lock of its folder.
+pub enum Output {
+    Standard,
+    Target(Target, Locks),
+}
+
+impl Output {
+    /// The file of this name, `-` being standard output, where it may be written beside these inputs.
+    pub fn file(word: &OsStr, options: Options, inputs: &[&Input]) -> Result<Output, Failure> {
+        if word == "-" {
+            target::standard(inputs)?;
+            return Ok(Output::Standard);
+        }
+        let locks = Locks::of(&[word], options.quiet)?;
+        Ok(Output::Target(Target::file(word, options.force, inputs)?, locks))
+    }
+
+    /// The folder of this name, which is to have files of these names.
+    pub fn folder(
+        word: &OsStr,
+        names: &[&str],
+        options: Options,
+        inputs: &[&Input],
+    ) -> Result<Output, Failure> {
+        let locks = Locks::of(&[word], options.quiet)?;
+        Ok(Output::Target(Target::folder(word, names, options.force, inputs)?, locks))
+    }
+
+    pub fn put(self, content: Content) -> Result<(), Failure> {
+        match (self, content) {
+            (Output::Standard, Content::File(bytes)) => said::data(bytes),
+            (Output::Standard, Content::Folder(_)) => unreachable!("a folder has a name"),
+            (Output::Target(target, locks), content) => put_all(&[(target, content)], &locks),
+        }
+    }
+}
+
+/// Puts all of these in their places, in their order, or none: the locks are of all their folders.
+pub fn put_all(outputs: &[(Target, Content)], _locks: &Locks) -> Result<(), Failure> {
+    target::apart(outputs.iter().map(|(target, _)| target))?;
+    let _signals = cedunmi_system::PutOff::begin();
+    let mut placing = placing::Placing::default();
+    for (target, content) in outputs {
+        placing.write(target, *content)?;
+    }
+    placing.place_all()
+}
