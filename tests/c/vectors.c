@@ -1,0 +1,240 @@
+/*
+ * Writes the files of vectors/ into the current folder, as the library has
+ * them: vectors/README.md says what each is.
+ */
+#define _POSIX_C_SOURCE 200809L
+#include "volume.h"
+
+#include <stdio.h>
+#include <string.h>
+#include <sys/stat.h>
+
+enum { NONE = -1, PATH = 64, ROW = 16, SYMBOL = 256 };
+
+/* What is done to a coded tree before it is repaired: places, each list ended
+ * by NONE. A bad copy is marked held and has one other byte; junk stands under
+ * mark 0. */
+struct damage {
+    const char *name;
+    int lost[10];
+    int lost_each;
+    int bad[6];
+    int junk;
+};
+
+/* A depth's vectors. Where a tree is large, a damaged one is written as changes. */
+struct vectors {
+    uint64_t depth;
+    uint64_t sample;
+    int large;
+    struct damage whole, unavailable, wrong;
+};
+
+static const struct vectors ALL[] = {
+    {1, 9, 0,
+     {"whole", {0, 1, NONE}, 0, {9, NONE}, 1},
+     {"unavailable", {4, 5, 6, 8, 9, 12, 15, NONE}, 0, {0, NONE}, NONE},
+     {"wrong", {1, NONE}, 0, {NONE}, NONE}},
+    {5, 200, 1,
+     {"whole", {NONE}, 4, {2, 40, 100, 150, 300, NONE}, 241},
+     {"unavailable", {20, 115, 122, 146, 177, 178, 208, 209, 270, NONE}, 0, {210, 300, NONE}, NONE},
+     {"wrong", {60, NONE}, 0, {NONE}, NONE}},
+};
+
+static struct volume right, lent, left;
+static int failed;
+
+static void must(int done, const char *what)
+{
+    if (!done) {
+        fprintf(stderr, "vectors: %s: not written\n", what);
+        failed = 1;
+    }
+}
+
+/* A file of the depth's folder, or of a folder in it. */
+static const char *path(const char *folder, const char *name)
+{
+    static char text[PATH];
+    snprintf(text, sizeof text, "depth-%d%s%s/%s", (int)right.depth, *folder ? "/" : "", folder, name);
+    return text;
+}
+
+static void save(const char *folder, const char *name, const void *bytes, size_t len)
+{
+    FILE *file = fopen(path(folder, name), "wb");
+    size_t written = file == NULL ? 0 : fwrite(bytes, 1, len, file);
+    must(file != NULL && fclose(file) == 0 && written == len, path(folder, name));
+}
+
+/* The rows of sixteen bytes in which a tree differs from the right one, as xxd has them. */
+static void save_changes(const char *folder, const char *name, const uint8_t *tree)
+{
+    static char text[CMT_TREE_BYTES(CMT_DEPTH_MAX) * 4];
+    size_t len = 0;
+    for (size_t row = 0; row < CMT_TREE_BYTES(right.depth); row += ROW) {
+        if (memcmp(tree + row, right.tree + row, ROW) == 0) {
+            continue;
+        }
+        len += (size_t)sprintf(text + len, "%08zx:", row);
+        for (size_t i = row; i < row + ROW; i++) {
+            len += (size_t)sprintf(text + len, i % 2 == 0 ? " %02x" : "%02x", tree[i]);
+        }
+        text[len++] = '\n';
+    }
+    save(folder, name, text, len);
+}
+
+static uint8_t digest_byte(const uint8_t *message, size_t len, size_t index)
+{
+    uint8_t digest[CMT_SHA256_DIGEST_BYTES];
+    must(cmt_sha256(message, len, digest, sizeof digest) == CMT_DONE, "a digest");
+    return digest[index];
+}
+
+/* A root as it is printed. */
+static void save_print(void)
+{
+    char text[2048];
+    size_t len = 0;
+    for (int line = 0; line < 16; line++) {
+        uint8_t numbered[1 + 32] = {(uint8_t)line};
+        memcpy(numbered + 1, right.root + 32 * line, 32);
+        len += (size_t)sprintf(text + len, "%2d", line);
+        for (int i = 1; i <= 32; i++) {
+            len += (size_t)sprintf(text + len, i % 4 == 1 ? " %02x" : "%02x", numbered[i]);
+        }
+        len += (size_t)sprintf(text + len, "  %02x%02x\n", digest_byte(numbered, 33, 0), digest_byte(numbered, 33, 1));
+    }
+    len += (size_t)sprintf(text + len, "check  ");
+    for (size_t i = 0; i < 4; i++) {
+        len += (size_t)sprintf(text + len, "%02x", digest_byte(right.root, sizeof right.root, i));
+    }
+    text[len++] = '\n';
+    save("", "root.txt", text, len);
+}
+
+/* The volume, coded as it should be, and a sample. */
+static void save_right(const struct vectors *v)
+{
+    static uint8_t sample[CMT_SAMPLE_BYTES(CMT_DEPTH_MAX)];
+    char name[PATH];
+    must(volume_begin(&right, v->depth) == CMT_DONE, "the table");
+    for (size_t i = 0; i < CMT_BLOCK_BYTES(v->depth); i++) {
+        right.block[i] = (uint8_t)(i + i / SYMBOL);
+    }
+    must(volume_write(&right) == CMT_DONE, "the tree");
+    must(cmt_sample_take(v->depth, v->sample, right.tree, CMT_TREE_BYTES(v->depth), right.marks, CMT_MARKS_BYTES(v->depth),
+                         sample, CMT_SAMPLE_BYTES(v->depth)) == CMT_DONE, "the sample");
+    must(mkdir(path("", ""), 0777) == 0, path("", ""));
+    save("", "volume", right.block, CMT_BLOCK_BYTES(v->depth));
+    save("", "table", right.table, CMT_HOUSE_TABLE_BYTES(v->depth));
+    save("", "tree", right.tree, CMT_TREE_BYTES(v->depth));
+    save("", "marks", right.marks, CMT_MARKS_BYTES(v->depth));
+    save("", "root", right.root, sizeof right.root);
+    snprintf(name, sizeof name, "sample-%d", (int)v->sample);
+    save("", name, sample, CMT_SAMPLE_BYTES(v->depth));
+    save_print();
+}
+
+static void apply(const struct damage *damage)
+{
+    for (size_t place = 0; damage->lost_each > 0 && place < CMT_MARKS_BYTES(lent.depth); place++) {
+        lent.marks[place] = place % (size_t)damage->lost_each != 1;
+    }
+    for (const int *place = damage->lost; *place != NONE; place++) {
+        lent.marks[*place] = 0;
+    }
+    for (const int *place = damage->bad; *place != NONE; place++) {
+        lent.tree[SYMBOL * *place + *place % SYMBOL] ^= 0x10;
+    }
+    if (damage->junk != NONE) {
+        memset(lent.tree + SYMBOL * damage->junk, 0xee, SYMBOL);
+    }
+}
+
+/* The file that has the tree that a repair left: the right one, the one that it was lent, or a file of its own. */
+static const char *save_left_tree(const char *folder, int large)
+{
+    size_t len = CMT_TREE_BYTES(right.depth);
+    if (memcmp(left.tree, right.tree, len) == 0) {
+        return "../tree";
+    }
+    if (memcmp(left.tree, lent.tree, len) == 0) {
+        return "tree";
+    }
+    if (large) {
+        save_changes(folder, "after-tree.xxd", left.tree);
+        return "after-tree.xxd";
+    }
+    save(folder, "after-tree", left.tree, len);
+    return "after-tree";
+}
+
+static const char *save_left_marks(const char *folder)
+{
+    size_t len = CMT_MARKS_BYTES(right.depth);
+    if (memcmp(left.marks, right.marks, len) == 0) {
+        return "../marks";
+    }
+    if (memcmp(left.marks, lent.marks, len) == 0) {
+        return "marks";
+    }
+    save(folder, "after-marks", left.marks, len);
+    return "after-marks";
+}
+
+static void save_report(const char *folder, uint64_t result, int large)
+{
+    char text[256];
+    uint64_t end = cmt_repair_end(result), value = cmt_repair_proof_bytes(result) + cmt_repair_layer(result);
+    const char *tree = save_left_tree(folder, large), *marks = save_left_marks(folder);
+    int len = snprintf(text, sizeof text, "number %d\nend %d\nstored %d\nvalue %d\ntree %s\nmarks %s\n", (int)cmt_number(result),
+                       (int)end, (int)cmt_repair_stored(result), (int)value, tree, marks);
+    save(folder, "report", text, (size_t)len);
+}
+
+/* What a repair is lent, which is in `lent`, damaged so; what it reports, and what it leaves. */
+static void save_repair(const struct damage *damage, int large)
+{
+    must(mkdir(path(damage->name, ""), 0777) == 0, path(damage->name, ""));
+    apply(damage);
+    if (large) {
+        save_changes(damage->name, "tree.xxd", lent.tree);
+    } else {
+        save(damage->name, "tree", lent.tree, CMT_TREE_BYTES(lent.depth));
+    }
+    save(damage->name, "marks", lent.marks, CMT_MARKS_BYTES(lent.depth));
+    left = lent;
+    uint64_t result = volume_repair(&left);
+    save_report(damage->name, result, large);
+    if (cmt_repair_end(result) == CMT_FAULT) {
+        must(volume_check(&left, cmt_repair_proof_bytes(result)) == CMT_DONE, "the proof");
+        save(damage->name, "root", lent.root, sizeof lent.root);
+        save(damage->name, "proof", left.output, cmt_repair_proof_bytes(result));
+    }
+}
+
+/* The same volume, with member 2 in the place of 1 in equation 0 of the base. */
+static void code_wrongly(void)
+{
+    size_t second = 4 * (60 * (((size_t)1 << (right.depth - 1)) - 1) + 3);
+    lent = right;
+    lent.table[second + 3] = 2;
+    must(volume_write(&lent) == CMT_DONE, "the wrong tree");
+    lent.table[second + 3] = 1;
+}
+
+int main(void)
+{
+    for (size_t i = 0; i < sizeof ALL / sizeof *ALL; i++) {
+        save_right(&ALL[i]);
+        lent = right;
+        save_repair(&ALL[i].whole, ALL[i].large);
+        lent = right;
+        save_repair(&ALL[i].unavailable, ALL[i].large);
+        code_wrongly();
+        save_repair(&ALL[i].wrong, 0);
+    }
+    return failed;
+}

@@ -1,0 +1,273 @@
+//! The files of vectors/, byte for byte as this implementation makes them, and
+//! no others. vectors/README.md says what each is.
+
+use reference::repair::{output_len, repair, End, Repaired};
+use reference::sample::{sample_len, take};
+use reference::sha256::sha256;
+use reference::table::{house, to_bytes};
+use reference::tree::{block_len, place, tree_symbols, write, HASH, ROOT, SYMBOL};
+use reference::{proof, sample};
+use std::collections::BTreeMap;
+use std::fs;
+use std::path::{Path, PathBuf};
+
+/// Files by their names.
+type Files = BTreeMap<String, Vec<u8>>;
+
+/// A coded volume.
+#[derive(Clone)]
+struct Volume {
+    depth: usize,
+    block: Vec<u8>,
+    table: Vec<u8>,
+    tree: Vec<u8>,
+    marks: Vec<u8>,
+    root: Vec<u8>,
+}
+
+impl Volume {
+    /// Byte i of the volume is i + i/256. It is coded by this table, and has
+    /// the house table beside it.
+    fn coded(depth: usize, table: &[u8]) -> Volume {
+        let mut volume = Volume {
+            depth,
+            block: (0..block_len(depth)).map(|i| (i + i / 256) as u8).collect(),
+            table: to_bytes(&house(depth)),
+            tree: vec![0; SYMBOL * tree_symbols(depth)],
+            marks: vec![0; tree_symbols(depth)],
+            root: vec![0; ROOT],
+        };
+        let Volume { block, tree, marks, root, .. } = &mut volume;
+        write(depth as u64, table, block, tree, marks, root).unwrap();
+        volume
+    }
+
+    fn right(depth: usize) -> Volume {
+        Volume::coded(depth, &to_bytes(&house(depth)))
+    }
+
+    /// With member 2 in the place of 1 in the base's equation 0, whose members
+    /// follow two words of the base's.
+    fn wrong(depth: usize) -> Volume {
+        let mut words = house(depth);
+        let base = words.iter().position(|&word| word == 1 << 30 | (depth as u32 - 1)).unwrap();
+        assert_eq!(words[base + 2..base + 4], [0, 1]);
+        words[base + 3] = 2;
+        Volume::coded(depth, &to_bytes(&words))
+    }
+
+    fn lose(&mut self, places: impl IntoIterator<Item = usize>) {
+        places.into_iter().for_each(|place| self.marks[place] = 0);
+    }
+
+    /// One other byte in each symbol, which is its place's number, or what 256
+    /// leaves of that.
+    fn damage(&mut self, places: &[usize]) {
+        places.iter().for_each(|place| self.tree[SYMBOL * place + place % SYMBOL] ^= 0x10);
+    }
+
+    fn fill(&mut self, place: usize, byte: u8) {
+        self.tree[SYMBOL * place..SYMBOL * (place + 1)].fill(byte);
+    }
+
+    fn sample(&self, number: usize) -> Vec<u8> {
+        let mut sample = vec![0; sample_len(self.depth)];
+        take(self.depth as u64, number as u64, &self.tree, &self.marks, &mut sample).unwrap();
+        assert_eq!(sample::check(self.depth as u64, number as u64, &self.root, &sample), Ok(()));
+        sample
+    }
+
+    /// The volume as a repair leaves it, what it reports, and its output.
+    fn repaired(&self) -> (Volume, Repaired, Vec<u8>) {
+        let mut left = self.clone();
+        let mut output = vec![0; output_len(self.depth)];
+        let Volume { depth, table, tree, marks, root, .. } = &mut left;
+        let report = repair(*depth as u64, root, table, tree, marks, &mut output).unwrap();
+        (left, report, output)
+    }
+}
+
+fn hex(bytes: &[u8]) -> String {
+    bytes.iter().map(|byte| format!("{byte:02x}")).collect()
+}
+
+/// A root as it is printed.
+fn print(root: &[u8]) -> String {
+    let mut text = String::new();
+    for (number, hash) in root.chunks(HASH).enumerate() {
+        let groups: Vec<String> = hash.chunks(4).map(hex).collect();
+        let check = sha256(&[&[number as u8], hash].concat());
+        text += &format!("{number:2} {}  {}\n", groups.join(" "), hex(&check[..2]));
+    }
+    text + &format!("check  {}\n", hex(&sha256(root)[..4]))
+}
+
+/// The rows of sixteen bytes in which a tree is another, as xxd prints them.
+fn changes(of: &[u8], tree: &[u8]) -> Vec<u8> {
+    let mut text = String::new();
+    for (row, (old, new)) in of.chunks(16).zip(tree.chunks(16)).enumerate() {
+        if old != new {
+            let pairs: Vec<String> = new.chunks(2).map(hex).collect();
+            text += &format!("{:08x}: {}\n", 16 * row, pairs.join(" "));
+        }
+    }
+    text.into_bytes()
+}
+
+/// The files of a depth, which are collected.
+struct Collected {
+    right: Volume,
+    files: Files,
+}
+
+impl Collected {
+    fn save(&mut self, name: &str, bytes: impl AsRef<[u8]>) {
+        let name = format!("depth-{}/{}", self.right.depth, name);
+        assert!(self.files.insert(name, bytes.as_ref().to_vec()).is_none());
+    }
+
+    fn save_right(&mut self, number: usize) {
+        let volume = self.right.clone();
+        self.save("volume", &volume.block);
+        self.save("table", &volume.table);
+        self.save("tree", &volume.tree);
+        self.save("marks", &volume.marks);
+        self.save("root", &volume.root);
+        self.save("root.txt", print(&volume.root));
+        self.save(&format!("sample-{number}"), volume.sample(number));
+    }
+
+    /// A tree, whole, or as the changes that make it of the right one.
+    fn save_tree(&mut self, folder: &str, name: &str, tree: &[u8], whole: bool) -> String {
+        let name = if whole { name.to_string() } else { format!("{name}.xxd") };
+        let bytes = if whole { tree.to_vec() } else { changes(&self.right.tree, tree) };
+        self.save(&format!("{folder}/{name}"), bytes);
+        name
+    }
+
+    /// What a repair is lent, what it reports, and what it leaves.
+    fn save_repair(&mut self, folder: &str, lent: &Volume, whole: bool) {
+        let (left, report, output) = lent.repaired();
+        self.save_tree(folder, "tree", &lent.tree, whole);
+        self.save(&format!("{folder}/marks"), &lent.marks);
+        let tree = if left.tree == self.right.tree {
+            "../tree".to_string()
+        } else if left.tree == lent.tree {
+            "tree".to_string()
+        } else {
+            self.save_tree(folder, "after-tree", &left.tree, whole)
+        };
+        let marks = if left.marks == self.right.marks {
+            "../marks"
+        } else if left.marks == lent.marks {
+            "marks"
+        } else {
+            self.save(&format!("{folder}/after-marks"), &left.marks);
+            "after-marks"
+        };
+        let (end, value) = match report.end {
+            End::Whole => (0, 0),
+            End::Fault(len) => (1, len),
+            End::Unavailable(layer) => (2, layer),
+            End::Twins => (3, 0),
+        };
+        let numbers = format!("number 0\nend {end}\nstored {}\nvalue {value}\n", report.stored);
+        self.save(&format!("{folder}/report"), numbers + &format!("tree {tree}\nmarks {marks}\n"));
+        if let End::Fault(len) = report.end {
+            let depth = lent.depth as u64;
+            assert_eq!(proof::check(depth, &lent.root, &lent.table, &output[..len]), Ok(()));
+            self.save(&format!("{folder}/root"), &lent.root);
+            self.save(&format!("{folder}/proof"), &output[..len]);
+        }
+    }
+}
+
+fn depth_1() -> Files {
+    let mut made = Collected { right: Volume::right(1), files: Files::new() };
+    made.save_right(9);
+    let mut lent = made.right.clone();
+    lent.lose([0, 1]);
+    lent.damage(&[9]);
+    lent.fill(1, 0xee);
+    made.save_repair("whole", &lent, true);
+    let mut lent = made.right.clone();
+    lent.lose([4, 5, 6, 8, 9, 12, 15]);
+    lent.damage(&[0]);
+    made.save_repair("unavailable", &lent, true);
+    let mut lent = Volume::wrong(1);
+    lent.lose([1]);
+    made.save_repair("wrong", &lent, true);
+    made.files
+}
+
+fn depth_5() -> Files {
+    let mut made = Collected { right: Volume::right(5), files: Files::new() };
+    made.save_right(200);
+    let mut lent = made.right.clone();
+    lent.lose((1..tree_symbols(5)).step_by(4));
+    lent.damage(&[place(0, 2), place(1, 24), place(2, 52), place(3, 38), place(4, 60)]);
+    lent.fill(place(4, 1), 0xee);
+    made.save_repair("whole", &lent, false);
+    let mut lent = made.right.clone();
+    lent.lose([place(1, 4), place(3, 10), place(4, 30)]);
+    lent.lose([3, 34, 65, 66, 96, 97].map(|number| place(3, number)));
+    lent.damage(&[place(3, 98), place(4, 60)]);
+    made.save_repair("unavailable", &lent, false);
+    let mut lent = Volume::wrong(5);
+    lent.lose([place(2, 12)]);
+    made.save_repair("wrong", &lent, true);
+    made.files
+}
+
+fn expected() -> Files {
+    depth_1().into_iter().chain(depth_5()).collect()
+}
+
+/// The files below a folder, beside what describes them.
+fn found(root: &Path, folder: &Path, files: &mut Files) {
+    for entry in fs::read_dir(folder).unwrap() {
+        let path: PathBuf = entry.unwrap().path();
+        let name = path.strip_prefix(root).unwrap().to_str().unwrap().to_string();
+        if path.is_dir() {
+            found(root, &path, files);
+        } else if name != "README.md" && name != "SHA256SUMS" {
+            files.insert(name, fs::read(path).unwrap());
+        }
+    }
+}
+
+/// The names of the files that only one side has, or that differ.
+fn differences(one: &Files, other: &Files) -> Vec<String> {
+    let names = one.keys().chain(other.keys().filter(|&name| !one.contains_key(name)));
+    names.filter(|&name| one.get(name) != other.get(name)).cloned().collect()
+}
+
+fn vectors() -> Files {
+    let root = Path::new(env!("CARGO_MANIFEST_DIR")).join("../../vectors");
+    let mut files = Files::new();
+    found(&root, &root, &mut files);
+    files
+}
+
+#[test]
+fn vectors_are_as_this_implementation_makes_them() {
+    assert_eq!(differences(&expected(), &vectors()), Vec::<String>::new());
+}
+
+/// A changed byte of any file is found, and a file too few or too many.
+#[test]
+fn a_changed_byte_is_found() {
+    let (expected, vectors) = (expected(), vectors());
+    for name in vectors.keys() {
+        let mut changed = vectors.clone();
+        let bytes = changed.get_mut(name).unwrap();
+        let middle = bytes.len() / 2;
+        bytes[middle] ^= 1;
+        assert_eq!(differences(&expected, &changed), [name.as_str()]);
+        changed.remove(name);
+        assert_eq!(differences(&expected, &changed), [name.as_str()]);
+    }
+    let mut more = vectors;
+    more.insert("depth-1/other".to_string(), Vec::new());
+    assert_eq!(differences(&expected, &more), ["depth-1/other"]);
+}
