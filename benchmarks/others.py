@@ -111,7 +111,7 @@ class Cedunmi(Commands):
     """The tree loses symbols of all its layers."""
 
     title = "Cedunmi, commands"
-    tool = str(ROOT / "cedunmi")
+    tool = str(ROOT / "target" / "cedunmi")
 
     def __init__(self, shape, room):
         super().__init__(shape, room)
@@ -124,7 +124,7 @@ class Cedunmi(Commands):
         depth = str(self.shape.depth)
         if not (self.coded / "table").exists():
             done(self.coded, self.tool, "table", depth, "table")
-        return done(self.coded, self.tool, "code", depth, "table", "volume", "tree")
+        return done(self.coded, self.tool, "code", "--force", depth, "table", "volume", "tree")
 
     def damage(self, percent, seed):
         self.copy()
@@ -134,8 +134,8 @@ class Cedunmi(Commands):
         (self.damaged / "tree" / "marks").write_bytes(marks)
 
     def repair_words(self):
-        files = ["tree/root", "table", "tree/tree", "tree/marks", "proof"]
-        return [self.tool, "repair", str(self.shape.depth), *files]
+        files = ["tree/root", "table", "tree/tree", "tree/marks", "repaired"]
+        return [self.tool, "repair", "--force", str(self.shape.depth), *files]
 
     def seed(self, percent):
         """The first with which a repair is whole."""

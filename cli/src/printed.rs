@@ -34,7 +34,7 @@ pub fn print(root: &[u8]) -> Result<String, Stop> {
     let mut text = HEAD.to_string();
     for (number, hash) in root.chunks(DIGEST_BYTES).enumerate() {
         let groups: Vec<String> = hash.chunks(4).map(hex).collect();
-        text += &format!("{number:2}  {}  {}\n", groups.join(" "), check(number, hash)?);
+        text += &format!("{number:2} {}  {}\n", groups.join(" "), check(number, hash)?);
     }
     text += &format!("check  {}\n", digits(root, CHECK_OF_ALL)?);
     Ok(text)
@@ -189,7 +189,7 @@ mod tests {
         let lines: Vec<&str> = text.lines().skip(3).collect();
         assert_eq!(lines.len(), 17);
         for line in &lines[..16] {
-            assert_eq!(line.len(), 4 + 8 * 9 - 1 + 6);
+            assert_eq!(line.len(), 80);
         }
     }
 
@@ -255,12 +255,12 @@ mod tests {
             slips(&swapped.join("\n")),
             ["line 6: hash 2 is wanted, not 6", "line 10: hash 6 is wanted, not 2"]
         );
-        let unnumbered = |line: &str| line[4..].to_string();
+        let unnumbered = |line: &str| line[3..].to_string();
         let mut bare: Vec<String> = lines[3..19].iter().map(|line| unnumbered(line)).collect();
         bare.swap(2, 6);
         assert_eq!(slips(&bare.join("\n")).len(), 2);
         assert_eq!(slips(&lines[..18].join("\n")), ["a root has 16 hashes, not 15"]);
-        let short = text.replacen("   ", " ", 1).replacen(&lines[3][4..6], "", 1);
+        let short = text.replacen("   ", " ", 1).replacen(&lines[3][3..5], "", 1);
         assert!(
             slips(&short)[0].contains("has 66 digits, not 64, or 68 with its check"),
             "{:?}",
