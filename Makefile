@@ -38,12 +38,10 @@ SECONDS = 600
 test:
 	@tests/gate
 
-benchmarks:
-	@rt staticlib cedunmi_c >/dev/null
+benchmarks: all
 	@benchmarks/run --write
 
-fuzz:
-	@rt staticlib cedunmi_c >/dev/null
+fuzz: all
 	@tests/fuzz/run $(SECONDS)
 
 pinned:

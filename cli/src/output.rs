@@ -45,6 +45,9 @@ impl Output {
         options: Options,
         inputs: &[&Input],
     ) -> Result<Output, Failure> {
+        if word == "-" {
+            return Err(Failure::usage("FOLDER can't be standard output; a folder of this name is ./-"));
+        }
         let locks = Locks::of(&[word], options.quiet)?;
         Ok(Output::Target(Target::folder(word, names, options.force, inputs)?, locks))
     }

@@ -7,7 +7,7 @@ use crate::name::shown;
 use cedunmi_system::Rename;
 use std::fs;
 use std::io::{self, ErrorKind};
-use std::path::PathBuf;
+use std::path::{Path, PathBuf};
 
 /// What is written beside its place, and what is in its place already. Dropped, all is taken back.
 #[derive(Default)]
@@ -79,7 +79,7 @@ fn unknown(error: &io::Error) -> bool {
 }
 
 /// Gives what is written beside its name.
-fn place(beside: &PathBuf, target: &Target) -> io::Result<Placed> {
+fn place(beside: &Path, target: &Target) -> io::Result<Placed> {
     match target.there {
         There::Nothing => match cedunmi_system::rename(beside, &target.path, Rename::New) {
             Err(error) if unknown(&error) => match fs::symlink_metadata(&target.path) {
@@ -89,20 +89,28 @@ fn place(beside: &PathBuf, target: &Target) -> io::Result<Placed> {
             other => other.map(|()| Placed::New),
         },
         There::EmptyFolder => fs::rename(beside, &target.path).map(|()| Placed::EmptyFolder),
-        There::Something => exchange(beside, target).map(|()| Placed::Exchanged),
+        There::Something => exchange(beside, &target.path).map(|()| Placed::Exchanged),
     }
 }
 
-/// Exchanges the names; where the file system can't, by a third name.
-fn exchange(beside: &PathBuf, target: &Target) -> io::Result<()> {
-    match cedunmi_system::rename(beside, &target.path, Rename::Exchange) {
-        Err(error) if unknown(&error) => {}
-        other => return other,
+/// Exchanges the names in one step, or as well as the file system can.
+fn exchange(beside: &Path, target: &Path) -> io::Result<()> {
+    match cedunmi_system::rename(beside, target, Rename::Exchange) {
+        Err(error) if unknown(&error) => exchange_in_steps(beside, target),
+        other => other,
     }
+}
+
+/// By a third name. A file is replaced in one step all the same; a folder's name is free for a moment.
+fn exchange_in_steps(beside: &Path, target: &Path) -> io::Result<()> {
     let aside = beside.with_extension("old");
-    fs::rename(&target.path, &aside)?;
-    if let Err(error) = fs::rename(beside, &target.path) {
-        fs::rename(&aside, &target.path)?;
+    let linked = fs::hard_link(target, &aside).is_ok();
+    if !linked {
+        fs::rename(target, &aside)?;
+    }
+    if let Err(error) = fs::rename(beside, target) {
+        // Of two names of one file, neither can be changed to the other.
+        if linked { fs::remove_file(&aside) } else { fs::rename(&aside, target) }?;
         return Err(error);
     }
     fs::rename(&aside, beside)
@@ -117,11 +125,128 @@ impl Drop for Placing<'_> {
                 Placed::EmptyFolder => {
                     fs::rename(&target.path, beside).and_then(|()| fs::create_dir(&target.path))
                 }
-                Placed::Exchanged => exchange(beside, target),
+                Placed::Exchanged => exchange(beside, &target.path),
             };
         }
         for (beside, _) in &self.beside {
             let _ = temporary::remove(beside);
         }
+    }
+}
+
+#[cfg(test)]
+mod tests {
+    use super::*;
+    use std::collections::BTreeMap;
+
+    /// A new folder, taken away in the end.
+    struct Room(PathBuf);
+
+    impl Room {
+        fn new() -> Room {
+            Room(temporary::folder(&std::env::temp_dir(), None).expect("a folder"))
+        }
+
+        fn target(&self, name: &str, there: There) -> Target {
+            Target { path: self.0.join(name), folder: self.0.clone(), there, mode: None }
+        }
+
+        /// Every name below the room, with the bytes of a file.
+        fn held(&self) -> BTreeMap<PathBuf, Option<Vec<u8>>> {
+            let mut held = BTreeMap::new();
+            let mut folders = vec![self.0.clone()];
+            while let Some(folder) = folders.pop() {
+                for entry in fs::read_dir(folder).expect("a folder") {
+                    let path = entry.expect("an entry").path();
+                    if path.is_dir() {
+                        folders.push(path.clone());
+                    }
+                    held.insert(path.clone(), fs::read(path).ok());
+                }
+            }
+            held
+        }
+    }
+
+    impl Drop for Room {
+        fn drop(&mut self) {
+            fs::remove_dir_all(&self.0).expect("the room goes");
+        }
+    }
+
+    const FILES: &[(&str, &[u8])] = &[("tree", b"t"), ("marks", b"m")];
+
+    /// A room with an old file, an old folder and an empty one, and outputs of every kind.
+    fn outputs(room: &Room) -> Vec<(Target, Content<'static>)> {
+        fs::write(room.0.join("old"), "old").expect("a file");
+        fs::create_dir(room.0.join("folder")).expect("a folder");
+        fs::write(room.0.join("folder/tree"), "old tree").expect("a file");
+        fs::create_dir(room.0.join("empty")).expect("a folder");
+        vec![
+            (room.target("new", There::Nothing), Content::File(b"new")),
+            (room.target("old", There::Something), Content::File(b"newer")),
+            (room.target("folder", There::Something), Content::Folder(FILES)),
+            (room.target("empty", There::EmptyFolder), Content::Folder(FILES)),
+            (room.target("made", There::Nothing), Content::Folder(FILES)),
+        ]
+    }
+
+    fn put(outputs: &[(Target, Content)]) -> Result<(), Failure> {
+        let mut placing = Placing::default();
+        for (target, content) in outputs {
+            placing.write(target, *content)?;
+        }
+        placing.place_all()
+    }
+
+    #[test]
+    fn all_are_put() {
+        let room = Room::new();
+        put(&outputs(&room)).expect("all are put");
+        let held = room.held();
+        assert_eq!(held[&room.0.join("new")], Some(b"new".to_vec()));
+        assert_eq!(held[&room.0.join("old")], Some(b"newer".to_vec()));
+        for folder in ["folder", "empty", "made"] {
+            assert_eq!(held[&room.0.join(folder).join("tree")], Some(b"t".to_vec()));
+            assert_eq!(held[&room.0.join(folder).join("marks")], Some(b"m".to_vec()));
+        }
+        assert_eq!(held.len(), 5 + 3 * 2);
+    }
+
+    /// Whichever of them fails, when it is written or when it is placed, all is as it was.
+    #[test]
+    fn a_failure_at_any_step_takes_all_back() {
+        for placed in 0..=5 {
+            let room = Room::new();
+            let mut outputs = outputs(&room);
+            let taken = (room.target("folder", There::Nothing), Content::File(b"x"));
+            outputs.insert(placed, taken);
+            let before = room.held();
+            assert_eq!(put(&outputs).expect_err("a name is taken").status, NOT_MADE);
+            assert_eq!(room.held(), before);
+            outputs[placed].0.folder = room.0.join("nowhere");
+            assert_eq!(put(&outputs).expect_err("a folder is not there").status, NOT_MADE);
+            assert_eq!(room.held(), before);
+        }
+    }
+
+    /// Where names can't be exchanged in one step.
+    #[test]
+    fn names_are_exchanged_in_steps() {
+        let room = Room::new();
+        outputs(&room);
+        let (new, old, folder) = (room.0.join("new"), room.0.join("old"), room.0.join("folder"));
+        fs::write(&new, "new").expect("a file");
+        exchange_in_steps(&new, &old).expect("an exchange");
+        assert_eq!(
+            (fs::read(&new).unwrap(), fs::read(&old).unwrap()),
+            (b"old".to_vec(), b"new".to_vec())
+        );
+        exchange_in_steps(&room.0.join("empty"), &folder).expect("an exchange");
+        assert!(room.0.join("empty/tree").is_file() && folder.is_dir());
+        let before = room.held();
+        exchange_in_steps(&room.0.join("nothing"), &old).expect_err("nothing is there");
+        exchange_in_steps(&new, &room.0.join("nothing")).expect_err("nothing is there");
+        assert_eq!(room.held(), before);
     }
 }
