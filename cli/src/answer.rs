@@ -32,8 +32,8 @@ pub fn status_as_is(repaired: &Repaired) -> u8 {
 pub fn report(
     depth: Depth,
     repaired: &Repaired,
-    before: &Pages,
-    after: &Pages,
+    before: Pages,
+    after: Pages,
     shown: &Shown,
 ) -> String {
     let Repaired { stored, end } = repaired;
@@ -42,7 +42,7 @@ pub fn report(
 }
 
 /// The end in one line, with what to do about it.
-pub fn ended(end: &End, after: &Pages, depth: Depth, shown: &Shown) -> String {
+pub fn ended(end: &End, after: Pages, depth: Depth, shown: &Shown) -> String {
     match (end, shown) {
         (End::Fault { proof }, Shown::In(name)) => {
             format!("{}; the proof of {} bytes is in {name}", end.meaning(), proof.len())
@@ -69,20 +69,31 @@ mod tests {
         Depth::new(2).expect("a depth")
     }
 
+    struct Held {
+        tree: Vec<u8>,
+        marks: Vec<u8>,
+    }
+
+    impl Held {
+        fn pages(&self) -> Pages<'_> {
+            Pages { tree: &self.tree, marks: &self.marks }
+        }
+    }
+
     /// A tree of which every page is held.
-    fn held() -> Pages {
-        Pages { tree: vec![0; depth().tree_bytes()], marks: vec![1; depth().symbols()] }
+    fn held() -> Held {
+        Held { tree: vec![0; depth().tree_bytes()], marks: vec![1; depth().symbols()] }
     }
 
     fn told(
         stored: usize,
         end: End,
-        before: &Pages,
-        after: &Pages,
+        before: &Held,
+        after: &Held,
         shown: &Shown,
     ) -> (String, u8, u8) {
         let repaired = Repaired { stored, end };
-        let text = report(depth(), &repaired, before, after, shown);
+        let text = report(depth(), &repaired, before.pages(), after.pages(), shown);
         (text, status(&repaired.end), status_as_is(&repaired))
     }
 

@@ -102,3 +102,19 @@ pub fn stopped(stop: Stop, depth: u64, inputs: &[&Input]) -> Failure {
         _ => failure,
     }
 }
+
+/// The same of a call that names an absent page in its own way: which page of the tree is to be brought.
+pub fn stopped_at(
+    stop: Stop,
+    depth: u64,
+    inputs: &[&Input],
+    place: impl Fn(Depth, usize) -> usize,
+) -> Failure {
+    let failure = stopped(stop, depth, inputs);
+    match (stop, Depth::new(depth)) {
+        (Stop::Absent { number }, Some(depth)) => {
+            failure.and(format!("it is page {}", place(depth, number as usize)))
+        }
+        _ => failure,
+    }
+}

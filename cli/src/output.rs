@@ -46,7 +46,9 @@ impl Output {
         inputs: &[&Input],
     ) -> Result<Output, Failure> {
         if word == "-" {
-            return Err(Failure::usage("FOLDER can't be standard output; a folder of this name is ./-"));
+            return Err(Failure::usage(
+                "FOLDER can't be standard output; a folder of this name is ./-",
+            ));
         }
         let locks = Locks::of(&[word], options.quiet)?;
         Ok(Output::Target(Target::folder(word, names, options.force, inputs)?, locks))

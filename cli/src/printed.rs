@@ -153,7 +153,7 @@ fn hash(line: &Line, number: usize) -> Result<(Vec<u8>, Option<String>), String>
 
 /// What to say of a line with too few or too many digits, or with another number before it.
 fn miscounted(line: &Line, number: usize) -> String {
-    let first = line.words[0].trim_end_matches(|c| c == ':' || c == '.');
+    let first = line.words[0].trim_end_matches([':', '.']);
     let before = first.parse::<usize>().ok().filter(|_| first.len() <= 2);
     let count: usize =
         line.words[usize::from(before.is_some())..].iter().map(|word| word.len()).sum();

@@ -4,13 +4,13 @@ use cedunmi::{Depth, End, SYMBOL_BYTES};
 use std::fmt::Write;
 
 /// A tree and its marks.
-#[derive(Clone, Debug, PartialEq, Eq)]
-pub struct Pages {
-    pub tree: Vec<u8>,
-    pub marks: Vec<u8>,
+#[derive(Clone, Copy, Debug, PartialEq, Eq)]
+pub struct Pages<'a> {
+    pub tree: &'a [u8],
+    pub marks: &'a [u8],
 }
 
-impl Pages {
+impl Pages<'_> {
     fn page(&self, place: usize) -> &[u8] {
         &self.tree[SYMBOL_BYTES * place..][..SYMBOL_BYTES]
     }
@@ -31,7 +31,7 @@ pub struct Layer {
 
 impl Layer {
     /// A page that was held, and is absent or another now, was a bad copy.
-    pub fn compare(depth: Depth, layer: usize, before: &Pages, after: &Pages) -> Layer {
+    pub fn compare(depth: Depth, layer: usize, before: Pages, after: Pages) -> Layer {
         let places = depth.places(layer);
         let bad = |place: &usize| {
             before.held(*place)
@@ -55,7 +55,7 @@ fn last_entered(depth: Depth, end: &End) -> usize {
 }
 
 /// The layers of a repair, those that it did not enter too.
-pub fn layers(depth: Depth, end: &End, before: &Pages, after: &Pages) -> String {
+pub fn layers(depth: Depth, end: &End, before: Pages, after: Pages) -> String {
     let mut text = String::new();
     for layer in 0..depth.layers() {
         let places = depth.places(layer);
@@ -94,7 +94,7 @@ fn listed(what: &str, places: &[usize]) -> String {
 }
 
 /// How many pages were absent, and how many bad, in all.
-pub fn lacked(depth: Depth, before: &Pages, after: &Pages) -> (usize, usize) {
+pub fn lacked(depth: Depth, before: Pages, after: Pages) -> (usize, usize) {
     let layers = (0..depth.layers()).map(|layer| Layer::compare(depth, layer, before, after));
     layers.fold((0, 0), |(absent, bad), layer| (absent + layer.absent, bad + layer.bad.len()))
 }

@@ -9,10 +9,8 @@ use crate::said;
 
 pub fn run(arguments: &Arguments) -> Done {
     let [depth, root, table, tree, marks] = arguments.take()?;
-    let attempt = Attempt::read(
-        &mut Reader::new(arguments.options.quiet),
-        [depth, root, table, tree, marks],
-    )?;
+    let mut reader = Reader::new(arguments.options.quiet);
+    let attempt = Attempt::read(&mut reader, [depth, root, table, tree, marks])?;
     let after = attempt.repair()?;
     if !arguments.options.quiet {
         said::report(&after.report(&Shown::Nowhere))?;

@@ -5,19 +5,17 @@ use super::Done;
 use crate::answer;
 use crate::arguments::{decimal, Arguments};
 use crate::failure::Failure;
-use crate::input::{stopped, Reader};
+use crate::input::{stopped_at, Reader};
 use crate::kind::Kind;
 use crate::output::{Content, Output};
 use crate::said;
-use cedunmi::{Depth, End, Stop};
+use cedunmi::{Depth, End};
 
 /// Reads what a repair in memory gives, so that the volume is the one of root and table.
 pub fn run(arguments: &Arguments) -> Done {
     let [depth, root, table, tree, marks, volume] = arguments.take()?;
-    let attempt = Attempt::read(
-        &mut Reader::new(arguments.options.quiet),
-        [depth, root, table, tree, marks],
-    )?;
+    let mut reader = Reader::new(arguments.options.quiet);
+    let attempt = Attempt::read(&mut reader, [depth, root, table, tree, marks])?;
     let depth = decimal("DEPTH", depth)?;
     let output = Output::file(volume, arguments.options, &attempt.inputs())?;
     let after = attempt.repair()?;
@@ -29,8 +27,7 @@ pub fn run(arguments: &Arguments) -> Done {
             failure.and("cedunmi check says more; read --unverified reads it by the marks alone")
         );
     }
-    let bytes = cedunmi::read_block(depth, &after.pages.tree, &after.pages.marks)
-        .map_err(Failure::stopped)?;
+    let bytes = cedunmi::read_block(depth, &after.tree, &after.marks).map_err(Failure::stopped)?;
     output.put(Content::File(&bytes))?;
     if status != 0 && !arguments.options.quiet {
         said::remark(&damaged(&after));
@@ -51,19 +48,9 @@ pub fn unverified(arguments: &Arguments) -> Done {
     let marks = reader.read(marks, Kind::Marks)?;
     let inputs = [&tree, &marks];
     let output = Output::file(volume, arguments.options, &inputs)?;
+    let place = |depth: Depth, number| depth.places(depth.layers() - 1).start + number;
     let bytes = cedunmi::read_block(depth, &tree.bytes, &marks.bytes)
-        .map_err(|stop| absent(stop, depth, stopped(stop, depth, &inputs)))?;
+        .map_err(|stop| stopped_at(stop, depth, &inputs, place))?;
     output.put(Content::File(&bytes))?;
     Ok(0)
-}
-
-/// With 9, the page that is to be brought.
-fn absent(stop: Stop, depth: u64, failure: Failure) -> Failure {
-    match (stop, Depth::new(depth)) {
-        (Stop::Absent { number }, Some(depth)) => failure.and(format!(
-            "it is page {}",
-            depth.places(depth.layers() - 1).start + number as usize
-        )),
-        _ => failure,
-    }
 }

@@ -8,7 +8,7 @@ use crate::input::{stopped, Input, Reader};
 use crate::kind::Kind;
 use crate::name::shown;
 use crate::output::{put_all, Content, Locks, Output, Target};
-use crate::report::Pages;
+use crate::report::{lacked, Pages};
 use crate::said;
 use cedunmi::{Depth, End, Repaired, Stop};
 use std::ffi::{OsStr, OsString};
@@ -29,10 +29,11 @@ pub struct Attempt {
 }
 
 /// What came of it.
-pub struct After {
+pub struct After<'a> {
+    attempt: &'a Attempt,
     depth: Depth,
-    before: Pages,
-    pub pages: Pages,
+    pub tree: Vec<u8>,
+    pub marks: Vec<u8>,
     pub repaired: Repaired,
 }
 
@@ -58,30 +59,33 @@ impl Attempt {
     }
 
     /// Repairs a copy.
-    pub fn repair(&self) -> Result<After, Failure> {
+    pub fn repair(&self) -> Result<After<'_>, Failure> {
         let stop = |stop| stopped(stop, self.depth, &self.inputs());
-        let before = Pages { tree: self.tree.bytes.clone(), marks: self.marks.bytes.clone() };
-        let mut pages = before.clone();
-        let repaired = cedunmi::repair(
-            self.depth,
-            &self.root.bytes,
-            &self.table.bytes,
-            &mut pages.tree,
-            &mut pages.marks,
-        );
-        let depth = Depth::new(self.depth).ok_or(Stop::WrongDepth);
-        Ok(After { repaired: repaired.map_err(stop)?, depth: depth.map_err(stop)?, before, pages })
+        let (mut tree, mut marks) = (self.tree.bytes.clone(), self.marks.bytes.clone());
+        let (root, table) = (&self.root.bytes, &self.table.bytes);
+        let repaired =
+            cedunmi::repair(self.depth, root, table, &mut tree, &mut marks).map_err(stop)?;
+        let depth = Depth::new(self.depth).ok_or(Stop::WrongDepth).map_err(stop)?;
+        Ok(After { attempt: self, depth, tree, marks, repaired })
     }
 }
 
-impl After {
+impl After<'_> {
+    fn before(&self) -> Pages<'_> {
+        Pages { tree: &self.attempt.tree.bytes, marks: &self.attempt.marks.bytes }
+    }
+
+    fn now(&self) -> Pages<'_> {
+        Pages { tree: &self.tree, marks: &self.marks }
+    }
+
     pub fn report(&self, shown: &Shown) -> String {
-        answer::report(self.depth, &self.repaired, &self.before, &self.pages, shown)
+        answer::report(self.depth, &self.repaired, self.before(), self.now(), shown)
     }
 
     /// How many pages were absent, and how many bad.
     pub fn lacked(&self) -> (usize, usize) {
-        crate::report::lacked(self.depth, &self.before, &self.pages)
+        lacked(self.depth, self.before(), self.now())
     }
 
     /// What a repair shows beside the tree: the name that it has in a folder, and its bytes.
@@ -104,18 +108,15 @@ impl After {
 
 pub fn run(arguments: &Arguments) -> Done {
     let [depth, root, table, tree, marks, folder] = arguments.take()?;
-    let attempt = Attempt::read(
-        &mut Reader::new(arguments.options.quiet),
-        [depth, root, table, tree, marks],
-    )?;
-    let output =
-        Output::folder(folder, &[TREE, MARKS, PROOF, TWINS], arguments.options, &attempt.inputs())?;
+    let mut reader = Reader::new(arguments.options.quiet);
+    let attempt = Attempt::read(&mut reader, [depth, root, table, tree, marks])?;
+    let names = [TREE, MARKS, PROOF, TWINS];
+    let output = Output::folder(folder, &names, arguments.options, &attempt.inputs())?;
     let after = attempt.repair()?;
-    let mut files: Vec<(&str, &[u8])> =
-        vec![(TREE, &after.pages.tree), (MARKS, &after.pages.marks)];
+    let mut files: Vec<(&str, &[u8])> = vec![(TREE, &after.tree), (MARKS, &after.marks)];
     files.extend(after.shown());
     output.put(Content::Folder(&files))?;
-    let name = after.shown().map_or(Path::new("").into(), |(name, _)| Path::new(folder).join(name));
+    let name = Path::new(folder).join(after.shown().map_or("", |(name, _)| name));
     after.tell(arguments.options.quiet, &shown(name))
 }
 
@@ -135,28 +136,24 @@ pub fn in_place(arguments: &Arguments) -> Done {
     }
     let options = arguments.options;
     let locks = Locks::of(&[tree, marks, proof], options.quiet)?;
-    let attempt =
-        Attempt::read(&mut Reader::new(options.quiet), [depth, root, table, tree, marks])?;
+    let mut reader = Reader::new(options.quiet);
+    let attempt = Attempt::read(&mut reader, [depth, root, table, tree, marks])?;
     let after = attempt.repair()?;
     let mut outputs = Vec::new();
     let copies = [kept(tree), kept(marks)];
-    if after.pages != after.before {
-        outputs.push((attempt.beside(&copies[0], options)?, Content::File(&after.before.tree)));
-        outputs.push((attempt.beside(&copies[1], options)?, Content::File(&after.before.marks)));
+    let changed = after.before() != after.now();
+    if changed {
+        outputs.push((attempt.beside(&copies[0], options)?, Content::File(after.before().tree)));
+        outputs.push((attempt.beside(&copies[1], options)?, Content::File(after.before().marks)));
     }
     if let Some((_, bytes)) = after.shown() {
         outputs.push((attempt.beside(proof, options)?, Content::File(bytes)));
     }
-    if after.pages != after.before {
-        let others = |other| [&attempt.root, &attempt.table, other];
-        outputs.push((
-            Target::file(tree, true, &others(&attempt.marks))?,
-            Content::File(&after.pages.tree),
-        ));
-        outputs.push((
-            Target::file(marks, true, &others(&attempt.tree))?,
-            Content::File(&after.pages.marks),
-        ));
+    if changed {
+        let replaced =
+            |word, other| Target::file(word, true, &[&attempt.root, &attempt.table, other]);
+        outputs.push((replaced(tree, &attempt.marks)?, Content::File(&after.tree)));
+        outputs.push((replaced(marks, &attempt.tree)?, Content::File(&after.marks)));
     }
     put_all(&outputs, &locks)?;
     after.tell(options.quiet, &shown(proof))

@@ -2,11 +2,10 @@
 
 use super::Done;
 use crate::arguments::{decimal, Arguments};
-use crate::failure::Failure;
-use crate::input::{stopped, Reader};
+use crate::input::{stopped_at, Reader};
 use crate::kind::Kind;
 use crate::output::{Content, Output};
-use cedunmi::{Depth, Stop};
+use cedunmi::Depth;
 
 pub fn run(arguments: &Arguments) -> Done {
     let [depth, number, tree, marks, sample] = arguments.take()?;
@@ -16,17 +15,9 @@ pub fn run(arguments: &Arguments) -> Done {
     let marks = reader.read(marks, Kind::Marks)?;
     let inputs = [&tree, &marks];
     let output = Output::file(sample, arguments.options, &inputs)?;
+    let place = |depth: Depth, index| depth.sampled_place(number as usize, index);
     let bytes = cedunmi::take_sample(depth, number, &tree.bytes, &marks.bytes)
-        .map_err(|stop| absent(stop, depth, number, stopped(stop, depth, &inputs)))?;
+        .map_err(|stop| stopped_at(stop, depth, &inputs, place))?;
     output.put(Content::File(&bytes))?;
     Ok(0)
-}
-
-/// With 9, the page that is to be brought.
-fn absent(stop: Stop, depth: u64, number: u64, failure: Failure) -> Failure {
-    match (stop, Depth::new(depth)) {
-        (Stop::Absent { number: index }, Some(depth)) => failure
-            .and(format!("it is page {}", depth.sampled_place(number as usize, index as usize))),
-        _ => failure,
-    }
 }

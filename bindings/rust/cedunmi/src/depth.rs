@@ -12,7 +12,7 @@ impl Depth {
 
     /// The depth of this number, where there is one.
     pub fn new(depth: u64) -> Option<Depth> {
-        (1..=Depth::MAX.0 as u64).contains(&depth).then(|| Depth(depth as usize))
+        (1..=Depth::MAX.0 as u64).contains(&depth).then_some(Depth(depth as usize))
     }
 
     /// The number of layers: 0, the top one, to the base.
