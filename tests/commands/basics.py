@@ -1,0 +1,253 @@
+"""Every command at every depth beside what is made by hand; every number and refusal; the help."""
+import os
+import re
+import shlex
+import struct
+
+import by_hand
+from room import Coded, contents, need, put, slurp, volume_of
+
+DEPTHS = (1, 2, 3, 4, 5)
+STATUSES = [0, 1, 2, 3, 4, 5, 6, 7, 8, 9, 30, 31, 32, 33, 64, 65, 66, 70, 73, 74]
+COMMANDS = ["table", "check-table", "code", "root", "typed", "sample", "check-sample", "check",
+            "repair", "check-proof", "read", "explain", "sha256", "help"]
+
+
+def test_every_depth(room):
+    """Tables, trees, samples and volumes are those made by hand, and each check accepts them."""
+    for depth in DEPTHS:
+        coded = Coded(depth, 1)
+        put("volume", coded.volume)
+        room.works("table", depth, "t%d" % depth)
+        need(slurp("t%d" % depth) == coded.table, "the house table of depth", depth)
+        room.ends(0, "check-table", depth, "t%d" % depth).prints(
+            "accepted: the table is well-formed\n")
+        folder = "coded%d" % depth
+        room.works("code", depth, "t%d" % depth, "volume", folder)
+        need(contents(folder) == coded.files(), "what code wrote at depth", depth)
+        for options in ([depth, folder + "/root", "t%d" % depth], ["--unverified", depth]):
+            room.works("read", *options, folder + "/tree", folder + "/marks", "back")
+            need(slurp("back") == coded.volume, "the volume read at depth", depth)
+            os.remove("back")
+
+
+def test_samples(room):
+    """Samples of every kind of number are those made by hand, and no other number's."""
+    for depth in DEPTHS:
+        coded = Coded(depth, 2).lay()
+        last = (8 << depth) - 1
+        for number in sorted({0, 1, 5, last // 3, last // 2, last}):
+            name = "sample%d" % number
+            room.works("sample", depth, number, "tree", "marks", name)
+            need(slurp(name) == by_hand.sample(depth, number, coded.tree), "sample", number)
+            room.ends(0, "check-sample", depth, number, "root", name).prints(
+                "accepted: every hash leads to the root\n")
+            room.refused(7, "check-sample", depth, (number + 1) % (last + 1), "root", name)
+            os.remove(name)
+
+
+def test_other_tables(room):
+    """A table that is not the house table is taken, and used."""
+    equations = by_hand.house_equations(2)
+    equations[1][0] = [0, 2, 8]
+    coded = Coded(2, 3, by_hand.table_of(equations)).lay()
+    room.ends(0, "check-table", 2, "table")
+    room.works("code", 2, "table", "volume", "coded")
+    need(contents("coded") == coded.files(), "a volume coded by another table")
+    room.works("read", 2, "root", "table", "tree", "marks", "back")
+    need(slurp("back") == coded.volume, "a volume read by another table")
+
+
+def test_numbers(room):
+    """Each number that stops a call is the exit status, and nothing is written."""
+    coded = Coded(1).lay()
+    put("two", volume_of(2))
+    put("bad", coded.table[:7] + b"\7" + coded.table[8:])
+    put("marked", coded.marks[:3] + b"\2" + coded.marks[4:])
+    put("lost", coded.marks[:3] + b"\0" + coded.marks[4:])
+    put("harmed", coded.tree[:900] + b"x" + coded.tree[901:])
+    tree = ("tree", "marks")
+    for status, said, words in [
+            (1, "depth", ("table", 6, "none")), (1, "depth", ("table", 0, "none")),
+            (1, "depth", ("table", 4294967297, "none")), (1, "depth", ("table", 1000, "none")),
+            (1, "depth", ("code", 6, "table", "volume", "none")),
+            (1, "depth", ("check", 6, "root", "table", *tree)),
+            (1, "depth", ("read", 6, "root", "table", *tree, "none")),
+            (1, "depth", ("check-table", 6, "table")),
+            (3, "word 1 ", ("code", 1, "bad", "volume", "none")),
+            (3, "word 1 ", ("check-table", 1, "bad")), (3, "", ("check-table", 2, "table")),
+            (3, "word 1 ", ("check", 1, "root", "bad", *tree)),
+            (3, "word 1 ", ("repair", 1, "root", "bad", *tree, "none")),
+            (4, "3", ("repair", 1, "root", "table", "tree", "marked", "none")),
+            (4, "3", ("check", 1, "root", "table", "tree", "marked")),
+            (4, "3", ("read", 1, "root", "table", "tree", "marked", "none")),
+            (4, "3", ("read", "--unverified", 1, "tree", "marked", "none")),
+            (4, "3", ("sample", 1, 0, "tree", "marked", "none")),
+            (5, "", ("sample", 1, 16, *tree, "none")),
+            (5, "", ("sample", 1, 4294967296, *tree, "none")),
+            (5, "", ("check-sample", 1, 16, "root", "sample")),
+            (7, "", ("check-sample", 1, 4, "root", "sample")),
+            (9, "page 3", ("read", "--unverified", 1, "tree", "lost", "none")),
+            (9, "page 3", ("sample", 1, 3, "tree", "lost", "none"))]:
+        room.refused(status, *words).says(said)
+    room.works("read", "--unverified", 1, "harmed", "marks", "unverified")
+    need(slurp("unverified")[900] == ord("x"), "read --unverified looks at hashes")
+
+
+def test_lengths(room):
+    """Of each file with the wrong length a line says the length that it has, and should have."""
+    Coded(2).lay()
+    put("short", bytes(1024))
+    room.refused(2, "code", 2, "table", "short", "none").says(
+        "cedunmi: short has 1024 bytes; a volume of depth 2 has 2048\n")
+    room.refused(2, "read", 2, "root", "table", "short", "marks", "none").says(
+        "cedunmi: short has 1024 bytes; a tree of depth 2 has 12288\n")
+    put("other", bytes(7))
+    said = room.refused(2, "check", 2, "other", "table", "short", "other")
+    said.says("cedunmi: other has 7 bytes; a root has 512\n")
+    said.says("cedunmi: short has 1024 bytes; a tree of depth 2 has 12288\n")
+    need(b"depth 2 has 48\n" in said.err and said.err.count(b"\n") == 4, str(said))
+    for words in (("check-sample", 2, 3, "root", "other"), ("root", "other"),
+                  ("check-table", 2, "other"), ("sample", 2, 3, "other", "marks", "none"),
+                  ("sample", 2, 3, "tree", "other", "none"),
+                  ("read", "--unverified", 2, "tree", "other", "none"),
+                  ("repair", 2, "root", "other", "tree", "marks", "none"),
+                  ("check-proof", 2, "root", "table", "other"),
+                  ("check-proof", 2, "other", "table", "sample")):
+        room.refused(2, *words).says("cedunmi: other has 7 bytes; ")
+    put("empty", b"")
+    room.refused(2, "code", 2, "table", "empty", "none").says("cedunmi: empty has 0 bytes; ")
+
+
+def test_proofs(room):
+    """A fault proof is accepted for its root and table alone; each way to spoil it has a number."""
+    for depth in DEPTHS:
+        wrong = Coded(depth, 4).wrong_seven().lay()
+        proof = wrong.repair().proof
+        put("proof", proof)
+        room.ends(0, "check-proof", depth, "root", "table", "proof").prints(
+            "accepted: the volume with this root was not coded as this table says\n")
+        put("spoiled", proof[:300] + bytes([proof[300] ^ 1]) + proof[301:])
+        room.refused(7, "check-proof", depth, "root", "table", "spoiled")
+        put("head", proof[:11] + b"\2" + proof[12:])
+        put("kind", b"\0" + proof[1:])
+        room.refused(6, "check-proof", depth, "root", "table", "head")
+        room.refused(6, "check-proof", depth, "root", "table", "kind")
+        put("long", proof + b"\0")
+        room.refused(2, "check-proof", depth, "root", "table", "long").says(
+            "cedunmi: long has %d bytes; " % (len(proof) + 1))
+        right = Coded(depth, 4)
+        put("right", right.root)
+        room.refused((7, 8), "check-proof", depth, "right", "table", "proof")
+    right.lay()
+    members = [right.tree[256 * i:256 * i + 256] for i in (0, 1)]
+    put("none", struct.pack(">3I", 1 << 30, 2 << 30, 3 << 30 | 4) + b"".join(members))
+    room.refused(8, "check-proof", depth, "root", "table", "none")
+
+
+def test_usage(room):
+    """What is no command, or has other arguments or options than it takes, is bad usage."""
+    Coded(1).lay()
+    whole = ("root", "table", "tree", "marks")
+    for words in [(), ("nothing",), ("help", "nothing"), ("table", 1), ("table", 1, "a", "b"),
+                  ("table", "one", "none"), ("table", "", "none"), ("table", "+1", "none"),
+                  ("table", "1 ", "none"), ("table", "0x1", "none"),
+                  ("code", 1, "table", "volume"), ("sample", 1, "", "tree", "marks", "none"),
+                  ("sample", 1, "1.5", "tree", "marks", "none"), ("sample", 1, "--", "-1", "tree"),
+                  ("check-sample", 1, "one", "root", "sample"), ("explain",), ("explain", "99"),
+                  ("explain", "seven"), ("root",), ("typed", "text"), ("sha256",),
+                  ("check", 1, *whole, "none"), ("read", 1, *whole),
+                  ("read", "--unverified", 1, *whole, "none"), ("repair", 1, *whole),
+                  ("table", "--nothing", 1, "none"), ("table", "-f", 1, "none"),
+                  ("-x", "table", 1, "none"), ("table", 1, "none", "--nothing"),
+                  ("table", "--in-place", 1, "none"), ("table", "--unverified", 1, "none"),
+                  ("code", "--in-place", 1, "table", "volume", "none"),
+                  ("check", "--force", 1, *whole), ("check", "--in-place", 1, *whole),
+                  ("repair", "--unverified", 1, *whole, "none"),
+                  ("table", "--force=yes", 1, "none"), ("table", "--forc", 1, "none")]:
+        room.refused(64, *words)
+    room.refused((1, 64), "table", 2 ** 64 + 1, "none")
+    room.refused((5, 64), "sample", 1, 2 ** 64, "tree", "marks", "none")
+
+
+def test_unreadable(room):
+    """An input that is not there, or is a folder, is 66, in every place; nothing is written."""
+    Coded(1).lay()
+    put("proof", bytes(100))
+    os.mkdir("folder")
+    for words in [("check-table", 1, "table"), ("code", 1, "table", "volume", "none"),
+                  ("root", "root"), ("typed", "text", "none"), ("sha256", "volume"),
+                  ("sample", 1, 3, "tree", "marks", "none"),
+                  ("check-sample", 1, 3, "root", "sample"),
+                  ("check", 1, "root", "table", "tree", "marks"),
+                  ("repair", 1, "root", "table", "tree", "marks", "none"),
+                  ("check-proof", 1, "root", "table", "proof"),
+                  ("read", 1, "root", "table", "tree", "marks", "none")]:
+        for place, word in enumerate(words):
+            if place and isinstance(word, str) and word != "none":
+                for other in ("nowhere", "folder", "table/below", "no/where"):
+                    changed = words[:place] + (other,) + words[place + 1:]
+                    room.refused(66, *changed).says(other)
+
+
+def test_help(room):
+    """The help has every command; a command's lines are had in three ways; the version."""
+    said = room.ends(0, "help")
+    text = said.out.decode()
+    need(said.err == b"", str(said))
+    for words in (("--help",), ("-h",)):
+        need(room.ends(0, *words).out == said.out, "another help by", words)
+    for command in COMMANDS:
+        need(re.search(r"^  %s\b" % command, text, re.M), "the help has not", command)
+        lines = room.ends(0, "help", command).prints(room.run(command, "--help").out).out
+        need(room.run(command, "-h").out == lines, "other lines by -h for", command)
+        need(re.match(rb"\W*(usage: )?(cedunmi )?%s\b" % command.encode(), lines), lines)
+        need(len(lines) < len(said.out) // 2, "help", command, "says everything")
+    for option in ("--force", "--in-place", "--unverified", "--quiet", "-q", "--version"):
+        need(option in text, "the help has not", option)
+    version = room.ends(0, "--version").out
+    need(re.fullmatch(rb"cedunmi \d+\.\d+\.\d+\n", version), version)
+    need(max(map(len, text.split("\n"))) <= 80, "a line of the help is longer than 80")
+
+
+def test_statuses(room):
+    """Every status that the help lists is explained, each otherwise, and no other is."""
+    text = room.ends(0, "help").out.decode()
+    section = text[re.search(r"^Exit status", text, re.M).start():].split("\n\n")[0]
+    for status in STATUSES[10:] + [0]:
+        need(re.search(r"^ .*\b%d\b" % status, section, re.M), "not in the help:", status)
+    said = set()
+    for status in STATUSES:
+        words = room.ends(0, "explain", status).out
+        need(len(words) > 10 and words.endswith(b"\n"), "explain", status, "prints", words)
+        said.add(words)
+    need(len(said) == len(STATUSES), "two statuses are explained alike")
+    for status in (10, 23, 29, 34, 63, 67, 75, 256, -1):
+        room.refused(64, "explain", "--", status)
+
+
+def test_examples(room):
+    """The examples of the help work, one after the other."""
+    text = room.ends(0, "help").out.decode()
+    lines = re.findall(r"^ +(?:\$ )?cedunmi (.*)$", text[text.index("\nExample"):], re.M)
+    need(len(lines) >= 4, "the help has few examples:", lines)
+    put("volume", volume_of(5))
+    for line in lines:
+        need(not re.search(r"[|<>&;]", line), "an example that only a shell runs:", line)
+        room.ends(0, *shlex.split(line))
+    need(slurp("volume") == volume_of(5), "an example changed the volume")
+
+
+def test_quiet(room):
+    """With -q nothing is printed, and the status is the same; data and errors are still there."""
+    coded = Coded(1).harm(absent=[2]).lay()
+    whole = (1, "root", "table", "tree", "marks")
+    for option in ("-q", "--quiet"):
+        room.ends(30, "check", option, *whole).prints("")
+        room.ends(0, "check-sample", option, 1, 3, "root", "sample").prints("")
+        room.ends(0, "check-table", 1, "table", option).prints("")
+        room.ends(0, option, "repair", *whole, "made" + option).prints("")
+        need(contents("made" + option) == coded.repair().files(), "what a quiet repair wrote")
+        room.refused(66, "check-table", option, 1, "nowhere")
+        room.refused(64, "check", option)
+        room.ends(30, "read", option, *whole, "-").prints(coded.volume)

@@ -1,0 +1,253 @@
+"""What docs/FORMAT.md says, in plain Python: tables, trees, samples, repairs and their reports.
+
+The tests compare with it what the program writes and prints. It shares no code with the library.
+"""
+import hashlib
+import struct
+
+PAGE = 256
+WHOLE, FAULT, UNAVAILABLE = 0, 1, 2
+
+
+def digest(data):
+    """The SHA-256 of the bytes."""
+    return hashlib.sha256(data).digest()
+
+
+def first(layer):
+    """The place of a layer's first page in the tree."""
+    return 16 * ((1 << layer) - 1)
+
+
+def pages(layer):
+    """How many pages a layer has."""
+    return 16 << layer
+
+
+def lengths(depth):
+    """The bytes of each kind of file; of a table and a proof, of the longest."""
+    marks = first(depth)
+    return {"volume": 512 << depth, "tree": PAGE * marks, "marks": marks, "root": 512,
+            "sample": PAGE * (2 * depth - 1), "table": 16384, "proof": 12 + PAGE * (8 * depth - 1)}
+
+
+def house_members(layer, equation):
+    """The members of an equation of the house table."""
+    k = 4 << layer
+    data = sorted([equation % k, (equation + 1 + equation // k) % k])
+    return data + ([k + equation - 1] if equation else []) + [k + equation]
+
+
+def table_of(layers):
+    """The bytes of a table with these equations, a list of lists of members for each layer."""
+    words = []
+    for layer, equations in enumerate(layers):
+        words.append(1 << 30 | layer)
+        for number, members in enumerate(equations):
+            words.append(2 << 30 | number)
+            words.extend(members)
+    words.append(3 << 30 | len(words))
+    return struct.pack(">%dI" % len(words), *words)
+
+
+def house_equations(depth):
+    """The equations of the house table, layer by layer."""
+    return [[house_members(j, e) for e in range(12 << j)] for j in range(depth)]
+
+
+def house_table(depth):
+    """The bytes of the house table."""
+    return table_of(house_equations(depth))
+
+
+def equations_of(table):
+    """The equations that the bytes of a table have, layer by layer."""
+    layers = []
+    for word in struct.unpack(">%dI" % (len(table) // 4), table):
+        kind, value = word >> 30, word & (1 << 30) - 1
+        if kind == 1:
+            layers.append([])
+        elif kind == 2:
+            layers[-1].append([])
+        elif kind == 0:
+            layers[-1][-1].append(value)
+    return layers
+
+
+def xor(some):
+    """The exclusive-or of pages."""
+    value = 0
+    for page in some:
+        value ^= int.from_bytes(page, "big")
+    return value.to_bytes(PAGE, "big")
+
+
+def with_parity(data, equations):
+    """A layer's data pages, and the parity pages that its equations give."""
+    layer = list(data)
+    for members in equations:
+        layer.append(xor(layer[i] for i in members[:-1]))
+    return layer
+
+
+def hashes_above(layer):
+    """The data pages of the layer above: eight hashes of this layer in each."""
+    s = len(layer) // 8
+    return [b"".join(digest(layer[q * s + i]) for q in range(8)) for i in range(s)]
+
+
+def code(depth, table, volume):
+    """Tree, marks and root of a volume."""
+    equations = equations_of(table)
+    data = [volume[i:i + PAGE] for i in range(0, len(volume), PAGE)]
+    layers = []
+    for j in reversed(range(depth)):
+        layers.insert(0, with_parity(data, equations[j]))
+        data = hashes_above(layers[0])
+    root = b"".join(digest(page) for page in layers[0])
+    return b"".join(b"".join(layer) for layer in layers), b"\1" * first(depth), root
+
+
+def sample_places(depth, number):
+    """The places in the tree of the pages of a sample."""
+    places = [first(depth - 1) + number]
+    for j in reversed(range(depth - 1)):
+        k = 4 << j
+        places += [first(j) + number % k, first(j) + k + number % (3 * k)]
+    return places
+
+
+def sample(depth, number, tree):
+    """The sample of a base page."""
+    return b"".join(tree[PAGE * p:PAGE * (p + 1)] for p in sample_places(depth, number))
+
+
+class Layer:
+    """What a repair found and did in one layer."""
+
+    def __init__(self, number, absent, bad):
+        self.number, self.absent, self.bad = number, absent, bad
+        self.missing = []
+
+    def lines(self):
+        """The layer's lines of the report."""
+        low, count = first(self.number), pages(self.number)
+        stored = self.absent + len(self.bad) - len(self.missing)
+        yield "layer %d: %d pages, %d to %d: %d absent, %d bad; %d stored, %d missing" % (
+            self.number, count, low, low + count - 1, self.absent, len(self.bad), stored,
+            len(self.missing))
+        for word, places in (("bad copies", self.bad), ("missing", self.missing)):
+            if places:
+                yield "  %s: %s" % (word, " ".join(map(str, places)))
+
+
+class Repair:
+    """A repair of a tree: its end, what it stored, the tree and the marks then, and the proof."""
+
+    def __init__(self, depth, root, table, tree, marks):
+        self.depth, self.root = depth, root
+        self.tree = [tree[i:i + PAGE] for i in range(0, len(tree), PAGE)]
+        self.marks = list(marks)
+        self.end, self.stored, self.proof, self.layers = WHOLE, 0, b"", []
+        for number, equations in enumerate(equations_of(table)):
+            if self.end == WHOLE:
+                self.enter(number, equations)
+
+    def committed(self, layer, number):
+        """The hash that stands for a page."""
+        if layer == 0:
+            return self.root[32 * number:32 * number + 32]
+        s = pages(layer) // 8
+        return self.tree[first(layer - 1) + number % s][32 * (number // s):][:32]
+
+    def enter(self, number, equations):
+        """Repairs one layer."""
+        low, count = first(number), pages(number)
+        found = Layer(number, self.marks[low:low + count].count(0), [])
+        for i in range(count):
+            if self.marks[low + i] and digest(self.tree[low + i]) != self.committed(number, i):
+                found.bad.append(low + i)
+                self.marks[low + i] = 0
+            if not self.marks[low + i]:
+                self.tree[low + i] = bytes(PAGE)
+        self.layers.append(found)
+        self.peel(number, equations)
+        found.missing = [low + i for i in range(count) if not self.marks[low + i]]
+        if found.missing and self.end == WHOLE:
+            self.end = UNAVAILABLE
+
+    def peel(self, layer, equations):
+        """Takes the lowest equation with at most one absent member, until there is none."""
+        low, unused = first(layer), dict(enumerate(equations))
+        while self.end == WHOLE:
+            for number, members in unused.items():
+                absent = [i for i in members if not self.marks[low + i]]
+                if len(absent) < 2:
+                    break
+            else:
+                return
+            withheld = absent[0] if absent else members[-1]
+            others = [i for i in members if i != withheld]
+            formed = xor(self.tree[low + i] for i in others)
+            if digest(formed) != self.committed(layer, withheld):
+                self.end = FAULT
+                self.proof = self.prove(layer, number, withheld, others)
+            elif absent:
+                self.tree[low + withheld], self.marks[low + withheld] = formed, 1
+                self.stored += 1
+            del unused[number]
+
+    def path(self, layer, number):
+        """The pages that lead from a page to the root."""
+        path = b""
+        for j in reversed(range(layer)):
+            number %= pages(j + 1) // 8
+            path += self.tree[first(j) + number]
+        return path
+
+    def prove(self, layer, equation, withheld, others):
+        """The fault proof of an equation."""
+        proof = struct.pack(">3I", 1 << 30 | layer, 2 << 30 | equation, 3 << 30 | withheld)
+        for i in others:
+            proof += self.tree[first(layer) + i] + self.path(layer, i)
+        return proof + self.path(layer, withheld)
+
+    def report(self, where=None):
+        """The report; WHERE is the name of the proof, None for a check, which writes nothing."""
+        lines = [line for layer in self.layers for line in layer.lines()]
+        for j in range(len(self.layers), self.depth):
+            low, count = first(j), pages(j)
+            lines.append("layer %d: %d pages, %d to %d: not entered" % (
+                j, count, low, low + count - 1))
+        lines += ["stored: %d" % self.stored, self.last_line(where)]
+        return "".join(line + "\n" for line in lines)
+
+    def last_line(self, where):
+        """The end in words."""
+        if self.end == WHOLE:
+            return "whole: every page is held, and the tree agrees with the root and the table"
+        if self.end == FAULT:
+            there = "the proof would have %d bytes" % len(self.proof)
+            if where is not None:
+                there = "the proof of %d bytes is in %s" % (len(self.proof), where)
+            return "fault: the volume was not coded as the table says; " + there
+        missing = self.layers[-1]
+        return ("unavailable: no equation gives another page of layer %d; bring some of its %d "
+                "missing pages, and repair again" % (missing.number, len(missing.missing)))
+
+    def files(self):
+        """What the repair writes: names and bytes."""
+        wrote = {"tree": b"".join(self.tree), "marks": bytes(self.marks)}
+        if self.end == FAULT:
+            wrote["proof"] = self.proof
+        return wrote
+
+
+def printed(root):
+    """The seventeen lines of a printed root, without its comments."""
+    lines = []
+    for i in range(16):
+        value = root[32 * i:32 * i + 32]
+        groups = " ".join(value[g:g + 4].hex() for g in range(0, 32, 4))
+        lines.append("%2d %s  %s" % (i, groups, digest(bytes([i]) + value).hex()[:4]))
+    return lines + ["check  " + digest(root).hex()[:8]]

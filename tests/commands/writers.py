@@ -1,0 +1,161 @@
+"""The commands that write, as one list: what stands in the folder `out` before and after each.
+
+Inputs are in the folder `in`, everything that a command writes in `out`. So a test of full disks,
+kills, rights or failing calls goes through all of them alike.
+"""
+import os
+import re
+
+import by_hand
+from room import Coded, contents, fill, need, show
+
+LEFT = re.compile(r"\.cedunmi-[0-9a-f]{16}(\.old)?(/|$)")
+
+
+class Writer:
+    """A command that writes: its words, what `out` holds before and after, and its status."""
+
+    def __init__(self, name, words, old, new, status=0):
+        self.name, self.words, self.old, self.new, self.status = name, words, old, new, status
+
+    def lay(self):
+        """Makes `out` as it is before."""
+        fill("out", self.old)
+
+    def state(self, left=False):
+        """Whether `out` is as before or as after; with LEFT there may be temporary names beside."""
+        found = contents("out")
+        if left:
+            found = {name: held for name, held in found.items() if not LEFT.match(name)}
+        if found in (self.old, self.new):
+            return "old" if found == self.old else "new"
+        return "between" if left and self.between(found) else describe(found, self)
+
+    def between(self, found):
+        """Of a killed command with several files to replace: no file is a part, none is lost."""
+        if "--in-place" not in self.words:
+            return False
+        for name, held in found.items():
+            if held not in (self.old.get(name), self.new.get(name)):
+                return False
+        lost = any(found.get(name) != held and found.get(name + "~") != held
+                   for name, held in self.old.items() if name in ("tree", "marks"))
+        early = found["marks"] != self.old["marks"] and found["tree"] == self.old["tree"]
+        return not lost and not early
+
+    def judge(self, status, left=False):
+        """A command that ended so left `out` as before, or did all of its work and said so."""
+        state = self.state(left)
+        need(state in ("old", "new", "between"), self.name, "ended with %s:" % status, state)
+        need(status != self.status or state == "new", self.name, "did nothing, and ended with",
+             status)
+        return state
+
+
+def describe(found, writer):
+    """How what is in `out` differs from before and after."""
+    words = []
+    for name in sorted(set(found) | set(writer.old) | set(writer.new)):
+        if name not in found:
+            words.append(name + " is not there")
+        elif name not in writer.old and name not in writer.new:
+            words.append(name + " is left")
+        elif name in writer.old and found[name] == writer.old[name]:
+            words.append(name + " as before")
+        elif name in writer.new and found[name] == writer.new[name]:
+            words.append(name + " as after")
+        else:
+            words.append(name + " is neither: " + show(found[name]))
+    return ", ".join(words)
+
+
+def within(folder, files):
+    """Files below a folder, and the folder."""
+    return {folder: None, **{folder + "/" + name: data for name, data in files.items()}}
+
+
+def lay_inputs(depth):
+    """Makes the folder `in`; gives a whole, a damaged, and a wrongly coded volume."""
+    whole = Coded(depth, 1)
+    harmed = Coded(depth, 2).harm(absent=[1, 14], bad=[6])
+    wrong = Coded(depth, 3).wrong_seven().harm(bad=[2])
+    text = "".join(line + "\n" for line in by_hand.printed(whole.root)).encode()
+    files = {"table": whole.table, "volume": whole.volume, "text": text}
+    for name, coded in (("whole", whole), ("harmed", harmed), ("wrong", wrong)):
+        files.update((name + "-" + kind, data) for kind, data in coded.files().items())
+    fill("in", files)
+    return whole, harmed, wrong
+
+
+def of(name):
+    """Root, table, tree and marks of one of the three volumes."""
+    return ("in/%s-root" % name, "in/table", "in/%s-tree" % name, "in/%s-marks" % name)
+
+
+def kept(coded):
+    """What --in-place keeps."""
+    return {"tree~": coded.tree, "marks~": coded.marks}
+
+
+def of_one_file(depth, whole, harmed):
+    """The commands that write one file."""
+    over, tree = {"file": b"what was there before"}, of("whole")[2:]
+    sample = by_hand.sample(depth, 3, whole.tree)
+    return [
+        Writer("table", ("table", depth, "out/file"), {}, {"file": whole.table}),
+        Writer("table --force", ("table", "--force", depth, "out/file"), over,
+               {"file": whole.table}),
+        Writer("typed --force", ("typed", "--force", "in/text", "out/file"), over,
+               {"file": whole.root}),
+        Writer("sample --force", ("sample", "--force", depth, 3, *tree, "out/file"), over,
+               {"file": sample}),
+        Writer("read --force", ("read", "--force", depth, *of("whole"), "out/file"), over,
+               {"file": whole.volume}),
+        Writer("read of damage", ("read", depth, *of("harmed"), "out/file"), {},
+               {"file": harmed.volume}, 30)]
+
+
+def of_folders(depth, whole, harmed, wrong):
+    """The commands that make a folder."""
+    before = Coded(depth, 4).files()
+    words = (depth, "in/table", "in/volume", "out/made")
+    repaired = {name: before[name] for name in ("tree", "marks")}
+    return [
+        Writer("code", ("code", *words), {}, within("made", whole.files())),
+        Writer("code --force", ("code", "--force", *words), within("made", before),
+               within("made", whole.files())),
+        Writer("repair", ("repair", depth, *of("harmed"), "out/made"), {},
+               within("made", harmed.repair().files())),
+        Writer("repair --force", ("repair", "--force", depth, *of("wrong"), "out/made"),
+               within("made", repaired), within("made", wrong.repair().files()), 31)]
+
+
+def in_place(depth, harmed, wrong):
+    """The repairs in place."""
+    place = ("out/tree", "out/marks", "out/proof")
+    older = {"tree~": b"older tree", "marks~": b"older marks", "proof": b"older proof"}
+    return [
+        Writer("repair --in-place", ("repair", "--in-place", depth, *of("harmed")[:2], *place),
+               {"tree": harmed.tree, "marks": harmed.marks},
+               {**harmed.repair().files(), **kept(harmed)}),
+        Writer("repair --in-place --force",
+               ("repair", "--in-place", "--force", depth, *of("wrong")[:2], *place),
+               {"tree": wrong.tree, "marks": wrong.marks, **older},
+               {**wrong.repair().files(), **kept(wrong)}, 31)]
+
+
+def writers(depth):
+    """Every command that writes, into places that are free and over what is there."""
+    whole, harmed, wrong = lay_inputs(depth)
+    return of_one_file(depth, whole, harmed) + of_folders(depth, whole, harmed, wrong) \
+        + in_place(depth, harmed, wrong)
+
+
+def one(depth, name):
+    """The writer of this name."""
+    return next(writer for writer in writers(depth) if writer.name == name)
+
+
+def temporary(folder):
+    """The names in a folder that a killed command has left."""
+    return [name for name in os.listdir(folder) if LEFT.match(name)]
