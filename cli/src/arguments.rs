@@ -43,7 +43,8 @@ impl Arguments {
         if given("--help") || given("-h") {
             return Ok(Arguments::alone("help", first.into_iter().collect()));
         }
-        let first = first.ok_or_else(|| Failure::usage(help::usage()))?;
+        let first = first
+            .ok_or_else(|| Failure::usage(format!("no command is given:\n{}", help::usage())))?;
         let command = known(&first)?;
         let mut parsed = Arguments::alone(command, plain.collect());
         options.into_iter().try_for_each(|word| parsed.set(word))?;

@@ -1,6 +1,6 @@
 //! Files that are read.
 
-use crate::failure::{words, Failure, UNREADABLE};
+use crate::failure::{Failure, UNREADABLE};
 use crate::kind::Kind;
 use crate::name::shown;
 use crate::progress;
@@ -15,8 +15,8 @@ pub struct Input {
     pub name: String,
     pub kind: Kind,
     pub bytes: Vec<u8>,
-    /// Its length: that of the whole file where it is one.
-    len: u64,
+    /// The length of the whole, where it is a file.
+    whole: Option<u64>,
     /// The device and the number of its inode; standard input has them too.
     pub identity: Option<(u64, u64)>,
 }
@@ -43,12 +43,9 @@ impl Reader {
         } else {
             (shown(word), file(word, kind))
         };
-        let (bytes, metadata) =
-            read.map_err(|error| Failure::new(UNREADABLE, format!("{name}: {}", words(&error))))?;
-        let whole =
-            metadata.as_ref().filter(|metadata| metadata.is_file()).map_or(0, Metadata::len);
-        let len = whole.max(bytes.len() as u64);
-        Ok(Input { name, kind, bytes, len, identity: metadata.as_ref().map(identity) })
+        let (bytes, metadata) = read.map_err(|error| Failure::system(&name, &error, UNREADABLE))?;
+        let whole = metadata.as_ref().filter(|metadata| metadata.is_file()).map(Metadata::len);
+        Ok(Input { name, kind, bytes, whole, identity: metadata.as_ref().map(identity) })
     }
 
     fn standard(&mut self, kind: Kind) -> Result<io::Result<Read>, Failure> {
@@ -82,13 +79,12 @@ fn capped(source: impl io::Read, kind: Kind) -> io::Result<Vec<u8>> {
 impl Input {
     /// A line that says how long this file is and how long it should be, if it has a wrong length.
     pub fn wrong_length(&self, depth: Depth) -> Option<String> {
-        let wanted = self.kind.wanted(depth, self.len)?;
-        let more = if self.len > self.kind.most() as u64 && self.len == self.bytes.len() as u64 {
-            " or more"
-        } else {
-            ""
-        };
-        Some(format!("{} has {} bytes{more}; {wanted}", self.name, self.len))
+        let read = self.bytes.len() as u64;
+        let len = self.whole.map_or(read, |whole| whole.max(read));
+        let wanted = self.kind.wanted(depth, len)?;
+        let more =
+            if self.whole.is_none() && len > self.kind.most() as u64 { " or more" } else { "" };
+        Some(format!("{} has {len} bytes{more}; {wanted}", self.name))
     }
 }
 
@@ -103,18 +99,21 @@ pub fn stopped(stop: Stop, depth: u64, inputs: &[&Input]) -> Failure {
     }
 }
 
-/// The same of a call that names an absent page in its own way: which page of the tree is to be brought.
+/// The same of a call that names an absent page in its own way: which page of the tree it is.
 pub fn stopped_at(
     stop: Stop,
     depth: u64,
     inputs: &[&Input],
     place: impl Fn(Depth, usize) -> usize,
 ) -> Failure {
-    let failure = stopped(stop, depth, inputs);
     match (stop, Depth::new(depth)) {
         (Stop::Absent { number }, Some(depth)) => {
-            failure.and(format!("it is page {}", place(depth, number as usize)))
+            let page = place(depth, number as usize);
+            Failure::new(
+                stop.number(),
+                format!("{}: {}: page {page}", stop.number(), stop.meaning()),
+            )
         }
-        _ => failure,
+        _ => stopped(stop, depth, inputs),
     }
 }

@@ -41,7 +41,7 @@ impl Output {
     /// The folder of this name, which is to have files of these names.
     pub fn folder(
         word: &OsStr,
-        names: &[&str],
+        names: &'static [&'static str],
         options: Options,
         inputs: &[&Input],
     ) -> Result<Output, Failure> {
@@ -66,7 +66,7 @@ impl Output {
 /// Puts all of these in their places, in their order, or none: the locks are of all their folders.
 pub fn put_all(outputs: &[(Target, Content)], _locks: &Locks) -> Result<(), Failure> {
     target::apart(outputs.iter().map(|(target, _)| target))?;
-    let _signals = cedunmi_system::PutOff::begin();
+    let _signals = cedunmi_system::Held::begin();
     let mut placing = placing::Placing::default();
     for (target, content) in outputs {
         placing.write(target, *content)?;

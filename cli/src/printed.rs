@@ -44,8 +44,8 @@ pub fn print(root: &[u8]) -> Result<String, Stop> {
 #[derive(Debug)]
 pub struct Typed {
     pub root: Vec<u8>,
-    /// How many of its hashes have no check of their own, where the check of all is missing too.
-    pub unchecked: usize,
+    /// No check was typed, so that a slip could not be found.
+    pub unchecked: bool,
 }
 
 /// Where a typed text is not a root: lines for whoever typed it.
@@ -76,93 +76,132 @@ fn lines(text: &str) -> impl Iterator<Item = Line<'_>> {
     lines.filter(|line| !line.words.is_empty())
 }
 
-/// The root that a text writes.
+/// What stands beside the hashes of a text, which is the same in all its lines: else a digit too few or too many could
+/// pass for a number that is there or not, and four for a check.
+#[derive(Clone, Copy)]
+struct Form {
+    number: Number,
+    checked: bool,
+}
+
+/// How the number before a hash is written.
+#[derive(Clone, Copy, PartialEq, Eq)]
+enum Number {
+    Plain,
+    TwoDigits,
+    None,
+}
+
+impl Form {
+    /// The digits before the hash of a line.
+    fn before(self, number: usize) -> String {
+        match self.number {
+            Number::Plain => number.to_string(),
+            Number::TwoDigits => format!("{number:02}"),
+            Number::None => String::new(),
+        }
+    }
+
+    /// The digits of a hash, with its check where there is one.
+    fn digits(self) -> usize {
+        DIGITS + if self.checked { CHECK } else { 0 }
+    }
+
+    fn all() -> impl Iterator<Item = Form> {
+        let numbers = [Number::Plain, Number::TwoDigits, Number::None].into_iter();
+        numbers.flat_map(|number| [true, false].map(|checked| Form { number, checked }))
+    }
+}
+
+/// The root that a text writes, in the form by which it has the fewest slips. A mark of byte order before it, which
+/// some editors write, says nothing.
 pub fn parse(text: &[u8]) -> Result<Typed, Slips> {
     let text = String::from_utf8_lossy(text).to_lowercase();
-    let (mut root, mut slips, mut unchecked, mut of_all) = (Vec::new(), Vec::new(), 0, None);
-    let mut number = 0;
-    for line in lines(&text) {
-        if line.words[0] == "check" {
-            of_all = Some(line.words[1..].concat());
-            continue;
+    let lines = lines(text.trim_start_matches('\u{feff}'));
+    let (of_all, hashes): (Vec<Line>, Vec<Line>) = lines.partition(|line| line.words[0] == "check");
+    let mut best: Option<(Form, Vec<u8>, Vec<String>)> = None;
+    for form in Form::all() {
+        let (root, slips) = read(&hashes, form)?;
+        if best.as_ref().map_or(true, |(_, _, fewest)| slips.len() < fewest.len()) {
+            best = Some((form, root, slips));
         }
-        match hash(&line, number) {
-            Ok((bytes, typed)) => {
-                let right = check(number, &bytes)?;
-                unchecked += usize::from(typed.is_none());
-                if typed.map_or(false, |typed| typed != right) {
-                    slips.push(format!(
-                        "line {}: hash {number} has a slip: it does not fit its check",
-                        line.at
-                    ));
-                }
-                root.extend(bytes);
+    }
+    let (form, root, mut slips) = best.expect("there are forms");
+    if slips.is_empty() {
+        let right = digits(&root, CHECK_OF_ALL)?;
+        slips.extend(of_all.iter().filter_map(|line| slip_of_all(line, &right)));
+    }
+    match slips.is_empty() {
+        true => Ok(Typed { root, unchecked: !form.checked && of_all.is_empty() }),
+        false => Err(Slips::Lines(slips)),
+    }
+}
+
+/// The hashes of lines in a form, and their slips.
+fn read(lines: &[Line], form: Form) -> Result<(Vec<u8>, Vec<String>), Stop> {
+    let (mut root, mut slips) = (Vec::new(), Vec::new());
+    for (number, line) in lines.iter().enumerate() {
+        match hash(line, number, form) {
+            Ok((bytes, typed)) if form.checked && typed != check(number, &bytes)? => {
+                slips.push(format!(
+                    "line {}: hash {number} has a slip: it does not fit its check",
+                    line.at
+                ));
             }
+            Ok((bytes, _)) => root.extend(bytes),
             Err(why) => slips.push(format!("line {}: {why}", line.at)),
         }
-        number += 1;
     }
-    if number != HASHES {
-        slips.push(format!("a root has {HASHES} hashes, not {number}"));
+    if lines.len() != HASHES {
+        slips.push(format!("a root has {HASHES} hashes, not {}", lines.len()));
     }
-    if slips.is_empty() {
-        slips.extend(slip_of_all(&root, of_all.as_deref())?);
-    }
-    if of_all.is_some() {
-        unchecked = 0;
-    }
-    if slips.is_empty() {
-        Ok(Typed { root, unchecked })
-    } else {
-        Err(Slips::Lines(slips))
-    }
+    Ok((root, slips))
 }
 
-/// What is wrong with the check of all, where it was typed.
-fn slip_of_all(root: &[u8], typed: Option<&str>) -> Result<Option<String>, Stop> {
-    let right = digits(root, CHECK_OF_ALL)?;
-    let wrong = typed.filter(|typed| *typed != right);
-    Ok(wrong.map(|typed| {
-        format!("the check of these hashes is {right}, not {typed}: a digit is wrong")
-    }))
-}
-
-/// The hash that a line writes, and its check if it has one. Whether a number stands before it and a check after
-/// it, the number of digits tells.
-fn hash(line: &Line, number: usize) -> Result<(Vec<u8>, Option<String>), String> {
-    let all = line.words.concat().replace([':', '.'], "");
-    if let Some(other) = all.chars().find(|c| !c.is_ascii_hexdigit()) {
-        return Err(format!(
-            "hash {number} has '{}', which is no digit from 0 to f",
-            other.escape_default()
+/// What is wrong with a check of all, as it was typed.
+fn slip_of_all(line: &Line, right: &str) -> Option<String> {
+    let (at, typed) = (line.at, line.words[1..].concat());
+    if typed.len() != CHECK_OF_ALL {
+        return Some(format!(
+            "line {at}: the check of all has {CHECK_OF_ALL} digits, not {}",
+            typed.len()
         ));
     }
-    let numbered = number.to_string().len();
-    let checked = if all.len() >= DIGITS + CHECK { CHECK } else { 0 };
-    let first = match all.len() - checked {
-        DIGITS => 0,
-        len if len == DIGITS + numbered && all.starts_with(&number.to_string()) => numbered,
-        _ => return Err(miscounted(line, number)),
-    };
-    let bytes = (first..first + DIGITS)
-        .step_by(2)
-        .map(|at| u8::from_str_radix(&all[at..at + 2], 16).unwrap_or(0));
-    let check = Some(all[first + DIGITS..].to_string()).filter(|check| !check.is_empty());
-    Ok((bytes.collect(), check))
+    (typed != right).then(|| {
+        format!("line {at}: the check of these hashes is {right}, not {typed}: a digit is wrong")
+    })
+}
+
+/// The hash that a line writes, and its check, in a form.
+fn hash(line: &Line, number: usize, form: Form) -> Result<(Vec<u8>, String), String> {
+    let all = line.words.concat().replace([':', '.'], "");
+    if let Some(other) = all.chars().find(|c| !c.is_ascii_hexdigit()) {
+        let other = other.escape_default();
+        return Err(format!("hash {number} has '{other}', which is no digit from 0 to f"));
+    }
+    let before = form.before(number);
+    if all.len() != before.len() + form.digits() || !all.starts_with(&before) {
+        return Err(miscounted(line, number, form));
+    }
+    let (hash, check) = all[before.len()..].split_at(DIGITS);
+    let byte = |at| u8::from_str_radix(&hash[at..at + 2], 16).unwrap_or(0);
+    Ok(((0..DIGITS).step_by(2).map(byte).collect(), check.to_string()))
 }
 
 /// What to say of a line with too few or too many digits, or with another number before it.
-fn miscounted(line: &Line, number: usize) -> String {
+fn miscounted(line: &Line, number: usize, form: Form) -> String {
     let first = line.words[0].trim_end_matches([':', '.']);
-    let before = first.parse::<usize>().ok().filter(|_| first.len() <= 2);
-    let count: usize =
-        line.words[usize::from(before.is_some())..].iter().map(|word| word.len()).sum();
+    let before =
+        first.parse::<usize>().ok().filter(|_| form.number != Number::None && first.len() <= 2);
+    let after = &line.words[usize::from(before.is_some())..];
+    let count = after.concat().replace([':', '.'], "").len();
+    let with = if form.checked { " with its check" } else { "" };
     match before {
         Some(other) if other != number => format!("hash {number} is wanted, not {other}"),
-        _ => format!(
-            "hash {number} has {count} digits, not {DIGITS}, or {} with its check",
-            DIGITS + CHECK
-        ),
+        None if form.number != Number::None => {
+            format!("hash {number} has no number before it, or a digit too few or too many")
+        }
+        _ => format!("hash {number} has {count} digits{with}, not {}", form.digits()),
     }
 }
 
@@ -185,7 +224,7 @@ mod tests {
     fn a_print_is_read_back() {
         let text = print(&root()).unwrap();
         let typed = parse(text.as_bytes()).unwrap();
-        assert_eq!((typed.root, typed.unchecked), (root(), 0));
+        assert_eq!((typed.root, typed.unchecked), (root(), false));
         let lines: Vec<&str> = text.lines().skip(3).collect();
         assert_eq!(lines.len(), 17);
         for line in &lines[..16] {
@@ -199,7 +238,7 @@ mod tests {
         let text = print(&root()).unwrap();
         let bare: String = root().chunks(32).map(|hash| hex(hash) + "\n").collect();
         let typed = parse(bare.as_bytes()).unwrap();
-        assert_eq!((typed.root, typed.unchecked), (root(), 16));
+        assert_eq!((typed.root, typed.unchecked), (root(), true));
         for size in 1..70 {
             for with in [&text, &bare] {
                 let spaced: String = with
@@ -260,12 +299,31 @@ mod tests {
         bare.swap(2, 6);
         assert_eq!(slips(&bare.join("\n")).len(), 2);
         assert_eq!(slips(&lines[..18].join("\n")), ["a root has 16 hashes, not 15"]);
+        // A digit too few, or four, where there are numbers or checks, is none of a line without them.
+        let unchecked: Vec<&str> = lines[3..19].iter().map(|line| &line[..74]).collect();
+        for (at, line) in unchecked.iter().enumerate() {
+            let mut short = unchecked.clone();
+            short[at] = &line[..73];
+            assert_eq!(
+                slips(&short.join("\n")),
+                [format!("line {}: hash {at} has 63 digits, not 64", at + 1)]
+            );
+            let mut cut = lines.clone();
+            let lost = lines[3 + at].replacen(&lines[3 + at][12..16], "", 1);
+            cut[3 + at] = &lost;
+            assert_eq!(slips(&cut.join("\n")).len(), 1);
+        }
         let short = text.replacen("   ", " ", 1).replacen(&lines[3][3..5], "", 1);
         assert!(
-            slips(&short)[0].contains("has 66 digits, not 64, or 68 with its check"),
+            slips(&short)[0].contains("has 66 digits with its check, not 68"),
             "{:?}",
             slips(&short)
         );
         assert!(slips(&text.replacen("00", "0O", 1))[0].contains("'o'"));
+        let last = format!("{text}check 01234567\ncheck 0\n");
+        assert!(slips(&last)[0].starts_with("line 21: the check of these hashes is"));
+        assert_eq!(slips(&last)[1], "line 22: the check of all has 8 digits, not 1");
+        let filled = text.replace("\n ", "\n0").replace("\n0 ", "\n00");
+        assert_eq!(parse(format!("\u{feff}{filled}").as_bytes()).unwrap().root, root());
     }
 }

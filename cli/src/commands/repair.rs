@@ -110,8 +110,8 @@ pub fn run(arguments: &Arguments) -> Done {
     let [depth, root, table, tree, marks, folder] = arguments.take()?;
     let mut reader = Reader::new(arguments.options.quiet);
     let attempt = Attempt::read(&mut reader, [depth, root, table, tree, marks])?;
-    let names = [TREE, MARKS, PROOF, TWINS];
-    let output = Output::folder(folder, &names, arguments.options, &attempt.inputs())?;
+    let names = &[TREE, MARKS, PROOF, TWINS];
+    let output = Output::folder(folder, names, arguments.options, &attempt.inputs())?;
     let after = attempt.repair()?;
     let mut files: Vec<(&str, &[u8])> = vec![(TREE, &after.tree), (MARKS, &after.marks)];
     files.extend(after.shown());
@@ -139,22 +139,24 @@ pub fn in_place(arguments: &Arguments) -> Done {
     let mut reader = Reader::new(options.quiet);
     let attempt = Attempt::read(&mut reader, [depth, root, table, tree, marks])?;
     let after = attempt.repair()?;
-    let mut outputs = Vec::new();
-    let copies = [kept(tree), kept(marks)];
-    let changed = after.before() != after.now();
-    if changed {
-        outputs.push((attempt.beside(&copies[0], options)?, Content::File(after.before().tree)));
-        outputs.push((attempt.beside(&copies[1], options)?, Content::File(after.before().marks)));
+    let (mut outputs, mut replacing) = (Vec::new(), Vec::new());
+    if after.before() != after.now() {
+        let (before, now) = (after.before(), after.now());
+        for (word, other, old, new) in [
+            (tree, &attempt.marks, before.tree, now.tree),
+            (marks, &attempt.tree, before.marks, now.marks),
+        ] {
+            let target = Target::file(word, true, &[&attempt.root, &attempt.table, other])?;
+            let copy =
+                Target { mode: target.mode.clone(), ..attempt.beside(&kept(word), options)? };
+            outputs.push((copy, Content::File(old)));
+            replacing.push((target, Content::File(new)));
+        }
     }
     if let Some((_, bytes)) = after.shown() {
         outputs.push((attempt.beside(proof, options)?, Content::File(bytes)));
     }
-    if changed {
-        let replaced =
-            |word, other| Target::file(word, true, &[&attempt.root, &attempt.table, other]);
-        outputs.push((replaced(tree, &attempt.marks)?, Content::File(&after.tree)));
-        outputs.push((replaced(marks, &attempt.tree)?, Content::File(&after.marks)));
-    }
+    outputs.append(&mut replacing);
     put_all(&outputs, &locks)?;
     after.tell(options.quiet, &shown(proof))
 }

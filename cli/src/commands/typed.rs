@@ -22,11 +22,8 @@ pub fn run(arguments: &Arguments) -> Done {
         Slips::Stopped(stop) => Failure::stopped(stop),
     })?;
     output.put(Content::File(&typed.root))?;
-    if typed.unchecked > 0 && !arguments.options.quiet {
-        said::remark(&format!(
-            "{} of the hashes came without a check: a slip in them would not be found",
-            typed.unchecked
-        ));
+    if typed.unchecked && !arguments.options.quiet {
+        said::remark("no check was typed: a slip in these hashes would not be found");
     }
     Ok(0)
 }

@@ -2,8 +2,9 @@
 
 use super::target::{Target, There};
 use super::{temporary, Content};
-use crate::failure::{Failure, NOT_MADE, NOT_WRITTEN};
+use crate::failure::{words, Failure, NOT_MADE, NOT_WRITTEN};
 use crate::name::shown;
+use crate::said;
 use cedunmi_system::Rename;
 use std::fs;
 use std::io::{self, ErrorKind};
@@ -60,13 +61,20 @@ impl<'a> Placing<'a> {
             synced.map_err(|error| Failure::system(&shown(&target.folder), &error, NOT_WRITTEN))?;
         }
         let beside = std::mem::take(&mut self.beside);
-        for ((path, _), placed) in beside.iter().zip(std::mem::take(&mut self.placed)) {
+        for ((path, target), placed) in beside.iter().zip(std::mem::take(&mut self.placed)) {
             if let Placed::Exchanged = placed {
-                // An old one that can't be taken away stays under its odd name.
-                let _ = temporary::remove(path);
+                discard(path, target);
             }
         }
         Ok(())
+    }
+}
+
+/// Takes away what was replaced; where that fails, it stays under its odd name.
+fn discard(old: &Path, target: &Target) {
+    if let Err(error) = temporary::remove(old, target.names) {
+        let (name, old) = (shown(&target.path), shown(old));
+        said::remark(&format!("{name}: what was there is in {old}: {}", words(&error)));
     }
 }
 
@@ -128,8 +136,8 @@ impl Drop for Placing<'_> {
                 Placed::Exchanged => exchange(beside, &target.path),
             };
         }
-        for (beside, _) in &self.beside {
-            let _ = temporary::remove(beside);
+        for (beside, target) in &self.beside {
+            let _ = temporary::remove(beside, target.names);
         }
     }
 }
@@ -148,7 +156,8 @@ mod tests {
         }
 
         fn target(&self, name: &str, there: There) -> Target {
-            Target { path: self.0.join(name), folder: self.0.clone(), there, mode: None }
+            let names = &["tree", "marks"];
+            Target { path: self.0.join(name), folder: self.0.clone(), there, mode: None, names }
         }
 
         /// Every name below the room, with the bytes of a file.

@@ -18,6 +18,8 @@ pub struct Target {
     pub there: There,
     /// The mode of the old one, which the new one gets.
     pub mode: Option<Permissions>,
+    /// The names that the files of a folder may have; of a file none.
+    pub names: &'static [&'static str],
 }
 
 #[derive(Clone, Copy, Debug)]
@@ -81,7 +83,7 @@ pub fn apart<'a>(targets: impl Iterator<Item = &'a Target>) -> Result<(), Failur
 
 impl Target {
     fn new(path: &Path, there: There, mode: Option<Permissions>) -> Target {
-        Target { path: path.to_path_buf(), folder: folder_of(path), there, mode }
+        Target { path: path.to_path_buf(), folder: folder_of(path), there, mode, names: &[] }
     }
 
     /// A name for a file.
@@ -107,39 +109,49 @@ impl Target {
     /// A name for a folder with files of these names: one that is there is replaced if it has no others.
     pub fn folder(
         word: &OsStr,
-        names: &[&str],
+        names: &'static [&'static str],
         force: bool,
         inputs: &[&Input],
     ) -> Result<Target, Failure> {
-        let (path, name) = (Path::new(word), shown(word));
-        let here = match standing(path)? {
-            None => return Ok(Target::new(path, There::Nothing, None)),
-            Some(metadata) => metadata,
+        let path = Path::new(word);
+        let target = match standing(path)? {
+            None => Target::new(path, There::Nothing, None),
+            Some(metadata) => Target::old_folder(path, &metadata, force)?,
         };
+        if let There::Something = target.there {
+            for entry in entries(&target.path)? {
+                held(&entry, names, inputs).map_err(|why| refused(&shown(word), &why))?;
+            }
+        }
+        Ok(Target { names, ..target })
+    }
+
+    /// A folder that is there, as far as its files don't matter.
+    fn old_folder(path: &Path, here: &Metadata, force: bool) -> Result<Target, Failure> {
+        let name = shown(path);
         if !here.is_dir() {
             return Err(refused(&name, "it is there, and is no folder"));
         }
         let failed = |error| Failure::system(&name, &error, NOT_MADE);
-        if identity(&here) == identity(&fs::metadata(".").map_err(failed)?) {
+        if identity(here) == identity(&fs::metadata(".").map_err(failed)?) {
             return Err(refused(&name, "it is the folder that this command was started in"));
         }
-        let entries =
-            fs::read_dir(path).and_then(|entries| entries.collect::<io::Result<Vec<_>>>());
-        let entries = entries.map_err(failed)?;
+        let empty = entries(path)?.is_empty();
+        if !empty && !force {
+            let why = "a folder is there already, with files; --force replaces one that this command made";
+            return Err(refused(&name, why));
+        }
         // A name that ends with `..` has its place by its full path alone.
         let path = fs::canonicalize(path).map_err(failed)?;
-        let mode = Some(here.permissions());
-        if entries.is_empty() {
-            return Ok(Target::new(&path, There::EmptyFolder, mode));
-        }
-        if !force {
-            return Err(refused(&name, "a folder is there already, with files; --force replaces one that this command made"));
-        }
-        for entry in entries {
-            held(&entry, names, inputs).map_err(|why| refused(&name, &why))?;
-        }
-        Ok(Target::new(&path, There::Something, mode))
+        let there = if empty { There::EmptyFolder } else { There::Something };
+        Ok(Target::new(&path, there, Some(here.permissions())))
     }
+}
+
+/// What a folder holds.
+fn entries(folder: &Path) -> Result<Vec<DirEntry>, Failure> {
+    let entries = fs::read_dir(folder).and_then(|entries| entries.collect());
+    entries.map_err(|error| Failure::system(&shown(folder), &error, NOT_MADE))
 }
 
 /// Why this is not replaced, whatever the options are.

@@ -1,6 +1,6 @@
-//! Four functions of the C library that the standard library of Rust 1.63 does not have: names changed
-//! without replacing, folders locked, signals put off, and whether a terminal listens. All unsafe code of
-//! the command is here.
+//! What the standard library of Rust 1.63 does not have: names changed without replacing, folders locked, signals
+//! that wait, whether a terminal listens, whether standard output was open at the start. All unsafe code of the
+//! command is here.
 
 use std::ffi::CString;
 use std::fs::File;
@@ -9,6 +9,7 @@ use std::os::raw::{c_char, c_int, c_uint};
 use std::os::unix::ffi::OsStrExt;
 use std::os::unix::io::AsRawFd;
 use std::path::Path;
+use std::sync::atomic::{AtomicBool, Ordering};
 
 extern "C" {
     fn renameat2(
@@ -20,17 +21,30 @@ extern "C" {
     ) -> c_int;
     fn flock(file: c_int, operation: c_int) -> c_int;
     fn signal(number: c_int, action: usize) -> usize;
+    fn pthread_sigmask(how: c_int, set: *const Signals, old: *mut Signals) -> c_int;
     fn isatty(file: c_int) -> c_int;
+    fn fcntl(file: c_int, command: c_int) -> c_int;
 }
 
 const AT_FDCWD: c_int = -100;
 const LOCK_EX: c_int = 2;
 const SIG_IGN: usize = 1;
-const SIG_ERR: usize = usize::MAX;
+const SIG_BLOCK: c_int = 0;
+const SIG_SETMASK: c_int = 2;
+const F_GETFD: c_int = 1;
+const STDOUT: c_int = 1;
 const STDERR: c_int = 2;
 
-/// SIGHUP, SIGINT, SIGTERM, and SIGXFSZ, which a limit on the size of files sends.
-const PUT_OFF: [c_int; 4] = [1, 2, 15, 25];
+/// A limit on the size of files sends this, and ends a program that doesn't ignore it.
+const SIGXFSZ: c_int = 25;
+
+/// A set of signals: bit n−1 is that of signal n.
+#[repr(C)]
+struct Signals([u64; 16]);
+
+/// SIGHUP, SIGINT and SIGTERM.
+const WAITING: Signals =
+    Signals([1 | 1 << 1 | 1 << 14, 0, 0, 0, 0, 0, 0, 0, 0, 0, 0, 0, 0, 0, 0, 0]);
 
 /// How a name is changed.
 #[derive(Clone, Copy, Debug)]
@@ -63,25 +77,45 @@ pub fn lock(file: &File) -> io::Result<()> {
     done(unsafe { flock(file.as_raw_fd(), LOCK_EX) })
 }
 
-/// Signals that would end the program are ignored until this is dropped.
-pub struct PutOff([usize; PUT_OFF.len()]);
+/// Signals that would end the program wait until this is dropped, and a limit on the size of files is an error of
+/// the write that meets it.
+pub struct Held(Signals);
 
-impl PutOff {
-    pub fn begin() -> PutOff {
-        // SAFETY: to ignore a signal runs no code of ours.
-        PutOff(PUT_OFF.map(|number| unsafe { signal(number, SIG_IGN) }))
+impl Held {
+    pub fn begin() -> Held {
+        let mut before = Signals([0; 16]);
+        // SAFETY: both sets are as large as the C library's, and to ignore a signal runs no code of ours.
+        unsafe {
+            signal(SIGXFSZ, SIG_IGN);
+            pthread_sigmask(SIG_BLOCK, &WAITING, &mut before);
+        }
+        Held(before)
     }
 }
 
-impl Drop for PutOff {
+impl Drop for Held {
     fn drop(&mut self) {
-        for (number, before) in PUT_OFF.into_iter().zip(self.0) {
-            if before != SIG_ERR {
-                // SAFETY: this is what was there before.
-                unsafe { signal(number, before) };
-            }
-        }
+        // SAFETY: this is what was there before; there is no place for what is there now.
+        unsafe { pthread_sigmask(SIG_SETMASK, &self.0, std::ptr::null_mut()) };
     }
+}
+
+static OUTPUT_CLOSED: AtomicBool = AtomicBool::new(false);
+
+/// Runs before Rust's own start, which opens /dev/null where standard output is closed, so that what is written
+/// there would be lost without an error.
+extern "C" fn look_at_output() {
+    // SAFETY: it takes any number.
+    OUTPUT_CLOSED.store(unsafe { fcntl(STDOUT, F_GETFD) } < 0, Ordering::Relaxed);
+}
+
+#[used]
+#[link_section = ".init_array"]
+static LOOK_AT_OUTPUT: extern "C" fn() = look_at_output;
+
+/// Whether standard output was closed when the program began.
+pub fn output_closed() -> bool {
+    OUTPUT_CLOSED.load(Ordering::Relaxed)
 }
 
 /// Whether standard error is a terminal.
