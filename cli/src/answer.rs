@@ -1,7 +1,7 @@
 //! The end of a repair in words: the one place where an end becomes lines and a status.
 
 use crate::failure::{DAMAGED, ENDS};
-use crate::report::{layers, Pages};
+use crate::report::{layers, Layer, Pages};
 use cedunmi::{Depth, End, Repaired};
 
 /// Where what a repair shows goes.
@@ -38,11 +38,14 @@ pub fn report(
 ) -> String {
     let Repaired { stored, end } = repaired;
     let layers = layers(depth, end, before, after);
-    format!("{layers}stored: {stored}\n{}\n", ended(end, after, depth, shown))
+    format!("{layers}stored: {stored}\n{}\n", ended(depth, end, before, after, shown))
 }
 
+/// Half of the top layer: where so many of its pages are bad copies, the root may be another volume's.
+const HALF: usize = 8;
+
 /// The end in one line, with what to do about it.
-pub fn ended(end: &End, after: Pages, depth: Depth, shown: &Shown) -> String {
+pub fn ended(depth: Depth, end: &End, before: Pages, after: Pages, shown: &Shown) -> String {
     match (end, shown) {
         (End::Fault { proof }, Shown::In(name)) => {
             format!("{}; the proof of {} bytes is in {name}", end.meaning(), proof.len())
@@ -51,8 +54,13 @@ pub fn ended(end: &End, after: Pages, depth: Depth, shown: &Shown) -> String {
             format!("{}; the proof would have {} bytes", end.meaning(), proof.len())
         }
         (End::Unavailable { layer }, _) => {
-            let missing = depth.places(*layer).filter(|place| after.marks[*place] == 0).count();
-            format!("unavailable: no equation gives another page of layer {layer}; bring some of its {missing} missing pages, and repair again")
+            let Layer { bad, missing, .. } = Layer::compare(depth, *layer, before, after);
+            let count = missing.len();
+            let hint = match *layer == 0 && bad.len() >= HALF {
+                true => "; most of them were held, and don't fit this root: is it the volume's?",
+                false => "",
+            };
+            format!("unavailable: no equation gives another page of layer {layer}; bring some of its {count} missing pages, and repair again{hint}")
         }
         (End::Twins { .. }, Shown::In(name)) => format!("{}; they are in {name}", end.meaning()),
         _ => end.meaning().to_string(),
@@ -144,6 +152,18 @@ mod tests {
                      bring some of its 2 missing pages, and repair again\n";
         let now = told(0, End::Unavailable { layer: 1 }, &before, &after, &Shown::In("proof"));
         assert_eq!(now, (lines.to_string(), 32, 32));
+    }
+
+    /// Most pages of the top layer are bad copies where the root is another volume's.
+    #[test]
+    fn another_root() {
+        let mut after = held();
+        after.marks[..13].copy_from_slice(&[0; 13]);
+        let now = told(0, End::Unavailable { layer: 0 }, &held(), &after, &Shown::Nowhere);
+        let last = "unavailable: no equation gives another page of layer 0; \
+                    bring some of its 13 missing pages, and repair again; \
+                    most of them were held, and don't fit this root: is it the volume's?";
+        assert_eq!((now.0.lines().last(), now.1), (Some(last), 32));
     }
 
     #[test]

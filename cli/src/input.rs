@@ -1,6 +1,6 @@
 //! Files that are read.
 
-use crate::failure::{Failure, UNREADABLE};
+use crate::failure::{Failure, NOT_MADE, UNREADABLE};
 use crate::kind::Kind;
 use crate::name::shown;
 use crate::progress;
@@ -17,8 +17,8 @@ pub struct Input {
     pub bytes: Vec<u8>,
     /// The length of the whole, where it is a file.
     whole: Option<u64>,
-    /// The device and the number of its inode; standard input has them too.
-    pub identity: Option<(u64, u64)>,
+    /// The device and the number of its inode.
+    pub identity: (u64, u64),
 }
 
 pub fn identity(metadata: &Metadata) -> (u64, u64) {
@@ -29,51 +29,45 @@ pub fn identity(metadata: &Metadata) -> (u64, u64) {
 pub struct Reader {
     quiet: bool,
     standard: bool,
+    /// Where standard output leads, if that is a file.
+    output: Option<(u64, u64)>,
 }
 
 impl Reader {
     pub fn new(quiet: bool) -> Reader {
-        Reader { quiet, standard: false }
+        let output = cedunmi_system::output().and_then(|file| file.metadata());
+        let output = output.ok().filter(Metadata::is_file).map(|metadata| identity(&metadata));
+        Reader { quiet, standard: false, output }
     }
 
-    /// Reads a file of a kind; `-` is standard input.
+    /// Reads a file of a kind; `-` is standard input. One that standard output leads to would be changed by what is
+    /// printed, and is refused.
     pub fn read(&mut self, word: &OsStr, kind: Kind) -> Result<Input, Failure> {
-        let (name, read) = if word == "-" {
-            ("standard input".to_string(), self.standard(kind)?)
-        } else {
-            (shown(word), file(word, kind))
-        };
-        let (bytes, metadata) = read.map_err(|error| Failure::system(&name, &error, UNREADABLE))?;
-        let whole = metadata.as_ref().filter(|metadata| metadata.is_file()).map(Metadata::len);
-        Ok(Input { name, kind, bytes, whole, identity: metadata.as_ref().map(identity) })
-    }
-
-    fn standard(&mut self, kind: Kind) -> Result<io::Result<Read>, Failure> {
-        if self.standard {
+        let name = if word == "-" { "standard input".to_string() } else { shown(word) };
+        if word == "-" && std::mem::replace(&mut self.standard, true) {
             return Err(Failure::usage("standard input can be one file alone"));
         }
-        self.standard = true;
-        Ok(progress::during(self.quiet, "reading standard input", || {
-            // Its metadata guards it from being the output too: without /dev there is no such guard.
-            Ok((capped(io::stdin().lock(), kind)?, std::fs::metadata("/dev/stdin").ok()))
-        }))
+        let read = progress::during(self.quiet, &format!("reading {name}"), || capped(word, kind));
+        let (bytes, metadata) = read.map_err(|error| Failure::system(&name, &error, UNREADABLE))?;
+        if self.output == Some(identity(&metadata)) {
+            return Err(Failure::new(
+                NOT_MADE,
+                format!("{name}: standard output leads to this input"),
+            ));
+        }
+        let whole = Some(metadata.len()).filter(|_| metadata.is_file());
+        Ok(Input { name, kind, bytes, whole, identity: identity(&metadata) })
     }
 }
 
-/// The bytes of a file, as far as they go, and what the system says of it.
-type Read = (Vec<u8>, Option<Metadata>);
-
-fn file(word: &OsStr, kind: Kind) -> io::Result<Read> {
-    let file = File::open(word)?;
+/// The first bytes, one more than the kind can have where there are so many, and what the system says of the file.
+fn capped(word: &OsStr, kind: Kind) -> io::Result<(Vec<u8>, Metadata)> {
+    let file = if word == "-" { cedunmi_system::input()? } else { File::open(word)? };
     let metadata = file.metadata()?;
-    Ok((capped(file, kind)?, Some(metadata)))
-}
-
-/// The first bytes, one more than the kind can have where there are so many.
-fn capped(source: impl io::Read, kind: Kind) -> io::Result<Vec<u8>> {
-    let mut bytes = Vec::new();
-    source.take(kind.most() as u64 + 1).read_to_end(&mut bytes)?;
-    Ok(bytes)
+    let most = kind.most() as u64 + 1;
+    let mut bytes = Vec::with_capacity(metadata.len().min(most) as usize + 1);
+    file.take(most).read_to_end(&mut bytes)?;
+    Ok((bytes, metadata))
 }
 
 impl Input {

@@ -22,6 +22,7 @@ use arguments::Arguments;
 use std::process::exit;
 
 fn main() {
+    cedunmi_system::ignore_size_limit();
     let words = std::env::args_os().skip(1).collect();
     let status = match Arguments::parse(words).and_then(|arguments| commands::run(&arguments)) {
         Ok(status) => status,

@@ -26,13 +26,7 @@ pub fn data(bytes: &[u8]) -> Result<(), Failure> {
 }
 
 fn written(bytes: &[u8]) -> io::Result<()> {
-    const EBADF: i32 = 9;
-    if cedunmi_system::output_closed() {
-        return Err(io::Error::from_raw_os_error(EBADF));
-    }
-    let mut output = io::stdout().lock();
-    output.write_all(bytes)?;
-    output.flush()
+    cedunmi_system::output()?.write_all(bytes)
 }
 
 fn not_written(error: &io::Error) -> Failure {

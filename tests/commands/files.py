@@ -61,24 +61,17 @@ def test_new_modes(room):
 
 
 def test_links(room):
-    """A link counts as there, a dangling one too; --force replaces it, and not what it leads to."""
+    """A link is neither followed nor replaced, with --force or without, a dangling one too."""
     Coded(1).lay()
     put("victim", b"mine", 0o640)
     os.symlink("victim", "link")
     os.symlink("nowhere", "dangling")
     os.symlink("/nowhere/at/all", "far")
+    os.symlink("/proc/self/fd/1", "stdout")
     for words in FILES:
-        for name in ("link", "dangling", "far"):
+        for name in ("link", "dangling", "far", "stdout", "./link"):
             room.refused(73, *to(words, name))
-    for words in FILES:
-        before = snapshot()
-        os.symlink("victim", "one")
-        os.symlink("nowhere", "two")
-        for name in ("one", "two"):
-            room.works("--force", *to(words, name))
-            need(os.path.isfile(name) and not os.path.islink(name), "a link is left:", words)
-            os.remove(name)
-        unchanged(before, snapshot(), words)
+            room.refused(73, "--force", *to(words, name))
 
 
 def aliases(target):

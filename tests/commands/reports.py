@@ -141,8 +141,9 @@ def test_in_place_faults(room):
 
 
 def test_another_root(room):
-    """A repair by another volume's root is no harm: nothing but the new folder is written."""
-    coded = Coded(1, 12).lay()
+    """A repair by another volume's root is no harm: nothing but the new folder is written, and in
+    place nothing, since fewer pages would be held; the root is doubted."""
+    Coded(1, 12).lay()
     put("root", Coded(1, 13).root)
     before = contents(".")
     said = room.ends((31, 32), "repair", 1, *WHOLE, "made")
@@ -150,5 +151,9 @@ def test_another_root(room):
     after = {name: held for name, held in contents(".").items() if not name.startswith("made")}
     need(after == before, str(said) + ", and has changed an input")
     need(set(made) <= {"tree", "marks", "proof"}, "made", sorted(made))
-    room.ends((31, 32), "repair", "--in-place", 1, *WHOLE, "proof")
-    need(slurp("tree~") == coded.tree and slurp("marks~") == coded.marks, "the old tree is lost")
+    for force in ((), ("--force",)):
+        said = room.ends(32, "repair", "--in-place", *force, 1, *WHOLE, "proof")
+        said.says("nothing was written: fewer pages would be held than before")
+        need(b"is it the volume's?" in said.out, str(said))
+    after = {name: held for name, held in contents(".").items() if not name.startswith("made")}
+    need(after == before, str(said) + ", and has changed something")

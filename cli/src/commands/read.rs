@@ -21,8 +21,7 @@ pub fn run(arguments: &Arguments) -> Done {
     let after = attempt.repair()?;
     let status = answer::status_as_is(&after.repaired);
     if after.repaired.end != End::Whole {
-        let failure =
-            Failure::new(status, format!("the volume was not read: {}", after.repaired.end));
+        let failure = Failure::new(status, format!("the volume was not read: {}", after.ended()));
         return Err(
             failure.and("cedunmi check says more; read --unverified reads it by the marks alone")
         );

@@ -7,7 +7,7 @@ use crate::failure::Failure;
 use crate::input::{stopped, Input, Reader};
 use crate::kind::Kind;
 use crate::name::shown;
-use crate::output::{put_all, Content, Locks, Output, Target};
+use crate::output::{place, put_all, refused, Content, Locks, Output, Target};
 use crate::report::{lacked, Pages};
 use crate::said;
 use cedunmi::{Depth, End, Repaired, Stop};
@@ -53,9 +53,15 @@ impl Attempt {
         [&self.root, &self.table, &self.tree, &self.marks]
     }
 
-    /// A file that is written beside the tree that was read.
-    fn beside(&self, word: &OsStr, options: Options) -> Result<Target, Failure> {
-        Target::file(word, options.force, &self.inputs())
+    /// One of its files, to be replaced by what came of it: it must still be the file that was read.
+    fn replaced(&self, word: &OsStr, input: &Input, locks: &Locks) -> Result<Target, Failure> {
+        let others: Vec<&Input> =
+            self.inputs().into_iter().filter(|other| !std::ptr::eq(*other, input)).collect();
+        let target = Target::file(word, true, &others, locks)?;
+        match &target.old {
+            Some(old) if old.identity == input.identity => Ok(target),
+            _ => Err(refused(&input.name, "it is not the file that was read any more")),
+        }
     }
 
     /// Repairs a copy.
@@ -83,9 +89,24 @@ impl After<'_> {
         answer::report(self.depth, &self.repaired, self.before(), self.now(), shown)
     }
 
+    /// The end in one line.
+    pub fn ended(&self) -> String {
+        answer::ended(self.depth, &self.repaired.end, self.before(), self.now(), &Shown::Nowhere)
+    }
+
     /// How many pages were absent, and how many bad.
     pub fn lacked(&self) -> (usize, usize) {
         lacked(self.depth, self.before(), self.now())
+    }
+
+    fn changed(&self) -> bool {
+        self.before() != self.now()
+    }
+
+    /// Whether fewer pages are held than before: by a root of another volume most are bad copies.
+    fn lost(&self) -> bool {
+        let held = |pages: Pages| pages.marks.iter().filter(|mark| **mark == 1).count();
+        held(self.now()) < held(self.before())
     }
 
     /// What a repair shows beside the tree: the name that it has in a folder, and its bytes.
@@ -100,8 +121,18 @@ impl After<'_> {
     /// Tells what was done, with what was shown in the file of this name.
     fn tell(&self, quiet: bool, name: &str) -> Done {
         if !quiet {
-            said::report(&self.report(&Shown::In(name)))?;
+            let told = said::report(&self.report(&Shown::In(name)));
+            told.map_err(|failure| failure.and("the files are in their places"))?;
         }
+        Ok(answer::status(&self.repaired.end))
+    }
+
+    /// Tells why nothing is written in place.
+    fn not_in_place(&self, options: Options) -> Done {
+        if !options.quiet {
+            said::report(&self.report(&Shown::Nowhere))?;
+        }
+        said::remark("nothing was written: fewer pages would be held than before; repair into a FOLDER, or by the volume's own root");
         Ok(answer::status(&self.repaired.end))
     }
 }
@@ -135,28 +166,44 @@ pub fn in_place(arguments: &Arguments) -> Done {
         return Err(Failure::usage("with --in-place TREE, MARKS and PROOF are files"));
     }
     let options = arguments.options;
-    let locks = Locks::of(&[tree, marks, proof], options.quiet)?;
     let mut reader = Reader::new(options.quiet);
-    let attempt = Attempt::read(&mut reader, [depth, root, table, tree, marks])?;
+    let (depth, root, table) = (
+        decimal("DEPTH", depth)?,
+        reader.read(root, Kind::Root)?,
+        reader.read(table, Kind::Table)?,
+    );
+    let locks = Locks::of(&[place(tree)?.0, place(marks)?.0, place(proof)?.0], options.quiet)?;
+    let (tree_read, marks_read) =
+        (reader.read(tree, Kind::Tree)?, reader.read(marks, Kind::Marks)?);
+    let attempt = Attempt { depth, root, table, tree: tree_read, marks: marks_read };
+    let new_tree = attempt.replaced(tree, &attempt.tree, &locks)?;
+    let new_marks = attempt.replaced(marks, &attempt.marks, &locks)?;
+    // An input is never written, whether there is a proof or not.
+    Target::file(proof, true, &attempt.inputs(), &locks)?;
     let after = attempt.repair()?;
-    let (mut outputs, mut replacing) = (Vec::new(), Vec::new());
-    if after.before() != after.now() {
-        let (before, now) = (after.before(), after.now());
-        for (word, other, old, new) in [
-            (tree, &attempt.marks, before.tree, now.tree),
-            (marks, &attempt.tree, before.marks, now.marks),
-        ] {
-            let target = Target::file(word, true, &[&attempt.root, &attempt.table, other])?;
-            let copy =
-                Target { mode: target.mode.clone(), ..attempt.beside(&kept(word), options)? };
-            outputs.push((copy, Content::File(old)));
-            replacing.push((target, Content::File(new)));
-        }
+    if after.lost() {
+        return after.not_in_place(options);
+    }
+    let beside = |word: &OsStr| Target::file(word, options.force, &attempt.inputs(), &locks);
+    let mut outputs = Vec::new();
+    if after.changed() {
+        let (tree_copy, marks_copy) = (beside(&kept(tree))?, beside(&kept(marks))?);
+        outputs.push((
+            Target { rights: new_tree.rights, ..tree_copy },
+            Content::File(after.before().tree),
+        ));
+        outputs.push((
+            Target { rights: new_marks.rights, ..marks_copy },
+            Content::File(after.before().marks),
+        ));
     }
     if let Some((_, bytes)) = after.shown() {
-        outputs.push((attempt.beside(proof, options)?, Content::File(bytes)));
+        outputs.push((beside(proof)?, Content::File(bytes)));
     }
-    outputs.append(&mut replacing);
-    put_all(&outputs, &locks)?;
+    if after.changed() {
+        outputs.push((new_tree, Content::File(&after.tree)));
+        outputs.push((new_marks, Content::File(&after.marks)));
+    }
+    put_all(&outputs)?;
     after.tell(options.quiet, &shown(proof))
 }

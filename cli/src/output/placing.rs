@@ -1,80 +1,217 @@
 //! Several outputs put in their places, so that a failure at any step leaves all as it was.
 
-use super::target::{Target, There};
-use super::{temporary, Content};
+use super::target::{refused, Target};
+use super::{fresh, Content};
 use crate::failure::{words, Failure, NOT_MADE, NOT_WRITTEN};
+use crate::input::identity;
 use crate::name::shown;
 use crate::said;
-use cedunmi_system::Rename;
-use std::fs;
+use cedunmi_system::{Folder, Rename};
+use std::collections::BTreeMap;
+use std::ffi::{OsStr, OsString};
 use std::io::{self, ErrorKind};
-use std::path::{Path, PathBuf};
 
 /// What is written beside its place, and what is in its place already. Dropped, all is taken back.
 #[derive(Default)]
 pub struct Placing<'a> {
-    beside: Vec<(PathBuf, &'a Target)>,
-    /// How many of those have changed names with what was there, and how.
+    beside: Vec<Beside<'a>>,
     placed: Vec<Placed>,
 }
 
-#[derive(Clone, Copy)]
+/// An output under its first name.
+struct Beside<'a> {
+    target: &'a Target,
+    name: OsString,
+    made: Made,
+}
+
+/// What was made for it, by which it is known again.
+enum Made {
+    File(Option<(u64, u64)>),
+    /// A folder that could not be entered is empty.
+    Folder(Option<Folder>),
+}
+
 enum Placed {
     /// The name was free.
     New,
-    /// An empty folder was there.
-    EmptyFolder,
-    /// The old one now bears the name beside.
-    Exchanged,
+    /// What was there bears this name now.
+    Old(OsString),
+    /// A copy of it does, on a file system that has neither exchanges nor second names.
+    Copy(OsString),
 }
 
 impl<'a> Placing<'a> {
     /// Writes an output beside its place.
     pub fn write(&mut self, target: &'a Target, content: Content) -> Result<(), Failure> {
-        let (name, mode) = (shown(&target.path), target.mode.as_ref());
-        let not_made = |error: io::Error| Failure::system(&name, &error, NOT_MADE);
+        let rights = target.rights;
+        let not_made = |error| Failure::system(&target.shown, &error, NOT_MADE);
         let filled = match content {
             Content::File(bytes) => {
-                let (path, file) = temporary::file(&target.folder, mode).map_err(not_made)?;
-                self.beside.push((path, target));
-                temporary::fill(file, bytes, mode)
+                let (name, file) = fresh::file(&target.folder, rights).map_err(not_made)?;
+                let made = Made::File(file.metadata().ok().map(|metadata| identity(&metadata)));
+                self.beside.push(Beside { target, name, made });
+                fresh::fill(file, bytes, rights)
             }
             Content::Folder(files) => {
-                let path = temporary::folder(&target.folder, mode).map_err(not_made)?;
-                self.beside.push((path.clone(), target));
-                temporary::fill_folder(&path, files, mode)
+                let name = fresh::folder(&target.folder, rights).map_err(not_made)?;
+                let entered = target.folder.enter(&name);
+                let filled = match &entered {
+                    Ok(folder) => fresh::fill_folder(folder, files, target.old.as_ref()),
+                    Err(_) => Ok(()),
+                };
+                let (made, failed) = match entered {
+                    Ok(folder) => (Made::Folder(Some(folder)), None),
+                    Err(error) => (Made::Folder(None), Some(error)),
+                };
+                self.beside.push(Beside { target, name, made });
+                if let Some(error) = failed {
+                    return Err(not_made(error));
+                }
+                filled
             }
         };
-        filled.map_err(|error| Failure::system(&name, &error, NOT_WRITTEN))
+        filled.map_err(|error| Failure::system(&target.shown, &error, NOT_WRITTEN))
     }
 
-    /// Changes the names, one after the other; then the old ones go.
+    /// Changes the names, one after the other; then what was replaced goes.
     pub fn place_all(mut self) -> Result<(), Failure> {
         for at in 0..self.beside.len() {
-            let (beside, target) = &self.beside[at];
-            let placed = place(beside, target)
-                .map_err(|error| Failure::system(&shown(&target.path), &error, NOT_MADE))?;
+            let placed = self.beside[at].place()?;
             self.placed.push(placed);
+            self.beside[at].is_old(&self.placed[at])?;
         }
-        for (_, target) in &self.beside {
-            let synced = temporary::sync_folder(&target.folder);
-            synced.map_err(|error| Failure::system(&shown(&target.folder), &error, NOT_WRITTEN))?;
-        }
+        self.sync()?;
         let beside = std::mem::take(&mut self.beside);
-        for ((path, target), placed) in beside.iter().zip(std::mem::take(&mut self.placed)) {
-            if let Placed::Exchanged = placed {
-                discard(path, target);
+        for (beside, placed) in beside.iter().zip(std::mem::take(&mut self.placed)) {
+            beside.discard(&placed);
+        }
+        Ok(())
+    }
+
+    /// Puts the names on the disk, each folder's once.
+    fn sync(&self) -> Result<(), Failure> {
+        let mut folders = BTreeMap::new();
+        for Beside { target, .. } in &self.beside {
+            let failed = |error| Failure::system(&target.shown, &error, NOT_WRITTEN);
+            let metadata = target.folder.metadata().map_err(failed)?;
+            if folders.insert(identity(&metadata), ()).is_none() {
+                target.folder.sync().map_err(failed)?;
             }
         }
         Ok(())
     }
 }
 
-/// Takes away what was replaced; where that fails, it stays under its odd name.
-fn discard(old: &Path, target: &Target) {
-    if let Err(error) = temporary::remove(old, target.names) {
-        let (name, old) = (shown(&target.path), shown(old));
-        said::remark(&format!("{name}: what was there is in {old}: {}", words(&error)));
+impl Beside<'_> {
+    fn is_folder(&self) -> bool {
+        matches!(self.made, Made::Folder(_))
+    }
+
+    /// Gives it its name.
+    fn place(&self) -> Result<Placed, Failure> {
+        let (folder, to) = (&self.target.folder, &self.target.name);
+        let placed = match self.target.old {
+            None => place_new(folder, &self.name, to, self.is_folder()).map(|()| Placed::New),
+            Some(_) => exchange(folder, &self.name, to, self.is_folder()),
+        };
+        placed.map_err(|error| Failure::system(&self.target.shown, &error, NOT_MADE))
+    }
+
+    /// Sees that what was replaced is what was looked at before.
+    fn is_old(&self, placed: &Placed) -> Result<(), Failure> {
+        match (placed, &self.target.old) {
+            (Placed::Old(name), Some(old)) => {
+                match old.bears(&self.target.folder, name, self.target.names) {
+                    Ok(true) => Ok(()),
+                    Ok(false) => {
+                        Err(refused(&self.target.shown, "something else was put there meanwhile"))
+                    }
+                    Err(error) => Err(Failure::system(&self.target.shown, &error, NOT_MADE)),
+                }
+            }
+            _ => Ok(()),
+        }
+    }
+
+    /// Takes away what was replaced; where that fails, it stays under its odd name.
+    fn discard(&self, placed: &Placed) {
+        let Target { folder, names, shown: name, old: was, .. } = self.target;
+        let old = match placed {
+            Placed::New => return,
+            Placed::Old(old) | Placed::Copy(old) => old,
+        };
+        let gone = match was.as_ref().and_then(|was| was.folder.as_ref()) {
+            None => folder.remove(old),
+            Some((itself, _)) => fresh::remove_folder(folder, old, Some(itself), names),
+        };
+        tell(gone, || format!("{name}: what was there is kept as {}", shown(old)));
+    }
+
+    /// Whether somebody has put something else in its place.
+    fn gone(&self) -> bool {
+        let made = match &self.made {
+            Made::File(made) => *made,
+            Made::Folder(folder) => {
+                let metadata = folder.as_ref().and_then(|folder| folder.metadata().ok());
+                metadata.map(|metadata| identity(&metadata))
+            }
+        };
+        let there = self.target.folder.look(&self.target.name).ok();
+        let there = there.map(|there| there.map(|metadata| identity(&metadata)));
+        matches!((made, there), (Some(_), Some(there)) if there != made)
+    }
+
+    /// Takes its name back: whether it bears its first name again.
+    fn take_back(&self, placed: &Placed) -> bool {
+        let (folder, to) = (&self.target.folder, &self.target.name);
+        if self.gone() {
+            return false;
+        }
+        let back = match placed {
+            Placed::New => folder.rename(to, &self.name, Rename::Replace),
+            Placed::Old(old) if *old == self.name => folder.rename(old, to, Rename::Exchange),
+            Placed::Old(old) if self.is_folder() => {
+                let freed = folder.rename(to, &self.name, Rename::Replace);
+                freed.and_then(|()| folder.rename(old, to, Rename::Replace))
+            }
+            Placed::Old(old) | Placed::Copy(old) => folder.rename(old, to, Rename::Replace),
+        };
+        let done = back.is_ok();
+        tell(back, || format!("{}: it could not be put back", self.target.shown));
+        done
+    }
+
+    /// Takes away what was written.
+    fn remove(&self) {
+        let folder = &self.target.folder;
+        let gone = match &self.made {
+            Made::File(_) => folder.remove(&self.name),
+            Made::Folder(made) => {
+                fresh::remove_folder(folder, &self.name, made.as_ref(), self.target.names)
+            }
+        };
+        tell(gone, || format!("{} is left in {}", shown(&self.name), shown(folder.path())));
+    }
+}
+
+impl Drop for Placing<'_> {
+    fn drop(&mut self) {
+        for (at, beside) in self.beside.iter().enumerate().rev() {
+            if self.placed.get(at).map_or(true, |placed| beside.take_back(placed)) {
+                beside.remove();
+            }
+        }
+    }
+}
+
+/// Says what could not be done; that something is not there any more is nothing to say.
+fn tell(done: io::Result<()>, what: impl FnOnce() -> String) {
+    match done {
+        Err(error) if error.kind() != ErrorKind::NotFound => {
+            said::remark(&format!("{}: {}", what(), words(&error)))
+        }
+        _ => {}
     }
 }
 
@@ -86,176 +223,67 @@ fn unknown(error: &io::Error) -> bool {
     matches!(error.raw_os_error(), Some(EINVAL | ENOSYS | EOPNOTSUPP))
 }
 
-/// Gives what is written beside its name.
-fn place(beside: &Path, target: &Target) -> io::Result<Placed> {
-    match target.there {
-        There::Nothing => match cedunmi_system::rename(beside, &target.path, Rename::New) {
-            Err(error) if unknown(&error) => match fs::symlink_metadata(&target.path) {
-                Ok(_) => Err(ErrorKind::AlreadyExists.into()),
-                Err(_) => fs::rename(beside, &target.path).map(|()| Placed::New),
-            },
-            other => other.map(|()| Placed::New),
+/// Whether it has no second names.
+fn unlinked(error: &io::Error) -> bool {
+    const EPERM: i32 = 1;
+    unknown(error) || error.raw_os_error() == Some(EPERM)
+}
+
+/// Gives something a name that must be free. Without a step for that a folder replaces no more than an empty one, and
+/// a file gets a second name first.
+fn place_new(folder: &Folder, from: &OsStr, to: &OsStr, is_folder: bool) -> io::Result<()> {
+    match folder.rename(from, to, Rename::New) {
+        Err(error) if !unknown(&error) => return Err(error),
+        Err(_) if is_folder => return folder.rename(from, to, Rename::Replace),
+        Err(_) => {}
+        Ok(()) => return Ok(()),
+    }
+    match folder.link(from, to) {
+        Err(error) if unlinked(&error) => match folder.look(to)? {
+            Some(_) => Err(ErrorKind::AlreadyExists.into()),
+            None => folder.rename(from, to, Rename::Replace),
         },
-        There::EmptyFolder => fs::rename(beside, &target.path).map(|()| Placed::EmptyFolder),
-        There::Something => exchange(beside, &target.path).map(|()| Placed::Exchanged),
+        other => other.and_then(|()| folder.remove(from)),
     }
 }
 
-/// Exchanges the names in one step, or as well as the file system can.
-fn exchange(beside: &Path, target: &Path) -> io::Result<()> {
-    match cedunmi_system::rename(beside, target, Rename::Exchange) {
-        Err(error) if unknown(&error) => exchange_in_steps(beside, target),
-        other => other,
+/// Gives something the name of what is there.
+fn exchange(folder: &Folder, from: &OsStr, to: &OsStr, is_folder: bool) -> io::Result<Placed> {
+    match folder.rename(from, to, Rename::Exchange) {
+        Err(error) if unknown(&error) => exchange_in_steps(folder, from, to, is_folder),
+        other => other.map(|()| Placed::Old(from.to_os_string())),
     }
 }
 
-/// By a third name. A file is replaced in one step all the same; a folder's name is free for a moment.
-fn exchange_in_steps(beside: &Path, target: &Path) -> io::Result<()> {
-    let aside = beside.with_extension("old");
-    let linked = fs::hard_link(target, &aside).is_ok();
-    if !linked {
-        fs::rename(target, &aside)?;
+/// A file is replaced in one step all the same, once it has a second name, or a copy; a folder's name is free for a
+/// moment.
+fn exchange_in_steps(
+    folder: &Folder,
+    from: &OsStr,
+    to: &OsStr,
+    is_folder: bool,
+) -> io::Result<Placed> {
+    let aside = fresh::name();
+    if is_folder {
+        folder.rename(to, &aside, Rename::Replace)?;
+        let renamed = folder.rename(from, to, Rename::Replace);
+        renamed.or_else(|error| folder.rename(&aside, to, Rename::Replace).and(Err(error)))?;
+        return Ok(Placed::Old(aside));
     }
-    if let Err(error) = fs::rename(beside, target) {
-        // Of two names of one file, neither can be changed to the other.
-        if linked { fs::remove_file(&aside) } else { fs::rename(&aside, target) }?;
-        return Err(error);
-    }
-    fs::rename(&aside, beside)
+    let linked = match folder.link(to, &aside) {
+        Err(error) if unlinked(&error) => copy(folder, to, &aside).map(|()| false)?,
+        other => other.map(|()| true)?,
+    };
+    folder
+        .rename(from, to, Rename::Replace)
+        .or_else(|error| folder.remove(&aside).and(Err(error)))?;
+    Ok(if linked { Placed::Old(aside) } else { Placed::Copy(aside) })
 }
 
-impl Drop for Placing<'_> {
-    /// Nothing more can be done about a step back that fails.
-    fn drop(&mut self) {
-        for ((beside, target), placed) in self.beside.iter().zip(&self.placed).rev() {
-            let _ = match placed {
-                Placed::New => fs::rename(&target.path, beside),
-                Placed::EmptyFolder => {
-                    fs::rename(&target.path, beside).and_then(|()| fs::create_dir(&target.path))
-                }
-                Placed::Exchanged => exchange(beside, &target.path),
-            };
-        }
-        for (beside, target) in &self.beside {
-            let _ = temporary::remove(beside, target.names);
-        }
-    }
-}
-
-#[cfg(test)]
-mod tests {
-    use super::*;
-    use std::collections::BTreeMap;
-
-    /// A new folder, taken away in the end.
-    struct Room(PathBuf);
-
-    impl Room {
-        fn new() -> Room {
-            Room(temporary::folder(&std::env::temp_dir(), None).expect("a folder"))
-        }
-
-        fn target(&self, name: &str, there: There) -> Target {
-            let names = &["tree", "marks"];
-            Target { path: self.0.join(name), folder: self.0.clone(), there, mode: None, names }
-        }
-
-        /// Every name below the room, with the bytes of a file.
-        fn held(&self) -> BTreeMap<PathBuf, Option<Vec<u8>>> {
-            let mut held = BTreeMap::new();
-            let mut folders = vec![self.0.clone()];
-            while let Some(folder) = folders.pop() {
-                for entry in fs::read_dir(folder).expect("a folder") {
-                    let path = entry.expect("an entry").path();
-                    if path.is_dir() {
-                        folders.push(path.clone());
-                    }
-                    held.insert(path.clone(), fs::read(path).ok());
-                }
-            }
-            held
-        }
-    }
-
-    impl Drop for Room {
-        fn drop(&mut self) {
-            fs::remove_dir_all(&self.0).expect("the room goes");
-        }
-    }
-
-    const FILES: &[(&str, &[u8])] = &[("tree", b"t"), ("marks", b"m")];
-
-    /// A room with an old file, an old folder and an empty one, and outputs of every kind.
-    fn outputs(room: &Room) -> Vec<(Target, Content<'static>)> {
-        fs::write(room.0.join("old"), "old").expect("a file");
-        fs::create_dir(room.0.join("folder")).expect("a folder");
-        fs::write(room.0.join("folder/tree"), "old tree").expect("a file");
-        fs::create_dir(room.0.join("empty")).expect("a folder");
-        vec![
-            (room.target("new", There::Nothing), Content::File(b"new")),
-            (room.target("old", There::Something), Content::File(b"newer")),
-            (room.target("folder", There::Something), Content::Folder(FILES)),
-            (room.target("empty", There::EmptyFolder), Content::Folder(FILES)),
-            (room.target("made", There::Nothing), Content::Folder(FILES)),
-        ]
-    }
-
-    fn put(outputs: &[(Target, Content)]) -> Result<(), Failure> {
-        let mut placing = Placing::default();
-        for (target, content) in outputs {
-            placing.write(target, *content)?;
-        }
-        placing.place_all()
-    }
-
-    #[test]
-    fn all_are_put() {
-        let room = Room::new();
-        put(&outputs(&room)).expect("all are put");
-        let held = room.held();
-        assert_eq!(held[&room.0.join("new")], Some(b"new".to_vec()));
-        assert_eq!(held[&room.0.join("old")], Some(b"newer".to_vec()));
-        for folder in ["folder", "empty", "made"] {
-            assert_eq!(held[&room.0.join(folder).join("tree")], Some(b"t".to_vec()));
-            assert_eq!(held[&room.0.join(folder).join("marks")], Some(b"m".to_vec()));
-        }
-        assert_eq!(held.len(), 5 + 3 * 2);
-    }
-
-    /// Whichever of them fails, when it is written or when it is placed, all is as it was.
-    #[test]
-    fn a_failure_at_any_step_takes_all_back() {
-        for placed in 0..=5 {
-            let room = Room::new();
-            let mut outputs = outputs(&room);
-            let taken = (room.target("folder", There::Nothing), Content::File(b"x"));
-            outputs.insert(placed, taken);
-            let before = room.held();
-            assert_eq!(put(&outputs).expect_err("a name is taken").status, NOT_MADE);
-            assert_eq!(room.held(), before);
-            outputs[placed].0.folder = room.0.join("nowhere");
-            assert_eq!(put(&outputs).expect_err("a folder is not there").status, NOT_MADE);
-            assert_eq!(room.held(), before);
-        }
-    }
-
-    /// Where names can't be exchanged in one step.
-    #[test]
-    fn names_are_exchanged_in_steps() {
-        let room = Room::new();
-        outputs(&room);
-        let (new, old, folder) = (room.0.join("new"), room.0.join("old"), room.0.join("folder"));
-        fs::write(&new, "new").expect("a file");
-        exchange_in_steps(&new, &old).expect("an exchange");
-        assert_eq!(
-            (fs::read(&new).unwrap(), fs::read(&old).unwrap()),
-            (b"old".to_vec(), b"new".to_vec())
-        );
-        exchange_in_steps(&room.0.join("empty"), &folder).expect("an exchange");
-        assert!(room.0.join("empty/tree").is_file() && folder.is_dir());
-        let before = room.held();
-        exchange_in_steps(&room.0.join("nothing"), &old).expect_err("nothing is there");
-        exchange_in_steps(&new, &room.0.join("nothing")).expect_err("nothing is there");
-        assert_eq!(room.held(), before);
-    }
+fn copy(folder: &Folder, from: &OsStr, to: &OsStr) -> io::Result<()> {
+    let mut old = folder.read(from)?;
+    let mut new = folder.create(to, 0o600)?;
+    io::copy(&mut old, &mut new)
+        .and_then(|_| new.sync_all())
+        .or_else(|error| folder.remove(to).and(Err(error)))
 }

@@ -1,109 +1,102 @@
 //! Where something may be put, and in place of what.
 
-use crate::failure::{words, Failure, NOT_MADE};
+use super::locks::Locks;
+use super::old::{Old, Rights};
+use crate::failure::{Failure, NOT_MADE};
 use crate::input::{identity, Input};
 use crate::name::shown;
-use std::collections::BTreeSet;
-use std::ffi::OsStr;
-use std::fs::{self, DirEntry, Metadata, Permissions};
-use std::io::{self, ErrorKind};
-use std::path::{Path, PathBuf};
+use cedunmi_system::Folder;
+use std::collections::{BTreeMap, BTreeSet};
+use std::ffi::{OsStr, OsString};
+use std::fs::{self, Metadata};
+use std::os::unix::ffi::OsStrExt;
+use std::path::{Component, Path, PathBuf};
+use std::rc::Rc;
 
-/// A name for an output, and what stands there now.
+/// A name for an output in a folder that is open and locked, and what stands there now.
 #[derive(Debug)]
 pub struct Target {
-    pub path: PathBuf,
-    /// The folder that the name is in.
-    pub folder: PathBuf,
-    pub there: There,
-    /// The mode of the old one, which the new one gets.
-    pub mode: Option<Permissions>,
+    /// The name as it was given.
+    pub shown: String,
+    pub folder: Rc<Folder>,
+    pub name: OsString,
+    pub old: Option<Old>,
+    /// Those that the new one gets: of the old one.
+    pub rights: Option<Rights>,
     /// The names that the files of a folder may have; of a file none.
     pub names: &'static [&'static str],
 }
 
-#[derive(Clone, Copy, Debug)]
-pub enum There {
-    Nothing,
-    EmptyFolder,
-    /// A file, a link or a folder, which is replaced.
-    Something,
-}
-
-fn refused(name: &str, why: &str) -> Failure {
+pub fn refused(name: &str, why: &str) -> Failure {
     Failure::new(NOT_MADE, format!("{name}: {why}"))
 }
 
 fn is_input(metadata: &Metadata, inputs: &[&Input]) -> bool {
-    inputs.iter().any(|input| input.identity == Some(identity(metadata)))
+    inputs.iter().any(|input| input.identity == identity(metadata))
 }
 
-/// What bears a name; a name in a folder that is not there can't be made.
-fn standing(path: &Path) -> Result<Option<Metadata>, Failure> {
-    let failed = |error: io::Error| Failure::system(&shown(path), &error, NOT_MADE);
-    match fs::symlink_metadata(path) {
-        Ok(metadata) => Ok(Some(metadata)),
-        Err(error) if error.kind() == ErrorKind::NotFound => {
-            fs::metadata(folder_of(path)).map_err(failed)?;
-            Ok(None)
-        }
-        Err(error) => Err(failed(error)),
-    }
+/// The folder that a path is in, and its name there.
+fn split(path: &Path) -> Option<(PathBuf, OsString)> {
+    let path: PathBuf = path.components().filter(|part| *part != Component::CurDir).collect();
+    let name = path.file_name()?.to_os_string();
+    let parent = path.parent().filter(|parent| !parent.as_os_str().is_empty());
+    Some((parent.unwrap_or_else(|| Path::new(".")).to_path_buf(), name))
 }
 
-/// The folder that a name is in.
-pub fn folder_of(path: &Path) -> PathBuf {
-    match path.parent() {
-        Some(parent) if !parent.as_os_str().is_empty() => parent.to_path_buf(),
-        _ => PathBuf::from("."),
-    }
+/// The folder and the name of a file.
+pub fn place(word: &OsStr) -> Result<(PathBuf, OsString), Failure> {
+    let named = !word.as_bytes().ends_with(b"/");
+    split(Path::new(word))
+        .filter(|_| named)
+        .ok_or_else(|| refused(&shown(word), "it is no name of a file"))
 }
 
-/// Standard output, which may lead to a file: not to an input.
-pub fn standard(inputs: &[&Input]) -> Result<(), Failure> {
-    match fs::metadata("/dev/stdout") {
-        Ok(metadata) if metadata.is_file() && is_input(&metadata, inputs) => {
-            Err(refused("standard output", "it is an input of this command too"))
-        }
-        _ => Ok(()),
-    }
+/// The folder and the name of a folder, which may be written as `.` or `..`.
+pub fn folder_place(word: &OsStr) -> Result<(PathBuf, OsString), Failure> {
+    let path = Path::new(word);
+    let place = match split(path) {
+        None => fs::canonicalize(path).ok().and_then(|path| split(&path)),
+        place => place,
+    };
+    place.ok_or_else(|| refused(&shown(word), "it is no name of a folder"))
 }
 
 /// Sees that no two outputs have one name.
 pub fn apart<'a>(targets: impl Iterator<Item = &'a Target>) -> Result<(), Failure> {
     let mut names = BTreeSet::new();
     for target in targets {
-        let folder = fs::canonicalize(&target.folder).unwrap_or_else(|_| target.folder.clone());
-        if !names.insert(folder.join(target.path.file_name().unwrap_or_default())) {
-            return Err(refused(&shown(&target.path), "two outputs have this name"));
+        let folder = target
+            .folder
+            .metadata()
+            .map_err(|error| Failure::system(&target.shown, &error, NOT_MADE))?;
+        if !names.insert((identity(&folder), &target.name)) {
+            return Err(refused(&target.shown, "two outputs have this name"));
         }
     }
     Ok(())
 }
 
 impl Target {
-    fn new(path: &Path, there: There, mode: Option<Permissions>) -> Target {
-        Target { path: path.to_path_buf(), folder: folder_of(path), there, mode, names: &[] }
-    }
-
-    /// A name for a file.
-    pub fn file(word: &OsStr, force: bool, inputs: &[&Input]) -> Result<Target, Failure> {
-        let (path, name) = (Path::new(word), shown(word));
-        let here = match standing(path)? {
-            None => return Ok(Target::new(path, There::Nothing, None)),
-            Some(metadata) => metadata,
+    /// A name for a file, in a folder of these.
+    pub fn file(
+        word: &OsStr,
+        force: bool,
+        inputs: &[&Input],
+        locks: &Locks,
+    ) -> Result<Target, Failure> {
+        let (target, here) = Target::at(word, place(word)?, locks)?;
+        let old = match here {
+            None => None,
+            Some(metadata) => {
+                let why = never_replaced(&metadata, inputs)
+                    .or_else(|| (!force).then_some("a file is there already; --force replaces it"));
+                if let Some(why) = why {
+                    return Err(refused(&target.shown, why));
+                }
+                Some(Old::file(&metadata))
+            }
         };
-        let link = here.file_type().is_symlink();
-        let led_to = fs::metadata(path).ok();
-        if let Some(why) = led_to.as_ref().and_then(|metadata| never_replaced(metadata, inputs)) {
-            return Err(refused(&name, why));
-        }
-        if !force {
-            let what = if link { "a link" } else { "a file" };
-            return Err(refused(&name, &format!("{what} is there already; --force replaces it")));
-        }
-        let mode = led_to.filter(|_| !link).map(|metadata| metadata.permissions());
-        Ok(Target::new(path, There::Something, mode))
+        Ok(Target { rights: old.as_ref().map(|old| old.rights), old, ..target })
     }
 
     /// A name for a folder with files of these names: one that is there is replaced if it has no others.
@@ -112,52 +105,92 @@ impl Target {
         names: &'static [&'static str],
         force: bool,
         inputs: &[&Input],
+        locks: &Locks,
     ) -> Result<Target, Failure> {
-        let path = Path::new(word);
-        let target = match standing(path)? {
-            None => Target::new(path, There::Nothing, None),
-            Some(metadata) => Target::old_folder(path, &metadata, force)?,
+        let (target, here) = Target::at(word, folder_place(word)?, locks)?;
+        let old = match here {
+            None => None,
+            Some(metadata) => Some(target.old_folder(&metadata, names, force, inputs, locks)?),
         };
-        if let There::Something = target.there {
-            for entry in entries(&target.path)? {
-                held(&entry, names, inputs).map_err(|why| refused(&shown(word), &why))?;
+        Ok(Target { rights: old.as_ref().map(|old| old.rights), old, names, ..target })
+    }
+
+    /// A name in a folder, and what bears it.
+    fn at(
+        word: &OsStr,
+        place: (PathBuf, OsString),
+        locks: &Locks,
+    ) -> Result<(Target, Option<Metadata>), Failure> {
+        let (shown, (parent, name)) = (shown(word), place);
+        let folder =
+            locks.folder(&parent).ok_or_else(|| refused(&shown, "its folder is not locked"))?;
+        let here = folder.look(&name).map_err(|error| Failure::system(&shown, &error, NOT_MADE))?;
+        Ok((Target { shown, folder, name, old: None, rights: None, names: &[] }, here))
+    }
+
+    /// A folder that is there, if it may be replaced.
+    fn old_folder(
+        &self,
+        here: &Metadata,
+        names: &'static [&'static str],
+        force: bool,
+        inputs: &[&Input],
+        locks: &Locks,
+    ) -> Result<Old, Failure> {
+        let refused = |why: &str| refused(&self.shown, why);
+        if !here.is_dir() {
+            return Err(refused("it is there, and is no folder"));
+        }
+        // Where even this can't be looked at, it is another folder.
+        if fs::metadata(".").map_or(false, |started| identity(&started) == identity(here)) {
+            return Err(refused("it is the folder that this command was started in"));
+        }
+        let itself = locks.folder(&self.folder.path().join(&self.name));
+        let folder = itself.ok_or_else(|| refused("it was not there a moment ago"))?;
+        let files = self.old_files(&folder, names, inputs)?;
+        if !files.is_empty() && !force {
+            return Err(refused("a folder is there already, with files; --force replaces one that this command made"));
+        }
+        Ok(Old { folder: Some((folder, files)), ..Old::file(here) })
+    }
+
+    /// The files of a folder that may be replaced, with their rights: of these names, and no inputs.
+    fn old_files(
+        &self,
+        folder: &Folder,
+        names: &'static [&'static str],
+        inputs: &[&Input],
+    ) -> Result<BTreeMap<&'static str, Rights>, Failure> {
+        let failed = |error| Failure::system(&self.shown, &error, NOT_MADE);
+        let mut files = BTreeMap::new();
+        for held in folder.names().map_err(failed)? {
+            let metadata = folder.look(&held).map_err(failed)?;
+            let known = names.iter().find(|name| held == **name);
+            match (metadata, known) {
+                (Some(metadata), _) if is_input(&metadata, inputs) => {
+                    let why = format!("its file {} is an input of this command too", shown(held));
+                    return Err(refused(&self.shown, &why));
+                }
+                (Some(metadata), Some(name)) if metadata.is_file() => {
+                    files.insert(*name, Rights::of(&metadata));
+                }
+                _ => {
+                    let why =
+                        format!("it holds {}, which this command does not write", shown(held));
+                    return Err(refused(&self.shown, &why));
+                }
             }
         }
-        Ok(Target { names, ..target })
-    }
-
-    /// A folder that is there, as far as its files don't matter.
-    fn old_folder(path: &Path, here: &Metadata, force: bool) -> Result<Target, Failure> {
-        let name = shown(path);
-        if !here.is_dir() {
-            return Err(refused(&name, "it is there, and is no folder"));
-        }
-        let failed = |error| Failure::system(&name, &error, NOT_MADE);
-        if identity(here) == identity(&fs::metadata(".").map_err(failed)?) {
-            return Err(refused(&name, "it is the folder that this command was started in"));
-        }
-        let empty = entries(path)?.is_empty();
-        if !empty && !force {
-            let why = "a folder is there already, with files; --force replaces one that this command made";
-            return Err(refused(&name, why));
-        }
-        // A name that ends with `..` has its place by its full path alone.
-        let path = fs::canonicalize(path).map_err(failed)?;
-        let there = if empty { There::EmptyFolder } else { There::Something };
-        Ok(Target::new(&path, there, Some(here.permissions())))
+        Ok(files)
     }
 }
 
-/// What a folder holds.
-fn entries(folder: &Path) -> Result<Vec<DirEntry>, Failure> {
-    let entries = fs::read_dir(folder).and_then(|entries| entries.collect());
-    entries.map_err(|error| Failure::system(&shown(folder), &error, NOT_MADE))
-}
-
-/// Why this is not replaced, whatever the options are.
+/// Why this is not replaced by a file, whatever the options are.
 fn never_replaced(metadata: &Metadata, inputs: &[&Input]) -> Option<&'static str> {
     if is_input(metadata, inputs) {
         Some("it is an input of this command too")
+    } else if metadata.file_type().is_symlink() {
+        Some("a link is there, which is neither followed nor replaced; give the name that it leads to")
     } else if metadata.is_dir() {
         Some("a folder is there")
     } else if !metadata.is_file() {
@@ -165,17 +198,4 @@ fn never_replaced(metadata: &Metadata, inputs: &[&Input]) -> Option<&'static str
     } else {
         None
     }
-}
-
-/// Whether a folder may be replaced in spite of an entry: a file of one of these names, and no input.
-fn held(entry: &DirEntry, names: &[&str], inputs: &[&Input]) -> Result<(), String> {
-    let shown = shown(entry.file_name());
-    let metadata = entry.metadata().map_err(|error| format!("{shown}: {}", words(&error)))?;
-    if is_input(&metadata, inputs) {
-        return Err(format!("its file {shown} is an input of this command too"));
-    }
-    if !metadata.is_file() || !names.iter().any(|name| entry.file_name() == *name) {
-        return Err(format!("it holds {shown}, which this command does not write"));
-    }
-    Ok(())
 }
