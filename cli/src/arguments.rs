@@ -80,9 +80,10 @@ impl Arguments {
         let words: Vec<&OsStr> = self.words.iter().map(OsString::as_os_str).collect();
         <[&OsStr; N]>::try_from(words).map_err(|words| {
             let (command, lines) = (self.command, help::of(self.command));
+            let plural = if N == 1 { "" } else { "s" };
+            let given = words.len();
             Failure::usage(format!(
-                "{command} takes {N} arguments, not {}:\n{}",
-                words.len(),
+                "{command} takes {N} argument{plural}, not {given}:\n{}",
                 lines.trim_end()
             ))
         })

@@ -23,8 +23,8 @@ const TO_DO: &[(u8, &str)] = &[
     (SLIP, "compare the lines that are named with the print, digit by digit"),
     (UNREADABLE, "look at its name and its rights"),
     (UNKNOWN, "program and library are of two versions: build both again"),
-    (NOT_MADE, "give another name, or --force to replace what is there"),
-    (NOT_WRITTEN, "make room on the disk; every file is as it was"),
+    (NOT_MADE, "the line with it says why: give another name, make its folder, or use --force to replace what is there"),
+    (NOT_WRITTEN, "make room on the disk, and look at it; every file is as it was, unless the lines with it say otherwise"),
 ];
 
 /// What a status means.
@@ -38,7 +38,7 @@ fn meaning(status: u8) -> &'static str {
         UNREADABLE => "an input can't be read",
         UNKNOWN => "the library answered what this program does not know",
         NOT_MADE => "an output can't be made, is there already, or is an input",
-        NOT_WRITTEN => "an output could not be written whole",
+        NOT_WRITTEN => "an output, or what is printed, could not be written whole",
         number => explain(number.into()),
     }
 }

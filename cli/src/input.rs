@@ -78,18 +78,57 @@ impl Input {
         let wanted = self.kind.wanted(depth, len)?;
         let more =
             if self.whole.is_none() && len > self.kind.most() as u64 { " or more" } else { "" };
-        Some(format!("{} has {len} bytes{more}; {wanted}", self.name))
+        let print = if self.kind == Kind::Root && self.bytes.starts_with(b"#") {
+            ": cedunmi typed makes one of a print"
+        } else {
+            ""
+        };
+        Some(format!("{} has {len} bytes{more}; {wanted}{print}", self.name))
+    }
+
+    /// Of a table that is one of another depth, which.
+    fn other_depth(&self) -> Option<String> {
+        let is_table = |depth: &u64| {
+            self.kind == Kind::Table && cedunmi::check_table(*depth, &self.bytes).is_ok()
+        };
+        let depth = (1..=Depth::MAX.layers() as u64).find(is_table)?;
+        Some(format!("{} is a table of depth {depth}", self.name))
+    }
+
+    /// Of marks that were typed, what they should be.
+    fn characters(&self) -> Option<String> {
+        let typed =
+            self.kind == Kind::Marks && self.bytes.iter().all(|byte| b"01\n".contains(byte));
+        typed.then(|| {
+            format!("{} has the characters 0 and 1: marks are the bytes 0 and 1", self.name)
+        })
     }
 }
 
-/// A call on these files that stopped; of a wrong length, which of them have one.
+/// A call on these files that stopped, with what may have been meant.
 pub fn stopped(stop: Stop, depth: u64, inputs: &[&Input]) -> Failure {
-    let failure = Failure::stopped(stop);
-    match (stop, Depth::new(depth)) {
-        (Stop::WrongLength, Some(depth)) => {
-            inputs.iter().filter_map(|input| input.wrong_length(depth)).fold(failure, Failure::and)
+    let lines = match stop {
+        Stop::WrongLength => {
+            Depth::new(depth).map_or(Vec::new(), |depth| wrong_lengths(depth, inputs))
         }
-        _ => failure,
+        Stop::WrongTable { .. } => inputs.iter().filter_map(|input| input.other_depth()).collect(),
+        Stop::WrongMark { .. } => inputs.iter().filter_map(|input| input.characters()).collect(),
+        _ => Vec::new(),
+    };
+    lines.into_iter().fold(Failure::stopped(stop), Failure::and)
+}
+
+/// Which of the files have a wrong length; a fault proof, whose length its head demands, if no other has.
+fn wrong_lengths(depth: Depth, inputs: &[&Input]) -> Vec<String> {
+    let of = |proof: bool| {
+        let kind = inputs.iter().filter(move |input| (input.kind == Kind::Proof) == proof);
+        kind.filter_map(|input| input.wrong_length(depth)).collect::<Vec<_>>()
+    };
+    let others = of(false);
+    if others.is_empty() {
+        of(true)
+    } else {
+        others
     }
 }
 

@@ -68,12 +68,33 @@ struct Line<'a> {
     words: Vec<&'a str>,
 }
 
-fn lines(text: &str) -> impl Iterator<Item = Line<'_>> {
-    let lines = text.lines().enumerate().map(|(at, line)| {
-        let read = line.split('#').next().unwrap_or("");
-        Line { at: at + 1, words: read.split_whitespace().collect() }
-    });
-    lines.filter(|line| !line.words.is_empty())
+/// The lines of a text, whose ends are LF, CR LF or CR.
+fn lines(text: &str) -> Vec<Line<'_>> {
+    let mut lines = Vec::new();
+    for (at, line) in text
+        .split('\n')
+        .flat_map(|line| line.strip_suffix('\r').unwrap_or(line).split('\r'))
+        .enumerate()
+    {
+        let words: Vec<&str> = line.split('#').next().unwrap_or("").split_whitespace().collect();
+        if !words.is_empty() {
+            lines.push(Line { at: at + 1, words });
+        }
+    }
+    lines
+}
+
+impl Line<'_> {
+    /// Whether it has the check of all.
+    fn is_check(&self) -> bool {
+        self.words[0].trim_end_matches(':') == "check"
+    }
+
+    /// The number before the hash, where it is a word of its own.
+    fn number(&self) -> Option<usize> {
+        let first = self.words[0].trim_end_matches([':', '.']);
+        first.parse().ok().filter(|_| first.len() <= 2 && self.words.len() > 1)
+    }
 }
 
 /// What stands beside the hashes of a text, which is the same in all its lines: else a digit too few or too many could
@@ -116,9 +137,12 @@ impl Form {
 /// The root that a text writes, in the form by which it has the fewest slips. A mark of byte order before it, which
 /// some editors write, says nothing.
 pub fn parse(text: &[u8]) -> Result<Typed, Slips> {
+    if text.contains(&0) {
+        return Err(Slips::Lines(vec!["this is no plain text: it has zero bytes".to_string()]));
+    }
     let text = String::from_utf8_lossy(text).to_lowercase();
     let lines = lines(text.trim_start_matches('\u{feff}'));
-    let (of_all, hashes): (Vec<Line>, Vec<Line>) = lines.partition(|line| line.words[0] == "check");
+    let (of_all, hashes): (Vec<Line>, Vec<Line>) = lines.into_iter().partition(Line::is_check);
     let mut best: Option<(Form, Vec<u8>, Vec<String>)> = None;
     for form in Form::all() {
         let (root, slips) = read(&hashes, form)?;
@@ -139,8 +163,13 @@ pub fn parse(text: &[u8]) -> Result<Typed, Slips> {
 
 /// The hashes of lines in a form, and their slips.
 fn read(lines: &[Line], form: Form) -> Result<(Vec<u8>, Vec<String>), Stop> {
-    let (mut root, mut slips) = (Vec::new(), Vec::new());
-    for (number, line) in lines.iter().enumerate() {
+    let (mut root, mut slips, mut number) = (Vec::new(), Vec::new(), 0);
+    for (at, line) in lines.iter().enumerate() {
+        let wanted = number;
+        number = counted(lines, at, wanted, form);
+        if number != wanted {
+            slips.push(format!("line {}: hash {wanted} is wanted, not {number}", line.at));
+        }
         match hash(line, number, form) {
             Ok((bytes, typed)) if form.checked && typed != check(number, &bytes)? => {
                 slips.push(format!(
@@ -151,11 +180,19 @@ fn read(lines: &[Line], form: Form) -> Result<(Vec<u8>, Vec<String>), Stop> {
             Ok((bytes, _)) => root.extend(bytes),
             Err(why) => slips.push(format!("line {}: {why}", line.at)),
         }
+        number += 1;
     }
     if lines.len() != HASHES {
         slips.push(format!("a root has {HASHES} hashes, not {}", lines.len()));
     }
     Ok((root, slips))
+}
+
+/// The number of a line: after one that is missing, or there twice, the others go on by the numbers that they have.
+fn counted(lines: &[Line], at: usize, wanted: usize, form: Form) -> usize {
+    let follows = |number| lines.get(at + 1).and_then(Line::number) == Some(number + 1);
+    let typed = lines[at].number().filter(|number| form.number != Number::None && follows(*number));
+    typed.unwrap_or(wanted)
 }
 
 /// What is wrong with a check of all, as it was typed.
@@ -190,9 +227,7 @@ fn hash(line: &Line, number: usize, form: Form) -> Result<(Vec<u8>, String), Str
 
 /// What to say of a line with too few or too many digits, or with another number before it.
 fn miscounted(line: &Line, number: usize, form: Form) -> String {
-    let first = line.words[0].trim_end_matches([':', '.']);
-    let before =
-        first.parse::<usize>().ok().filter(|_| form.number != Number::None && first.len() <= 2);
+    let before = line.number().filter(|_| form.number != Number::None);
     let after = &line.words[usize::from(before.is_some())..];
     let count = after.concat().replace([':', '.'], "").len();
     let with = if form.checked { " with its check" } else { "" };
@@ -323,6 +358,16 @@ mod tests {
         let last = format!("{text}check 01234567\ncheck 0\n");
         assert!(slips(&last)[0].starts_with("line 21: the check of these hashes is"));
         assert_eq!(slips(&last)[1], "line 22: the check of all has 8 digits, not 1");
+        let mut doubled = lines.clone();
+        doubled.insert(9, lines[8]);
+        let found = slips(&doubled.join("\r"));
+        assert_eq!(found, ["line 10: hash 6 is wanted, not 5", "a root has 16 hashes, not 17"]);
+        doubled.remove(9);
+        doubled.remove(8);
+        let found = slips(&doubled.join("\n"));
+        assert_eq!(found, ["line 9: hash 5 is wanted, not 6", "a root has 16 hashes, not 15"]);
+        assert_eq!(slips("7\x007"), ["this is no plain text: it has zero bytes"]);
+        assert_eq!(parse(text.replace("check  ", "Check: ").as_bytes()).unwrap().root, root());
         let filled = text.replace("\n ", "\n0").replace("\n0 ", "\n00");
         assert_eq!(parse(format!("\u{feff}{filled}").as_bytes()).unwrap().root, root());
     }
