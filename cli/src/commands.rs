@@ -7,6 +7,7 @@ mod check_table;
 mod code;
 mod explain;
 mod help;
+mod in_place;
 mod read;
 mod repair;
 mod root;
@@ -32,7 +33,7 @@ pub fn run(arguments: &Arguments) -> Done {
         "sample" => sample::run(arguments),
         "check-sample" => check_sample::run(arguments),
         "check" => check::run(arguments),
-        "repair" if arguments.options.in_place => repair::in_place(arguments),
+        "repair" if arguments.options.in_place => in_place::run(arguments),
         "repair" => repair::run(arguments),
         "check-proof" => check_proof::run(arguments),
         "read" if arguments.options.unverified => read::unverified(arguments),

@@ -5,6 +5,7 @@
 
 mod answer;
 mod arguments;
+mod attempt;
 mod commands;
 mod explain;
 mod failure;

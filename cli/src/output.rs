@@ -3,6 +3,7 @@
 
 mod fresh;
 mod locks;
+mod naming;
 mod old;
 mod placing;
 mod target;

@@ -137,8 +137,10 @@ impl Form {
 /// The root that a text writes, in the form by which it has the fewest slips. A mark of byte order before it, which
 /// some editors write, says nothing.
 pub fn parse(text: &[u8]) -> Result<Typed, Slips> {
-    if text.contains(&0) {
-        return Err(Slips::Lines(vec!["this is no plain text: it has zero bytes".to_string()]));
+    if 4 * text.iter().filter(|byte| **byte == 0).count() > text.len() {
+        return Err(Slips::Lines(vec![
+            "this is no plain text: many of its bytes are zero".to_string()
+        ]));
     }
     let text = String::from_utf8_lossy(text).to_lowercase();
     let lines = lines(text.trim_start_matches('\u{feff}'));
@@ -366,7 +368,7 @@ mod tests {
         doubled.remove(8);
         let found = slips(&doubled.join("\n"));
         assert_eq!(found, ["line 9: hash 5 is wanted, not 6", "a root has 16 hashes, not 15"]);
-        assert_eq!(slips("7\x007"), ["this is no plain text: it has zero bytes"]);
+        assert_eq!(slips("7\x007"), ["this is no plain text: many of its bytes are zero"]);
         assert_eq!(parse(text.replace("check  ", "Check: ").as_bytes()).unwrap().root, root());
         let filled = text.replace("\n ", "\n0").replace("\n0 ", "\n00");
         assert_eq!(parse(format!("\u{feff}{filled}").as_bytes()).unwrap().root, root());

@@ -1,9 +1,9 @@
 //! `check DEPTH ROOT TABLE TREE MARKS`
 
-use super::repair::Attempt;
 use super::Done;
 use crate::answer::{self, Shown};
 use crate::arguments::Arguments;
+use crate::attempt::Attempt;
 use crate::input::Reader;
 use crate::said;
 

@@ -1,9 +1,9 @@
 //! `read DEPTH ROOT TABLE TREE MARKS VOLUME`, and `read --unverified DEPTH TREE MARKS VOLUME`
 
-use super::repair::{After, Attempt};
 use super::Done;
 use crate::answer;
 use crate::arguments::{decimal, Arguments};
+use crate::attempt::{After, Attempt};
 use crate::failure::Failure;
 use crate::input::{stopped_at, Reader};
 use crate::kind::Kind;

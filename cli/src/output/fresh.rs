@@ -27,14 +27,14 @@ fn make<T>(with: impl Fn(&OsStr) -> io::Result<T>) -> io::Result<(OsString, T)> 
     Err(ErrorKind::AlreadyExists.into())
 }
 
-/// A new file, which gets these rights in the end.
+/// A new file. Where it gets rights in the end, nobody else has any until then.
 pub fn file(folder: &Folder, rights: Option<Rights>) -> io::Result<(OsString, File)> {
-    make(|name| folder.create(name, Rights::of_new(rights, 0o666)))
+    make(|name| folder.create(name, rights.map_or(0o666, |_| 0o600)))
 }
 
-/// A new folder, to be entered.
+/// A new folder, alike, to be entered.
 pub fn folder(folder: &Folder, rights: Option<Rights>) -> io::Result<OsString> {
-    make(|name| folder.make(name, Rights::of_new(rights, 0o777))).map(|(name, ())| name)
+    make(|name| folder.make(name, rights.map_or(0o777, |_| 0o700))).map(|(name, ())| name)
 }
 
 /// Writes a file, so that it is on the disk.
@@ -53,7 +53,7 @@ pub fn fill_folder(folder: &Folder, files: &[(&str, &[u8])], old: Option<&Old>) 
     }
     for (name, bytes) in files {
         let rights = old.and_then(|old| old.rights_of(name));
-        let file = folder.create(OsStr::new(name), Rights::of_new(rights, 0o666))?;
+        let file = folder.create(OsStr::new(name), rights.map_or(0o666, |_| 0o600))?;
         fill(file, bytes, rights)?;
     }
     if let Some(old) = old {

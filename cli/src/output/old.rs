@@ -1,7 +1,7 @@
 //! What stands where an output is to be put.
 
 use crate::input::identity;
-use cedunmi_system::{may_own, Folder};
+use cedunmi_system::{give, Folder};
 use std::collections::BTreeMap;
 use std::ffi::OsStr;
 use std::fs::{File, Metadata, Permissions};
@@ -23,15 +23,10 @@ impl Rights {
         Rights { owner: metadata.uid(), group: metadata.gid(), mode: metadata.mode() & 0o777 }
     }
 
-    /// The mode to create a file with: nobody may read it who may not read the old one.
-    pub fn of_new(rights: Option<Rights>, most: u32) -> u32 {
-        rights.map_or(most, |rights| rights.mode & 0o700 & most)
-    }
-
     /// Gives the new one the rights of the old one; where it can't have its group, the group has none.
     pub fn give(self, file: &File) -> io::Result<()> {
-        let kept = may_own(file, self.owner, self.group) || file.metadata()?.gid() == self.group;
-        let mode = if kept { self.mode } else { self.mode & !0o070 };
+        let grouped = give(file, self.owner, self.group);
+        let mode = if grouped { self.mode } else { self.mode & !0o070 };
         file.set_permissions(Permissions::from_mode(mode))
     }
 }
@@ -62,13 +57,10 @@ impl Old {
         if there.map(|metadata| identity(&metadata)) != Some(self.identity) {
             return Ok(false);
         }
-        match &self.folder {
-            None => Ok(true),
-            Some(_) => Ok(folder
-                .enter(name)?
-                .names()?
-                .iter()
-                .all(|held| names.iter().any(|known| held == known))),
+        if self.folder.is_none() {
+            return Ok(true);
         }
+        let held = folder.enter(name)?.names()?;
+        Ok(held.iter().all(|held| names.iter().any(|known| held == known)))
     }
 }

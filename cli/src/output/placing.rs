@@ -1,5 +1,6 @@
 //! Several outputs put in their places, so that a failure at any step leaves all as it was.
 
+use super::naming::{exchange, place_new, Placed};
 use super::target::{refused, Target};
 use super::{fresh, Content};
 use crate::failure::{words, Failure, NOT_MADE, NOT_WRITTEN};
@@ -7,8 +8,8 @@ use crate::input::identity;
 use crate::name::shown;
 use crate::said;
 use cedunmi_system::{Folder, Rename};
-use std::collections::BTreeMap;
-use std::ffi::{OsStr, OsString};
+use std::collections::BTreeSet;
+use std::ffi::OsString;
 use std::io::{self, ErrorKind};
 
 /// What is written beside its place, and what is in its place already. Dropped, all is taken back.
@@ -32,15 +33,6 @@ enum Made {
     Folder(Option<Folder>),
 }
 
-enum Placed {
-    /// The name was free.
-    New,
-    /// What was there bears this name now.
-    Old(OsString),
-    /// A copy of it does, on a file system that has neither exchanges nor second names.
-    Copy(OsString),
-}
-
 impl<'a> Placing<'a> {
     /// Writes an output beside its place.
     pub fn write(&mut self, target: &'a Target, content: Content) -> Result<(), Failure> {
@@ -55,19 +47,11 @@ impl<'a> Placing<'a> {
             }
             Content::Folder(files) => {
                 let name = fresh::folder(&target.folder, rights).map_err(not_made)?;
-                let entered = target.folder.enter(&name);
-                let filled = match &entered {
-                    Ok(folder) => fresh::fill_folder(folder, files, target.old.as_ref()),
-                    Err(_) => Ok(()),
-                };
-                let (made, failed) = match entered {
-                    Ok(folder) => (Made::Folder(Some(folder)), None),
-                    Err(error) => (Made::Folder(None), Some(error)),
-                };
-                self.beside.push(Beside { target, name, made });
-                if let Some(error) = failed {
-                    return Err(not_made(error));
-                }
+                self.beside.push(Beside { target, name, made: Made::Folder(None) });
+                let beside = self.beside.last_mut().expect("it was pushed");
+                let folder = target.folder.enter(&beside.name).map_err(not_made)?;
+                let filled = fresh::fill_folder(&folder, files, target.old.as_ref());
+                beside.made = Made::Folder(Some(folder));
                 filled
             }
         };
@@ -91,11 +75,11 @@ impl<'a> Placing<'a> {
 
     /// Puts the names on the disk, each folder's once.
     fn sync(&self) -> Result<(), Failure> {
-        let mut folders = BTreeMap::new();
+        let mut folders = BTreeSet::new();
         for Beside { target, .. } in &self.beside {
             let failed = |error| Failure::system(&target.shown, &error, NOT_WRITTEN);
             let metadata = target.folder.metadata().map_err(failed)?;
-            if folders.insert(identity(&metadata), ()).is_none() {
+            if folders.insert(identity(&metadata)) {
                 target.folder.sync().map_err(failed)?;
             }
         }
@@ -213,77 +197,4 @@ fn tell(done: io::Result<()>, what: impl FnOnce() -> String) {
         }
         _ => {}
     }
-}
-
-/// Whether the file system doesn't know how to change names so.
-fn unknown(error: &io::Error) -> bool {
-    const EINVAL: i32 = 22;
-    const ENOSYS: i32 = 38;
-    const EOPNOTSUPP: i32 = 95;
-    matches!(error.raw_os_error(), Some(EINVAL | ENOSYS | EOPNOTSUPP))
-}
-
-/// Whether it has no second names.
-fn unlinked(error: &io::Error) -> bool {
-    const EPERM: i32 = 1;
-    unknown(error) || error.raw_os_error() == Some(EPERM)
-}
-
-/// Gives something a name that must be free. Without a step for that a folder replaces no more than an empty one, and
-/// a file gets a second name first.
-fn place_new(folder: &Folder, from: &OsStr, to: &OsStr, is_folder: bool) -> io::Result<()> {
-    match folder.rename(from, to, Rename::New) {
-        Err(error) if !unknown(&error) => return Err(error),
-        Err(_) if is_folder => return folder.rename(from, to, Rename::Replace),
-        Err(_) => {}
-        Ok(()) => return Ok(()),
-    }
-    match folder.link(from, to) {
-        Err(error) if unlinked(&error) => match folder.look(to)? {
-            Some(_) => Err(ErrorKind::AlreadyExists.into()),
-            None => folder.rename(from, to, Rename::Replace),
-        },
-        other => other.and_then(|()| folder.remove(from)),
-    }
-}
-
-/// Gives something the name of what is there.
-fn exchange(folder: &Folder, from: &OsStr, to: &OsStr, is_folder: bool) -> io::Result<Placed> {
-    match folder.rename(from, to, Rename::Exchange) {
-        Err(error) if unknown(&error) => exchange_in_steps(folder, from, to, is_folder),
-        other => other.map(|()| Placed::Old(from.to_os_string())),
-    }
-}
-
-/// A file is replaced in one step all the same, once it has a second name, or a copy; a folder's name is free for a
-/// moment.
-fn exchange_in_steps(
-    folder: &Folder,
-    from: &OsStr,
-    to: &OsStr,
-    is_folder: bool,
-) -> io::Result<Placed> {
-    let aside = fresh::name();
-    if is_folder {
-        folder.rename(to, &aside, Rename::Replace)?;
-        let renamed = folder.rename(from, to, Rename::Replace);
-        renamed.or_else(|error| folder.rename(&aside, to, Rename::Replace).and(Err(error)))?;
-        return Ok(Placed::Old(aside));
-    }
-    let linked = match folder.link(to, &aside) {
-        Err(error) if unlinked(&error) => copy(folder, to, &aside).map(|()| false)?,
-        other => other.map(|()| true)?,
-    };
-    folder
-        .rename(from, to, Rename::Replace)
-        .or_else(|error| folder.remove(&aside).and(Err(error)))?;
-    Ok(if linked { Placed::Old(aside) } else { Placed::Copy(aside) })
-}
-
-fn copy(folder: &Folder, from: &OsStr, to: &OsStr) -> io::Result<()> {
-    let mut old = folder.read(from)?;
-    let mut new = folder.create(to, 0o600)?;
-    io::copy(&mut old, &mut new)
-        .and_then(|_| new.sync_all())
-        .or_else(|error| folder.remove(to).and(Err(error)))
 }

@@ -204,12 +204,12 @@ impl Folder {
     }
 }
 
-/// Gives a file to an owner and a group, as far as the system lets us: whether both are so now.
-pub fn may_own(file: &File, owner: u32, group: u32) -> bool {
+/// Gives a file to an owner and a group, or to the group alone, as the system lets us: whether it has the group.
+pub fn give(file: &File, owner: u32, group: u32) -> bool {
     const AS_IT_IS: c_uint = c_uint::MAX;
     let own = |owner| {
         // SAFETY: the file is open.
-        unsafe { fchown(file.as_raw_fd(), owner, group) == 0 }
+        done(|| unsafe { fchown(file.as_raw_fd(), owner, group) }).is_ok()
     };
     own(owner) || own(AS_IT_IS)
 }

@@ -6,6 +6,6 @@ mod folder;
 mod signals;
 mod streams;
 
-pub use folder::{may_own, Folder, Rename};
+pub use folder::{give, Folder, Rename};
 pub use signals::{ignore_size_limit, Held};
 pub use streams::{input, output, terminal};

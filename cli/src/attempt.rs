@@ -1,0 +1,103 @@
+//! A repair, attempted on a copy in memory: what `repair`, `check` and `read` begin with.
+
+use crate::answer::{self, Shown};
+use crate::arguments::decimal;
+use crate::failure::Failure;
+use crate::input::{stopped, Input, Reader};
+use crate::kind::Kind;
+use crate::report::{lacked, Pages};
+use crate::said;
+use cedunmi::{Depth, End, Repaired, Stop};
+use std::ffi::OsStr;
+
+/// The names of what a repair shows, in a folder.
+pub const PROOF: &str = "proof";
+pub const TWINS: &str = "twins";
+
+/// What a repair is attempted on.
+pub struct Attempt {
+    pub depth: u64,
+    pub root: Input,
+    pub table: Input,
+    pub tree: Input,
+    pub marks: Input,
+}
+
+/// What came of it.
+pub struct After<'a> {
+    pub attempt: &'a Attempt,
+    depth: Depth,
+    pub tree: Vec<u8>,
+    pub marks: Vec<u8>,
+    pub repaired: Repaired,
+}
+
+impl Attempt {
+    pub fn read(reader: &mut Reader, words: [&OsStr; 5]) -> Result<Attempt, Failure> {
+        let [depth, root, table, tree, marks] = words;
+        Ok(Attempt {
+            depth: decimal("DEPTH", depth)?,
+            root: reader.read(root, Kind::Root)?,
+            table: reader.read(table, Kind::Table)?,
+            tree: reader.read(tree, Kind::Tree)?,
+            marks: reader.read(marks, Kind::Marks)?,
+        })
+    }
+
+    pub fn inputs(&self) -> [&Input; 4] {
+        [&self.root, &self.table, &self.tree, &self.marks]
+    }
+
+    /// Repairs a copy.
+    pub fn repair(&self) -> Result<After<'_>, Failure> {
+        let stop = |stop| stopped(stop, self.depth, &self.inputs());
+        let (mut tree, mut marks) = (self.tree.bytes.clone(), self.marks.bytes.clone());
+        let (root, table) = (&self.root.bytes, &self.table.bytes);
+        let repaired =
+            cedunmi::repair(self.depth, root, table, &mut tree, &mut marks).map_err(stop)?;
+        let depth = Depth::new(self.depth).ok_or(Stop::WrongDepth).map_err(stop)?;
+        Ok(After { attempt: self, depth, tree, marks, repaired })
+    }
+}
+
+impl After<'_> {
+    pub fn before(&self) -> Pages<'_> {
+        Pages { tree: &self.attempt.tree.bytes, marks: &self.attempt.marks.bytes }
+    }
+
+    pub fn now(&self) -> Pages<'_> {
+        Pages { tree: &self.tree, marks: &self.marks }
+    }
+
+    pub fn report(&self, shown: &Shown) -> String {
+        answer::report(self.depth, &self.repaired, self.before(), self.now(), shown)
+    }
+
+    /// The end in one line.
+    pub fn ended(&self) -> String {
+        answer::ended(self.depth, &self.repaired.end, self.before(), self.now(), &Shown::Nowhere)
+    }
+
+    /// How many pages were absent, and how many bad.
+    pub fn lacked(&self) -> (usize, usize) {
+        lacked(self.depth, self.before(), self.now())
+    }
+
+    /// What a repair shows beside the tree: the name that it has in a folder, and its bytes.
+    pub fn shown(&self) -> Option<(&'static str, &[u8])> {
+        match &self.repaired.end {
+            End::Fault { proof } => Some((PROOF, proof)),
+            End::Twins { symbols } => Some((TWINS, symbols)),
+            _ => None,
+        }
+    }
+
+    /// Tells what was done, with what was shown in the file of this name.
+    pub fn tell(&self, quiet: bool, name: &str) -> Result<u8, Failure> {
+        if !quiet {
+            let told = said::report(&self.report(&Shown::In(name)));
+            told.map_err(|failure| failure.and("the files are in their places"))?;
+        }
+        Ok(answer::status(&self.repaired.end))
+    }
+}
