@@ -30,11 +30,12 @@ def alone():
 
 
 class Disk:
-    """A small disk in memory, on a folder."""
+    """A small disk in memory, on a folder, which may be there already."""
 
     def __init__(self, folder):
         self.folder = os.fsencode(os.path.abspath(folder))
-        os.makedirs(folder)
+        self.made = not os.path.isdir(folder)
+        os.makedirs(folder, exist_ok=True)
         checked(libc.mount(b"tmpfs", self.folder, b"tmpfs", 0, b"size=1m,mode=777"), "mount")
 
     def __enter__(self):
@@ -50,12 +51,13 @@ class Disk:
         checked(libc.mount(b"tmpfs", self.folder, b"tmpfs", REMOUNT, options.encode()), "remount")
         found = os.statvfs(self.folder)
         if used + blocks == 0:
-            with open(os.path.join(self.folder, b".filler"), "wb") as file:
+            with open(os.path.join(self.folder, os.fsencode(writers.FILLER)), "wb") as file:
                 file.write(b"x")
 
     def __exit__(self, *_):
         checked(libc.umount2(self.folder, 2), "umount")
-        os.rmdir(self.folder)
+        if self.made:
+            os.rmdir(self.folder)
 
 
 def enough(writer):
@@ -67,10 +69,7 @@ def attempt(room, writer, counted, **how):
     """Runs a writer where there may be too little room: all is written, or nothing and 73 or 74."""
     said = room.run(*writer.words, **how)
     need(said.status in (writer.status, 73, 74), str(said))
-    found = contents("out")
-    found.pop(".filler", None)
-    state = "old" if found == writer.old else "new" if found == writer.new else \
-        writers.describe(found, writer)
+    state = writer.state()
     need(state == ("new" if said.status == writer.status else "old"), "%s: %s" % (said, state))
     if said.status != writer.status:
         said.errors()
@@ -84,22 +83,11 @@ def test_full_disk(room):
         counted = {}
         for blocks in range(enough(writer) + 1):
             with Disk("out") as disk:
-                for name, data in writer.old.items():
-                    lay(name, data)
+                writer.lay()
                 disk.free(blocks)
                 attempt(room, writer, counted)
         need(counted.get(74), writer.name, "was never short of room:", counted)
         need(counted.get(writer.status), writer.name, "never had enough room:", counted)
-
-
-def lay(name, data):
-    """A file or folder in `out`."""
-    path = os.path.join("out", name)
-    if data is None:
-        os.mkdir(path)
-        return
-    with open(path, "wb") as file:
-        file.write(data)
 
 
 def test_no_names(room):
@@ -109,8 +97,7 @@ def test_no_names(room):
         counted = {}
         for names in range(8):
             with Disk("out") as disk:
-                for name, data in writer.old.items():
-                    lay(name, data)
+                writer.lay()
                 disk.free(20, names)
                 attempt(room, writer, counted)
         need(set(counted) & {73, 74}, writer.name, "never lacked a name:", counted)
@@ -134,8 +121,7 @@ def test_read_only_disk(room):
     alone()
     for writer in writers.writers(1):
         with Disk("out") as disk:
-            for name, data in writer.old.items():
-                lay(name, data)
+            writer.lay()
             checked(libc.mount(b"tmpfs", disk.folder, b"tmpfs", REMOUNT | 1, None), "remount")
             room.refused(73, *writer.words)
 

@@ -27,17 +27,19 @@ def inputs_of(words):
 
 
 def test_existing(room):
-    """A file that is there is refused; with --force it is replaced, and keeps its mode."""
+    """A file that is there is refused; with --force it is replaced, and keeps its mode, but for
+    what lets others run it in somebody's name."""
     coded = Coded(1).lay()
     expected = [coded.table, coded.root, slurp("sample"), coded.volume, coded.volume]
     for words, data in zip(FILES, expected):
         put("there", b"mine", 0o640)
         room.refused(73, *to(words, "there")).says("there")
-        for mode in (0o640, 0o604, 0o755, 0o600):
+        for mode in (0o640, 0o604, 0o755, 0o600, 0o4755, 0o2755, 0o6711, 0o1644):
             put("there", b"mine", mode)
             room.works("--force", *to(words, "there"))
             need(slurp("there") == data, "what --force wrote:", words)
-            need(os.stat("there").st_mode & 0o7777 == mode, "mode %o is lost:" % mode, words)
+            now = os.stat("there").st_mode & 0o7777
+            need(now == mode & 0o777, "mode %o became %o:" % (mode, now), words)
         os.remove("there")
         room.works(*to(words, "there"), "--force")
         need(slurp("there") == data, "--force where nothing is:", words)
@@ -68,10 +70,30 @@ def test_links(room):
     os.symlink("nowhere", "dangling")
     os.symlink("/nowhere/at/all", "far")
     os.symlink("/proc/self/fd/1", "stdout")
+    os.symlink("/dev/stdout", "stdout2")
     for words in FILES:
-        for name in ("link", "dangling", "far", "stdout", "./link"):
+        for name in ("link", "dangling", "far", "stdout", "stdout2", "./link", "/proc/self/fd/1",
+                     "/dev/fd/1"):
             room.refused(73, *to(words, name))
             room.refused(73, "--force", *to(words, name))
+
+
+def test_names_of_folders(room):
+    """A file's name that ends with a slash is a folder's: 73, whatever is there."""
+    Coded(1).lay()
+    put("there", b"mine")
+    os.mkdir("folder")
+    os.symlink("there", "link")
+    for words in FILES:
+        for name in ("new/", "there/", "folder/", "link/", "new//", "folder/./", "/", "./", "../"):
+            room.refused(73, *to(words, name))
+            room.refused(73, "--force", *to(words, name))
+    Coded(1).harm(absent=[3]).lay()
+    for place in (5, 6, 7):
+        words = to(IN_PLACE, "proof")
+        words[place] += "/"
+        room.refused(73, *words)
+        room.refused(73, "--force", *words)
 
 
 def aliases(target):
@@ -149,12 +171,15 @@ def test_folder_is_input(room):
 
 
 def test_in_place_names(room):
-    """--in-place: the proof is no input and none of the other outputs; kept names are no inputs."""
-    Coded(1).wrong_seven().harm(bad=[4]).lay()
-    for target in WHOLE:
-        for name in aliases(target):
-            room.refused(73, "--force", *to(IN_PLACE, name))
-        os.remove("hard")
+    """--in-place: the proof is no input, whether there is one or not, and none of the other
+    outputs; kept names are no inputs."""
+    for coded in (Coded(1), Coded(1).wrong_seven().harm(bad=[4])):
+        coded.lay()
+        for target in WHOLE:
+            for name in aliases(target):
+                room.refused(73, *to(IN_PLACE, name))
+                room.refused(73, "--force", *to(IN_PLACE, name))
+            os.remove("hard")
     for name in ("tree~", "marks~", "./tree~", "sub/../marks~"):
         room.refused(73, *to(IN_PLACE, name))
         room.refused(73, "--force", *to(IN_PLACE, name))
@@ -227,15 +252,16 @@ def test_folders(room):
 
 
 def test_folder_links(room):
-    """A link as FOLDER is refused, wherever it leads."""
+    """A link as FOLDER is refused, wherever it leads, however it is written."""
     Coded(1).lay()
     os.mkdir("empty")
     fill("full", {"tree": b"old", "marks": b"old"})
     for target in ("empty", "full", "nowhere", "table"):
         os.symlink(target, "link")
         for words in FOLDERS:
-            room.refused(73, *to(words, "link"))
-            room.refused(73, "--force", *to(words, "link"))
+            for name in ("link", "link/", "link/.", "./link//", "link/./", os.getcwd() + "/link/"):
+                room.refused(73, *to(words, name))
+                room.refused(73, "--force", *to(words, name))
         os.remove("link")
     fill("full", {"marks": b"old"})
     put("victim", b"mine")
@@ -308,19 +334,19 @@ def test_appears_meanwhile(room):
 
 
 def test_in_place_links(room):
-    """--in-place where TREE is a link or has another name: the old bytes are not lost, and what is
-    under the other name stays."""
+    """--in-place where TREE or MARKS, or what is to be kept of them, is a link: 73. Where TREE has
+    another name, what is under that stays."""
     coded = Coded(1).harm(absent=[3], bad=[5]).lay()
+    for name in ("tree", "marks", "tree~", "marks~"):
+        if os.path.exists(name):
+            os.rename(name, "real")
+        os.symlink("real", name)
+        room.refused(73, *to(IN_PLACE, "proof"))
+        room.refused(73, "--force", *to(IN_PLACE, "proof"))
+        os.remove(name)
+        if name[-1] != "~":
+            os.rename("real", name)
     os.rename("tree", "real")
-    os.symlink("real", "tree")
-    room.ends((0, 73), *to(IN_PLACE, "proof"))
-    need(slurp("real") == coded.tree, "what the link leads to was changed")
-    need(coded.tree in (slurp("tree"), slurp("tree~") if os.path.exists("tree~") else b""),
-         "the old tree is lost")
-    for name in ("tree", "tree~", "marks~"):
-        if os.path.lexists(name):
-            os.remove(name)
-    put("marks", coded.marks)
     os.link("real", "tree")
     room.ends(0, *to(IN_PLACE, "proof"))
     need(slurp("real") == coded.tree and slurp("tree~") == coded.tree, "the old tree is lost")

@@ -6,7 +6,8 @@ import subprocess
 import time
 
 import writers
-from room import contents, fill, need
+from room import contents, need
+from steps import ENDING
 
 KILLS = 45        # of each command that writes
 SIGNALS = 24
@@ -56,18 +57,18 @@ def test_killed(room):
 def again(room, writer):
     """The command, run once more where one was killed, does its work beside what was left."""
     left = {name: data for name, data in contents("out").items() if writers.LEFT.match(name)}
-    fill("out", {**writer.old, **left})
+    writer.lay(left)
     room.ends(writer.status, *writer.words)
     need(writer.state(left=True) == "new", writer.name, "after a kill:", writer.state(True))
 
 
 def test_told_to_end(room):
-    """SIGINT, SIGTERM and SIGHUP at random moments: old or new, whole, and never anything left."""
+    """Signals that end programs at random moments: old or new, whole, and never anything left."""
     hits = made = 0
     for writer in writers.writers(2):
         stopper = Stopper(room, writer)
         for turn in range(SIGNALS):
-            number = (signal.SIGINT, signal.SIGTERM, signal.SIGHUP)[turn % 3]
+            number = ENDING[turn % len(ENDING)]
             status, running = stopper.stop(number)
             need(status in (writer.status, -number), writer.name, number.name, "ended it with",
                  status)

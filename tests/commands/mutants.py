@@ -29,14 +29,28 @@ to() {
 }
 """
 
+TELLING_LATER = '"$real" "$@" >told; status=$?; cat told 2>/dev/null; exit $status'
 SCRIPTS = [
     ("careless", "basics.numbers", '"$real" "$@"; exit 0'),
     ("overwriting", "files.existing",
      'case $command in table | typed | read) exec "$real" --force "$@" ;; esac'),
     ("mode-losing", "files.existing",
      '"$real" "$@"; status=$?; [ -z "$force" ] || chmod 644 "$last"; exit $status'),
+    ("bits-keeping", "files.existing",
+     '[ -n "$force" ] && [ -e "$last" ] && { mode=$(stat -c %a "$last"); "$real" "$@"; status=$?; '
+     'chmod "$mode" "$last"; exit $status; }'),
+    ("mode-giving", "files.writes_no_inputs",
+     '"$real" "$@"; status=$?; [ -z "$force" ] || chmod -R go+r "$last"; exit $status'),
+    ("owner-losing", "rights.owners", '"$real" "$@"; status=$?; chown -R 0:0 out; exit $status'),
     ("link-following", "files.links",
      '[ -n "$force" ] && [ -L "$last" ] && to "$(readlink -f "$last")" "$@" && exit'),
+    ("slash-following", "files.folder_links",
+     'case $last in */) to "$(readlink -f "$last")" "$@"; exit ;; esac'),
+    ("slash-dropping", "files.names_of_folders",
+     'case $last in ?*/) to "${last%/}" "$@"; exit ;; esac'),
+    ("proofless", "files.in_place_names",
+     'case $* in *--in-place*) "$real" check 1 root table tree marks >told && exit 0; rm told ;; '
+     'esac'),
     ("littering", "files.links",
      '"$real" "$@"; status=$?; [ $status = 0 ] || : >.cedunmi-0123456789abcdef; exit $status'),
     ("inputs-writing", "files.output_is_input",
@@ -56,13 +70,27 @@ SCRIPTS = [
     ("unlocked", "races.lock_before_reading",
      '[ "$command" = repair ] && { cp tree kept; "$real" repair 1 root table kept marks made; '
      'status=$?; mv tree tree~; mv made/tree made/marks .; exit $status; }'),
+    ("untold", "races.lock_is_told", 'exec "$real" --quiet "$@"'),
+    ("entering", "races.replaced_while_waiting",
+     '[ "$command" = table ] && { cd "$(dirname "$last")"; to "$(basename "$last")" "$@"; exit; }'),
+    ("uncaring", "races.put_in_a_folder_at_once",
+     '[ "$command" = code ] && { rm -rf old; to new "$@"; mv -T "$last" old; exec mv -T new '
+     '"$last"; }'),
+    ("moving", "steps.moved_there_meanwhile",
+     '[ "$command$force" = tableyes ] && { to new "$@"; exec mv -fT new "$last"; }'),
     ("dying", "kills.told_to_end",
      ': >out/.cedunmi-0123456789abcdef; "$real" "$@"; status=$?; '
      'rm out/.cedunmi-0123456789abcdef; exit $status'),
     ("halting", "steps.killed_at_each_call",
      '[ "$command" = code ] && { rm -rf "$last"; mkdir "$last"; "$real" "$@"; exit; }'),
-    ("heedless", "streams.full_output",
-     '"$real" "$@" >told; status=$?; cat told 2>/dev/null; exit $status'),
+    ("heedless", "streams.full_output", TELLING_LATER),
+    ("forgetful", "streams.full_output_of_writers",
+     '"$real" "$@" >told; status=$?; cat told 2>/dev/null && exit $status; '
+     'echo "cedunmi: standard output: No space left on device" >&2; exit 74'),
+    ("appending", "streams.output_is_input", TELLING_LATER),
+    ("unwritten", "streams.streams_of_the_other_kind", TELLING_LATER),
+    ("signalled", "streams.limited_output", '"$real" "$@" >told; cat told; exit 74'),
+    ("proc-needing", "streams.no_proc", '[ -e /proc/self/fd/1 ] || exit 70'),
     ("raw", "names.messages",
      r'[ -e "$last" ] || { printf "cedunmi: %s\n" "$last" >&2; exit 66; }'),
     ("slurping", "caps.sparse_files",

@@ -2,6 +2,8 @@
 import fcntl
 import os
 import random
+import select
+import shutil
 import signal
 import subprocess
 import threading
@@ -197,6 +199,75 @@ def test_lock(room):
         process.communicate(timeout=20)
         need(process.returncode == writer.status, writer.name, process.returncode)
         writer.judge(process.returncode)
+
+
+def test_lock_is_told(room):
+    """Who waits for a lock is told so after half a second, but not with --quiet, and goes on when
+    it is free."""
+    Coded(1).harm(absent=[3]).lay()
+    commands = [("table", 1, "out/new"), ("code", 1, "table", "volume", "out/made"),
+                ("repair", "--in-place", 1, "root", "table", "out/tree", "out/marks", "proof")]
+    fill("out", {"tree": slurp("tree"), "marks": slurp("marks")})
+    with Locked("out"):
+        began = time.monotonic()
+        quiet = room.start("table", "--quiet", 1, "out/quiet")
+        told = [room.start(*words) for words in commands]
+        for process in told:
+            need(select.select([process.stderr], [], [], 5)[0], "nothing was told")
+            line = process.stderr.readline()
+            need(line == b"cedunmi: waiting for another command in out ..\n", line)
+            need(process.poll() is None, "it did not wait:", process.returncode)
+        need(time.monotonic() - began > 0.4, "told at once")
+        time.sleep(0.05)
+    for process in [quiet] + told:
+        _, err = process.communicate(timeout=20)
+        need(process.returncode == 0 and err == b"", process.args, process.returncode, err)
+    need(sorted(os.listdir("out")) == ["made", "marks", "marks~", "new", "quiet", "tree", "tree~"],
+         os.listdir("out"))
+
+
+def test_replaced_while_waiting(room):
+    """A folder that another comes in the place of, while a command waits for its lock, is not
+    written to: the other is."""
+    for writer in writers.writers(1):
+        for folder in ("out", "out/made"):
+            writer.lay()
+            if not os.path.isdir(folder):
+                continue
+            with Locked(folder):
+                process = room.start(*writer.words, stdin=subprocess.DEVNULL)
+                time.sleep(0.015)
+                os.rename("out", "gone")
+                writer.lay()
+                before = snapshot(b"gone", touched=True)
+            process.communicate(timeout=20)
+            need(process.returncode == writer.status and writer.state() == "new", writer.name,
+                 process.returncode, writer.state())
+            unchanged(before, snapshot(b"gone", touched=True), writer.name)
+            shutil.rmtree("gone")
+
+
+def test_put_in_a_folder_at_once(room):
+    """Files written into a folder while `code --force` replaces it: each of which it was said that
+    it was written is there."""
+    coded = Coded(1).lay()
+    statuses = set()
+    for turn in range(40):
+        fill("made", coded.files())
+        code = room.start("code", "--force", 1, "table", "volume", "made",
+                          stdin=subprocess.DEVNULL, stdout=subprocess.DEVNULL,
+                          stderr=subprocess.DEVNULL)
+        if turn % 4:
+            time.sleep(0.0005 * (turn % 4))
+        names = ["mine%d" % number for number in range(3)]
+        ended = together(room, [("table", 1, "made/" + name) for name in names])
+        statuses.add(code.wait(20))
+        need(set(ended) <= {0, 73} and statuses <= {0, 73}, "ended with", ended, statuses)
+        mine = {name: coded.table for name, status in zip(names, ended) if status == 0}
+        found = contents("made")
+        need(found == {**coded.files(), **mine}, "not the same names:", sorted(found), ended)
+        need(not writers.temporary("."), "left:", writers.temporary("."))
+    need(0 in statuses, "never coded")
 
 
 def test_lock_before_reading(room):

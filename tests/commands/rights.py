@@ -1,10 +1,14 @@
 """Folders and files without the rights, and folders that vanish. As root, run as nobody."""
 import os
+import resource
 import shutil
 import tempfile
 
 import writers
-from room import NOBODY, Coded, Room, need, put, slurp, snapshot, unchanged
+from room import (NOBODY, USERS, Coded, Room, Skipped, contents, need, put, slurp, snapshot,
+                  unchanged)
+
+STAFF = 50
 
 
 def own(path="."):
@@ -38,6 +42,7 @@ def test_read_only_folders(room):
     for writer in writers.writers(1):
         writer.lay()
         own()
+        writer.note()
         os.chmod("out", 0o555)
         with Plain(room) as plain:
             plain.refused(73, *writer.words, nobody=True)
@@ -107,6 +112,99 @@ def test_read_only_files(room):
         status = plain.ends((0, 73), "table", "--force", 1, "there", nobody=True).status
     need(os.stat("there").st_mode & 0o777 == 0o444, "the mode is lost")
     need(slurp("there") == (slurp("table") if status == 0 else b"mine"), "neither old nor new")
+
+
+def test_groups(room):
+    """A file of another owner, replaced by a member of its group, keeps the group and its mode; by
+    anybody else, its group, which is another then, has no rights."""
+    if os.geteuid() != 0:
+        raise Skipped("only root can give files away")
+    Coded(1).lay()
+    os.chmod(".", 0o777)
+    words = ("table", "--force", 1, "there")
+    with Plain(room) as plain:
+        for mode in (0o660, 0o640, 0o664, 0o670):
+            for groups, group, wanted in (([STAFF], STAFF, mode), ([], USERS, mode & 0o707)):
+                put("there", b"mine")
+                os.chown("there", 0, STAFF)
+                os.chmod("there", mode)
+                plain.works(*words, user=NOBODY, group=USERS, extra_groups=groups)
+                info = os.stat("there")
+                need((info.st_mode & 0o7777, info.st_uid, info.st_gid) == (wanted, NOBODY, group),
+                     "mode %o became %o," % (mode, info.st_mode & 0o7777), info.st_uid, info.st_gid)
+
+
+def test_owners(room):
+    """What root replaces stays its owner's and its group's: files, folders with their files, and
+    what --in-place writes and keeps."""
+    if os.geteuid() != 0:
+        raise Skipped("only root can give files away")
+    for writer in writers.writers(1):
+        writer.lay()
+        for name in writer.old:
+            os.chown("out/" + name, NOBODY, STAFF)
+        writer.note()
+        room.ends(writer.status, *writer.words)
+        need(writer.state() == "new", writer.name, writer.state())
+
+
+def test_masks(room):
+    """With a mask that takes its own rights away from who writes: all of the work or none of it,
+    and nothing is left."""
+    statuses = set()
+    with Plain(room) as plain:
+        for writer in writers.writers(1):
+            for mask in (0o777, 0o700, 0o500, 0o300, 0o100):
+                writer.lay()
+                own()
+                writer.note()
+                said = plain.run(*writer.words, nobody=True, umask=mask)
+                for name in os.listdir("out"):
+                    if not os.access("out/" + name, os.R_OK):
+                        os.chmod("out/" + name, 0o600)
+                state, what = writer.state(), "%s, mask %o" % (said, mask)
+                need(said.status in (writer.status, 73, 74), what)
+                need(state == ("new" if said.status == writer.status else "old"), what, state)
+                statuses.add(said.status == writer.status)
+    need(statuses == {True, False}, "always ended alike:", statuses)
+
+
+def test_started_in_a_closed_folder(room):
+    """Started in a folder that may not be searched, a FOLDER that is there and empty is written as
+    a new one is."""
+    coded = Coded(1).lay()
+    here = os.getcwd()
+    os.makedirs("made/empty")
+    os.mkdir("closed")
+    own()
+    with Plain(room) as plain:
+        os.chdir("closed")
+        os.chmod(here + "/closed", 0)
+        try:
+            for name in ("new", "empty"):
+                made = here + "/made/" + name
+                plain.works("code", 1, here + "/table", here + "/volume", made, nobody=True)
+                need(contents(made) == coded.files(), "coded into", name)
+        finally:
+            os.chmod(here + "/closed", 0o755)
+            os.chdir(here)
+
+
+def test_no_more_processes(room):
+    """Where no thread can be had, which tells a terminal what is waited for, all works the same."""
+    limits = [(resource.RLIMIT_NPROC, 1)]
+    with Plain(room) as plain:
+        for writer in writers.writers(1):
+            writer.lay()
+            own()
+            os.chmod("out", 0o777)
+            writer.note()
+            ours, terminal = os.openpty()
+            said = plain.ends(writer.status, *writer.words, nobody=True, limits=limits,
+                              stderr=terminal)
+            need(writer.state() == "new", str(said), writer.state())
+            os.close(terminal)
+            os.close(ours)
 
 
 def test_sticky_folders(room):

@@ -9,7 +9,7 @@ import subprocess
 import by_hand
 
 PLAIN = {"PATH": "/usr/bin:/bin", "LC_ALL": "C"}
-NOBODY = 65534
+NOBODY, USERS = 65534, 100
 LONGEST = 20    # seconds that a command may take: far more than any needs
 
 
@@ -118,7 +118,7 @@ class Room:
         """Runs a command that ends so, says why, prints nothing, and has not touched a thing."""
         before = snapshot(touched=True)
         said = self.ends(status, *words, **how).errors()
-        need(said.out == b"", "%s, but it should print nothing" % said)
+        need(not said.out, "%s, but it should print nothing" % said)
         unchanged(before, snapshot(touched=True), said)
         return said
 
@@ -140,11 +140,11 @@ def entry(path, touched):
         held = (info.st_ino, os.readlink(path))
     elif kind == stat.S_IFDIR and touched:
         held = (info.st_ino, info.st_mtime_ns)
-    return (stat.filemode(info.st_mode), held)
+    return (stat.filemode(info.st_mode), info.st_uid, info.st_gid, held)
 
 
 def snapshot(folder=b".", touched=False):
-    """Every name below a folder with its type, mode, bytes and time; with TOUCHED, the times of
+    """Every name below a folder with its type, rights, bytes and time; with TOUCHED, the times of
     folders too, which shows a file that was made and taken away again."""
     found = {folder: entry(folder, touched)}
     with os.scandir(folder) as entries:
@@ -193,9 +193,9 @@ def put(path, data, mode=None):
 
 
 def fill(folder, files):
-    """Makes a folder with these files, names and bytes; what was there is gone."""
+    """Makes a folder, or a disk, with these files, names and bytes; what was there is gone."""
     shutil.rmtree(folder, ignore_errors=True)
-    os.makedirs(folder)
+    os.makedirs(folder, exist_ok=True)
     for name, data in files.items():
         if data is None:
             os.mkdir(os.path.join(folder, name))

@@ -1,8 +1,10 @@
 """Standard input and output in the place of a file; pipes, closed and full ones; devices."""
 import os
+import resource
 import subprocess
 import threading
 
+import disk
 import writers
 from room import Coded, contents, need, put, slurp
 
@@ -128,15 +130,81 @@ def test_pipes(room):
 
 def test_full_output(room):
     """A report or data that can't be printed, as the disk is full: 74."""
-    coded = lay()
+    lay()
     for words in [words for _, words in READERS] + [("help",), ("--version",), ("explain", 7),
                                                     ("table", 1, "-"), ("help", "code")]:
         with open("/dev/full", "wb") as full:
             room.ends(74, *words, stdout=full).errors()
-    with open("/dev/full", "wb") as full:
-        room.ends(74, "repair", 1, *WHOLE, "made", stdout=full)
-    if os.path.lexists("made"):
-        need(contents("made") == coded.repair().files(), "a part of a folder was made")
+
+
+def test_full_output_of_writers(room):
+    """A repair whose report can't be printed is done, and says so: 74."""
+    for writer in writers.writers(1):
+        if writer.words[0] == "repair":
+            writer.lay()
+            with open("/dev/full", "wb") as full:
+                said = room.ends(74, *writer.words, stdout=full).errors()
+            said.says("the files are in their places")
+            need(writer.state() == "new", str(said), writer.state())
+
+
+def opened(name, flags):
+    """A file that is open so."""
+    return os.fdopen(os.open(name, flags), "rb", 0)
+
+
+def outputs_that_are_inputs(room):
+    """Each input in turn as standard output, opened to write over it or to append: 73, and it is as
+    it was; the same where it is standard input too."""
+    lay()
+    for words in [words for _, words in READERS] + [("repair", 1, *WHOLE, "made")]:
+        for place in places(words):
+            for flags in (os.O_RDWR, os.O_WRONLY | os.O_APPEND):
+                name, given = words[place], swapped(words, place, "-")
+                with opened(name, flags) as out, opened(name, os.O_RDONLY) as standard:
+                    room.refused(73, *words, stdout=out).says(name)
+                    room.refused(73, *given, stdout=out, stdin=standard, given=None)
+
+
+def test_output_is_input(room):
+    """Standard output that leads to an input is refused."""
+    outputs_that_are_inputs(room)
+
+
+def test_no_proc(room):
+    """Where nothing is mounted on /proc, on which the names of /dev/fd rest, all works the same."""
+    disk.alone()
+    with disk.Disk("/proc"):
+        outputs_that_are_inputs(room)
+        for writer in writers.writers(1):
+            writer.lay()
+            room.ends(writer.status, *writer.words)
+            need(writer.state() == "new", writer.name, writer.state())
+
+
+def test_streams_of_the_other_kind(room):
+    """Standard output that is open for reading alone is 74, standard input for writing alone 66; no
+    byte is taken for written or read that was not."""
+    lay()
+    put("other", b"")
+    printing = [words for _, words in READERS] + [("table", 1, "-"), ("help",), ("--version",)]
+    with opened("/dev/null", os.O_RDONLY) as out, opened("other", os.O_WRONLY) as standard:
+        for words in printing:
+            room.refused(74, *words, stdout=out)
+            for place in places(words):
+                room.refused(66, *swapped(words, place, "-"), stdin=standard, given=None)
+        room.refused(66, "typed", "-", "new", stdin=standard, given=None)
+
+
+def test_limited_output(room):
+    """Standard output to a file that would grow over a limit: 74, and no end by a signal."""
+    lay()
+    for _, words in READERS + [(0, ("table", 5, "-")), (0, ("help",))]:
+        for limit in (0, 1, 10):
+            with open("limited", "wb") as file:
+                room.ends(74, *words, stdout=file,
+                          limits=[(resource.RLIMIT_FSIZE, limit)]).errors()
+            need(os.path.getsize("limited") <= limit, words, "wrote over the limit")
 
 
 def closed_pipe():

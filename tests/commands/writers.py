@@ -7,36 +7,63 @@ import os
 import re
 
 import by_hand
-from room import Coded, contents, fill, need, show
+from room import NOBODY, USERS, Coded, contents, fill, need, show
 
 LEFT = re.compile(r"\.cedunmi-[0-9a-f]{16}(\.old)?(/|$)")
+FILLER = ".filler"        # takes the room of a disk, and is no command's
 
 
 class Writer:
-    """A command that writes: its words, what `out` holds before and after, and its status."""
+    """A command that writes: its words, what `out` holds before and after, and its status. MODES
+    are those of names that are there before, which as root are nobody's."""
 
-    def __init__(self, name, words, old, new, status=0):
+    def __init__(self, name, words, old, new, status=0, modes=None):
         self.name, self.words, self.old, self.new, self.status = name, words, old, new, status
+        self.modes, self.was = modes or {}, {}
 
-    def lay(self):
-        """Makes `out` as it is before."""
-        fill("out", self.old)
+    def lay(self, beside=None):
+        """Makes `out` as it is before, with other files beside."""
+        fill("out", {**self.old, **(beside or {})})
+        for name, mode in self.modes.items():
+            if os.geteuid() == 0:
+                os.chown(os.path.join("out", name), NOBODY, USERS)
+            os.chmod(os.path.join("out", name), mode)
+        self.note()
 
-    def state(self, left=False):
-        """Whether `out` is as before or as after; with LEFT there may be temporary names beside."""
+    def note(self):
+        """Keeps which inodes and rights the names have that are there before."""
+        self.was = {name: borne(name) for name in self.old}
+
+    def state(self, left=False, copied=False):
+        """Whether `out` is as before or as after, with its rights; with LEFT there may be temporary
+        names beside, with COPIED what is as before may be a copy."""
         found = contents("out")
+        found.pop(FILLER, None)
         if left:
             found = {name: held for name, held in found.items() if not LEFT.match(name)}
-        if found in (self.old, self.new):
-            return "old" if found == self.old else "new"
+        if found == self.old and all(self.is_old(name, copied) for name in found):
+            return "old"
+        if found == self.new and all(self.is_new(name) for name in found):
+            return "new"
         return "between" if left and self.between(found) else describe(found, self)
+
+    def is_old(self, name, copied=False):
+        """Whether what bears a name is what did before, or a copy with all its rights."""
+        return name in self.was and borne(name)[copied:] == self.was[name][copied:]
+
+    def is_new(self, name):
+        """Whether a name has the rights that it had before, but for bits that run a program in
+        another's name; what is kept of a file has that file's."""
+        before = self.was.get(name[:-1] if name in ("tree~", "marks~") else name)
+        return before is None or borne(name)[1:] == (before[1] & 0o777, *before[2:])
 
     def between(self, found):
         """Of a killed command with several files to replace: no file is a part, none is lost."""
         if "--in-place" not in self.words:
             return False
         for name, held in found.items():
-            if held not in (self.old.get(name), self.new.get(name)):
+            if not (held == self.old.get(name) and self.is_old(name)
+                    or held == self.new.get(name) and self.is_new(name)):
                 return False
         lost = any(found.get(name) != held and found.get(name + "~") != held
                    for name, held in self.old.items() if name in ("tree", "marks"))
@@ -52,6 +79,12 @@ class Writer:
         return state
 
 
+def borne(name):
+    """What bears a name in `out`: its inode, its mode, owner and group."""
+    info = os.stat(os.path.join("out", name))
+    return info.st_ino, info.st_mode & 0o7777, info.st_uid, info.st_gid
+
+
 def describe(found, writer):
     """How what is in `out` differs from before and after."""
     words = []
@@ -60,10 +93,12 @@ def describe(found, writer):
             words.append(name + " is not there")
         elif name not in writer.old and name not in writer.new:
             words.append(name + " is left")
-        elif name in writer.old and found[name] == writer.old[name]:
+        elif name in writer.old and found[name] == writer.old[name] and writer.is_old(name):
             words.append(name + " as before")
-        elif name in writer.new and found[name] == writer.new[name]:
+        elif name in writer.new and found[name] == writer.new[name] and writer.is_new(name):
             words.append(name + " as after")
+        elif found[name] in (writer.old.get(name, b""), writer.new.get(name, b"")):
+            words.append("%s has inode %d, mode %o, owner %d and group %d" % (name, *borne(name)))
         else:
             words.append(name + " is neither: " + show(found[name]))
     return ", ".join(words)
@@ -104,11 +139,11 @@ def of_one_file(depth, whole, harmed):
     return [
         Writer("table", ("table", depth, "out/file"), {}, {"file": whole.table}),
         Writer("table --force", ("table", "--force", depth, "out/file"), over,
-               {"file": whole.table}),
+               {"file": whole.table}, modes={"file": 0o4755}),
         Writer("typed --force", ("typed", "--force", "in/text", "out/file"), over,
                {"file": whole.root}),
         Writer("sample --force", ("sample", "--force", depth, 3, *tree, "out/file"), over,
-               {"file": sample}),
+               {"file": sample}, modes={"file": 0o640}),
         Writer("read --force", ("read", "--force", depth, *of("whole"), "out/file"), over,
                {"file": whole.volume}),
         Writer("read of damage", ("read", depth, *of("harmed"), "out/file"), {},
@@ -122,12 +157,16 @@ def of_folders(depth, whole, harmed, wrong):
     repaired = {name: before[name] for name in ("tree", "marks")}
     return [
         Writer("code", ("code", *words), {}, within("made", whole.files())),
+        Writer("code into an empty folder", ("code", *words), within("made", {}),
+               within("made", whole.files()), modes={"made": 0o710}),
         Writer("code --force", ("code", "--force", *words), within("made", before),
-               within("made", whole.files())),
+               within("made", whole.files()),
+               modes={"made": 0o750, "made/tree": 0o600, "made/root": 0o640}),
         Writer("repair", ("repair", depth, *of("harmed"), "out/made"), {},
                within("made", harmed.repair().files())),
         Writer("repair --force", ("repair", "--force", depth, *of("wrong"), "out/made"),
-               within("made", repaired), within("made", wrong.repair().files()), 31)]
+               within("made", repaired), within("made", wrong.repair().files()), 31,
+               modes={"made/marks": 0o600})]
 
 
 def in_place(depth, harmed, wrong):
@@ -137,11 +176,12 @@ def in_place(depth, harmed, wrong):
     return [
         Writer("repair --in-place", ("repair", "--in-place", depth, *of("harmed")[:2], *place),
                {"tree": harmed.tree, "marks": harmed.marks},
-               {**harmed.repair().files(), **kept(harmed)}),
+               {**harmed.repair().files(), **kept(harmed)}, modes={"tree": 0o600, "marks": 0o660}),
         Writer("repair --in-place --force",
                ("repair", "--in-place", "--force", depth, *of("wrong")[:2], *place),
                {"tree": wrong.tree, "marks": wrong.marks, **older},
-               {**wrong.repair().files(), **kept(wrong)}, 31)]
+               {**wrong.repair().files(), **kept(wrong)}, 31,
+               modes={"tree": 0o640, "proof": 0o604, "tree~": 0o666})]
 
 
 def writers(depth):

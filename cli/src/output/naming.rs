@@ -1,6 +1,10 @@
 //! Names given in one step, or, where the file system does not know how, in the nearest that it does.
 
 use super::fresh;
+use super::old::Rights;
+use crate::failure::words;
+use crate::input::identity;
+use crate::name::shown;
 use cedunmi_system::{Folder, Rename};
 use std::ffi::{OsStr, OsString};
 use std::io::{self, ErrorKind};
@@ -11,8 +15,8 @@ pub enum Placed {
     New,
     /// It bears this name now.
     Old(OsString),
-    /// A copy of it does, on a file system that has neither exchanges nor second names.
-    Copy(OsString),
+    /// A copy of it does, on a file system that has neither exchanges nor second names; of what, is told by its inode.
+    Copy(OsString, (u64, u64)),
 }
 
 /// Whether the file system doesn't know how to change names so.
@@ -70,23 +74,34 @@ fn exchange_in_steps(
     if is_folder {
         folder.rename(to, &aside, Rename::Replace)?;
         let renamed = folder.rename(from, to, Rename::Replace);
-        renamed.or_else(|error| folder.rename(&aside, to, Rename::Replace).and(Err(error)))?;
+        renamed.or_else(|error| put_back(folder, &aside, to).and(Err(error)))?;
         return Ok(Placed::Old(aside));
     }
-    let linked = match folder.link(to, &aside) {
-        Err(error) if unlinked(&error) => copy(folder, to, &aside).map(|()| false)?,
-        other => other.map(|()| true)?,
+    let placed = match folder.link(to, &aside) {
+        Err(error) if unlinked(&error) => Placed::Copy(aside.clone(), copy(folder, to, &aside)?),
+        other => other.map(|()| Placed::Old(aside.clone()))?,
     };
-    folder
-        .rename(from, to, Rename::Replace)
-        .or_else(|error| folder.remove(&aside).and(Err(error)))?;
-    Ok(if linked { Placed::Old(aside) } else { Placed::Copy(aside) })
+    let renamed = folder.rename(from, to, Rename::Replace);
+    renamed.or_else(|error| folder.remove(&aside).and(Err(error)))?;
+    Ok(placed)
 }
 
-fn copy(folder: &Folder, from: &OsStr, to: &OsStr) -> io::Result<()> {
+fn put_back(folder: &Folder, aside: &OsStr, to: &OsStr) -> io::Result<()> {
+    let kept = |error: io::Error| {
+        let text = format!("{}; what was there is kept as {}", words(&error), shown(aside));
+        io::Error::new(error.kind(), text)
+    };
+    folder.rename(aside, to, Rename::Replace).map_err(kept)
+}
+
+/// Copies a file, with its rights; what was copied.
+fn copy(folder: &Folder, from: &OsStr, to: &OsStr) -> io::Result<(u64, u64)> {
     let mut old = folder.read(from)?;
+    let metadata = old.metadata()?;
     let mut new = folder.create(to, 0o600)?;
-    io::copy(&mut old, &mut new)
-        .and_then(|_| new.sync_all())
-        .or_else(|error| folder.remove(to).and(Err(error)))
+    let copied = io::copy(&mut old, &mut new)
+        .and_then(|_| Rights::of(&metadata).give(&new))
+        .and_then(|()| new.sync_all());
+    copied.or_else(|error| folder.remove(to).and(Err(error)))?;
+    Ok(identity(&metadata))
 }

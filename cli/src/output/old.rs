@@ -25,7 +25,7 @@ impl Rights {
 
     /// Gives the new one the rights of the old one; where it can't have its group, the group has none.
     pub fn give(self, file: &File) -> io::Result<()> {
-        let grouped = give(file, self.owner, self.group);
+        let grouped = give(file, self.owner, self.group) || file.metadata()?.gid() == self.group;
         let mode = if grouped { self.mode } else { self.mode & !0o070 };
         file.set_permissions(Permissions::from_mode(mode))
     }

@@ -104,17 +104,16 @@ impl Beside<'_> {
 
     /// Sees that what was replaced is what was looked at before.
     fn is_old(&self, placed: &Placed) -> Result<(), Failure> {
-        match (placed, &self.target.old) {
-            (Placed::Old(name), Some(old)) => {
-                match old.bears(&self.target.folder, name, self.target.names) {
-                    Ok(true) => Ok(()),
-                    Ok(false) => {
-                        Err(refused(&self.target.shown, "something else was put there meanwhile"))
-                    }
-                    Err(error) => Err(Failure::system(&self.target.shown, &error, NOT_MADE)),
-                }
-            }
-            _ => Ok(()),
+        let Target { folder, names, shown, old, .. } = self.target;
+        let is_old = match (placed, old) {
+            (Placed::Old(name), Some(old)) => old.bears(folder, name, names),
+            (Placed::Copy(_, copied), Some(old)) => Ok(*copied == old.identity),
+            _ => Ok(true),
+        };
+        match is_old {
+            Ok(true) => Ok(()),
+            Ok(false) => Err(refused(shown, "something else was put there meanwhile")),
+            Err(error) => Err(Failure::system(shown, &error, NOT_MADE)),
         }
     }
 
@@ -123,7 +122,7 @@ impl Beside<'_> {
         let Target { folder, names, shown: name, old: was, .. } = self.target;
         let old = match placed {
             Placed::New => return,
-            Placed::Old(old) | Placed::Copy(old) => old,
+            Placed::Old(old) | Placed::Copy(old, _) => old,
         };
         let gone = match was.as_ref().and_then(|was| was.folder.as_ref()) {
             None => folder.remove(old),
@@ -159,7 +158,7 @@ impl Beside<'_> {
                 let freed = folder.rename(to, &self.name, Rename::Replace);
                 freed.and_then(|()| folder.rename(old, to, Rename::Replace))
             }
-            Placed::Old(old) | Placed::Copy(old) => folder.rename(old, to, Rename::Replace),
+            Placed::Old(old) | Placed::Copy(old, _) => folder.rename(old, to, Rename::Replace),
         };
         let done = back.is_ok();
         tell(back, || format!("{}: it could not be put back", self.target.shown));

@@ -45,7 +45,8 @@ fn split(path: &Path) -> Option<(PathBuf, OsString)> {
 
 /// The folder and the name of a file.
 pub fn place(word: &OsStr) -> Result<(PathBuf, OsString), Failure> {
-    let named = !word.as_bytes().ends_with(b"/");
+    let named =
+        !matches!(word.as_bytes().rsplit(|byte| *byte == b'/').next(), Some(b"" | b"." | b".."));
     split(Path::new(word))
         .filter(|_| named)
         .ok_or_else(|| refused(&shown(word), "it is no name of a file"))
