@@ -321,56 +321,71 @@ mod tests {
         }
     }
 
-    #[test]
-    fn every_slip_is_named() {
+    /// A print, and its lines, of which three are comments.
+    fn printed() -> (String, Vec<String>) {
         let text = print(&root()).unwrap();
-        let lines: Vec<&str> = text.lines().collect();
+        let lines = text.lines().map(str::to_string).collect();
+        (text, lines)
+    }
+
+    #[test]
+    fn lines_out_of_order_are_named() {
+        let (_, lines) = printed();
         let mut swapped = lines.clone();
         swapped.swap(5, 9);
-        assert_eq!(
-            slips(&swapped.join("\n")),
-            ["line 6: hash 2 is wanted, not 6", "line 10: hash 6 is wanted, not 2"]
-        );
-        let unnumbered = |line: &str| line[3..].to_string();
-        let mut bare: Vec<String> = lines[3..19].iter().map(|line| unnumbered(line)).collect();
+        let found = ["line 6: hash 2 is wanted, not 6", "line 10: hash 6 is wanted, not 2"];
+        assert_eq!(slips(&swapped.join("\n")), found);
+        let mut bare: Vec<&str> = lines[3..19].iter().map(|line| &line[3..]).collect();
         bare.swap(2, 6);
         assert_eq!(slips(&bare.join("\n")).len(), 2);
+        let mut doubled = lines.clone();
+        doubled.insert(9, lines[8].clone());
+        let found = ["line 10: hash 6 is wanted, not 5", "a root has 16 hashes, not 17"];
+        assert_eq!(slips(&doubled.join("\r")), found);
+        let mut missing = lines.clone();
+        missing.remove(8);
+        let found = ["line 9: hash 5 is wanted, not 6", "a root has 16 hashes, not 15"];
+        assert_eq!(slips(&missing.join("\n")), found);
         assert_eq!(slips(&lines[..18].join("\n")), ["a root has 16 hashes, not 15"]);
-        // A digit too few, or four, where there are numbers or checks, is none of a line without them.
+    }
+
+    /// A digit too few, or four, where there are numbers or checks, is none of a line without them.
+    #[test]
+    fn digits_are_counted() {
+        let (_, lines) = printed();
         let unchecked: Vec<&str> = lines[3..19].iter().map(|line| &line[..74]).collect();
-        for (at, line) in unchecked.iter().enumerate() {
+        for at in 0..HASHES {
             let mut short = unchecked.clone();
-            short[at] = &line[..73];
-            assert_eq!(
-                slips(&short.join("\n")),
-                [format!("line {}: hash {at} has 63 digits, not 64", at + 1)]
-            );
+            short[at] = &unchecked[at][..73];
+            let found = format!("line {}: hash {at} has 63 digits, not 64", at + 1);
+            assert_eq!(slips(&short.join("\n")), [found]);
             let mut cut = lines.clone();
-            let lost = lines[3 + at].replacen(&lines[3 + at][12..16], "", 1);
-            cut[3 + at] = &lost;
-            assert_eq!(slips(&cut.join("\n")).len(), 1);
+            cut[3 + at].replace_range(12..16, "");
+            let found = format!("line {}: hash {at} has 64 digits with its check, not 68", at + 4);
+            assert_eq!(slips(&cut.join("\n")), [found]);
         }
-        let short = text.replacen("   ", " ", 1).replacen(&lines[3][3..5], "", 1);
-        assert!(
-            slips(&short)[0].contains("has 66 digits with its check, not 68"),
-            "{:?}",
-            slips(&short)
-        );
+    }
+
+    #[test]
+    fn other_slips_are_named() {
+        let (text, _) = printed();
         assert!(slips(&text.replacen("00", "0O", 1))[0].contains("'o'"));
         let last = format!("{text}check 01234567\ncheck 0\n");
         assert!(slips(&last)[0].starts_with("line 21: the check of these hashes is"));
         assert_eq!(slips(&last)[1], "line 22: the check of all has 8 digits, not 1");
-        let mut doubled = lines.clone();
-        doubled.insert(9, lines[8]);
-        let found = slips(&doubled.join("\r"));
-        assert_eq!(found, ["line 10: hash 6 is wanted, not 5", "a root has 16 hashes, not 17"]);
-        doubled.remove(9);
-        doubled.remove(8);
-        let found = slips(&doubled.join("\n"));
-        assert_eq!(found, ["line 9: hash 5 is wanted, not 6", "a root has 16 hashes, not 15"]);
         assert_eq!(slips("7\x007"), ["this is no plain text: many of its bytes are zero"]);
-        assert_eq!(parse(text.replace("check  ", "Check: ").as_bytes()).unwrap().root, root());
+    }
+
+    #[test]
+    fn what_means_the_same_is_taken() {
+        let (text, _) = printed();
         let filled = text.replace("\n ", "\n0").replace("\n0 ", "\n00");
-        assert_eq!(parse(format!("\u{feff}{filled}").as_bytes()).unwrap().root, root());
+        for same in [
+            text.replace("check  ", "Check: "),
+            format!("\u{feff}{filled}"),
+            text.replace('\n', "\r\n"),
+        ] {
+            assert_eq!(parse(same.as_bytes()).unwrap().root, root());
+        }
     }
 }

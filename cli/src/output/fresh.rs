@@ -46,11 +46,17 @@ pub fn fill(mut file: File, bytes: &[u8], rights: Option<Rights>) -> io::Result<
     file.sync_all()
 }
 
-/// Writes the files of a folder that was just made; one that somebody put in its place is not ours, or not empty.
-pub fn fill_folder(folder: &Folder, files: &[(&str, &[u8])], old: Option<&Old>) -> io::Result<()> {
-    if !folder.is_ours()? {
-        return Err(ErrorKind::PermissionDenied.into());
+/// Enters a folder that was just made; one that somebody put in its place is not ours.
+pub fn enter(parent: &Folder, name: &OsStr) -> io::Result<Folder> {
+    let folder = parent.enter(name)?;
+    match folder.is_ours()? {
+        true => Ok(folder),
+        false => Err(ErrorKind::PermissionDenied.into()),
     }
+}
+
+/// Writes the files of a new folder.
+pub fn fill_folder(folder: &Folder, files: &[(&str, &[u8])], old: Option<&Old>) -> io::Result<()> {
     for (name, bytes) in files {
         let rights = old.and_then(|old| old.rights_of(name));
         let file = folder.create(OsStr::new(name), rights.map_or(0o666, |_| 0o600))?;

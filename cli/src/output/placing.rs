@@ -49,7 +49,7 @@ impl<'a> Placing<'a> {
                 let name = fresh::folder(&target.folder, rights).map_err(not_made)?;
                 self.beside.push(Beside { target, name, made: Made::Folder(None) });
                 let beside = self.beside.last_mut().expect("it was pushed");
-                let folder = target.folder.enter(&beside.name).map_err(not_made)?;
+                let folder = fresh::enter(&target.folder, &beside.name).map_err(not_made)?;
                 let filled = fresh::fill_folder(&folder, files, target.old.as_ref());
                 beside.made = Made::Folder(Some(folder));
                 filled
