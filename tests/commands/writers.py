@@ -9,7 +9,7 @@ import re
 import by_hand
 from room import NOBODY, USERS, Coded, contents, fill, need, show
 
-LEFT = re.compile(r"\.cedunmi-[0-9a-f]{16}(\.old)?(/|$)")
+LEFT = re.compile(r"\.cedunmi-[0-9a-f]{16}(/|$)")
 FILLER = ".filler"        # takes the room of a disk, and is no command's
 
 
