@@ -37,8 +37,9 @@ pub fn report(
     shown: &Shown,
 ) -> String {
     let Repaired { stored, end } = repaired;
+    let head = if let Shown::Nowhere = shown { "a repair would come to this:\n" } else { "" };
     let layers = layers(depth, end, before, after);
-    format!("{layers}stored: {stored}\n{}\n", ended(depth, end, before, after, shown))
+    format!("{head}{layers}stored: {stored}\n{}\n", ended(depth, end, before, after, shown))
 }
 
 /// Half of the top layer: where so many of its pages are bad copies, the root may be another volume's.
@@ -72,6 +73,8 @@ mod tests {
     use super::*;
     use crate::failure::{Failure, UNKNOWN};
     use cedunmi::Stop;
+
+    const WOULD: &str = "a repair would come to this:\n";
 
     fn depth() -> Depth {
         Depth::new(2).expect("a depth")
@@ -112,7 +115,7 @@ mod tests {
         let none = "layer 0: 16 pages, 0 to 15: 0 absent, 0 bad; 0 stored, 0 missing\n\
                     layer 1: 32 pages, 16 to 47: 0 absent, 0 bad; 0 stored, 0 missing\n";
         let now = told(0, End::Whole, &before, &after, &Shown::Nowhere);
-        assert_eq!(now, (format!("{none}stored: 0\n{said}"), 0, 0));
+        assert_eq!(now, (format!("{WOULD}{none}stored: 0\n{said}"), 0, 0));
         before.marks[2] = 0;
         before.tree[256 * 5 + 255] = 1;
         before.tree[256 * 47] = 1;
@@ -135,7 +138,7 @@ mod tests {
         );
         assert_eq!(
             now(Shown::Nowhere),
-            (format!("{lines}the proof would have 780 bytes\n"), 31, 31)
+            (format!("{WOULD}{lines}the proof would have 780 bytes\n"), 31, 31)
         );
     }
 
@@ -180,22 +183,23 @@ mod tests {
     #[test]
     fn stops() {
         let stops = [
-            (Stop::WrongDepth, "1: the depth is not 1 to 5"),
-            (Stop::WrongLength, "2: a length is wrong"),
-            (Stop::WrongTable { word: 61 }, "3: the table breaks a rule: word 61 is the first wrong one, or the table ends there"),
-            (Stop::WrongMark { place: 3 }, "4: a mark is neither 0 nor 1: that of page 3 is the lowest such"),
-            (Stop::WrongNumber, "5: the base has no page of this number"),
+            (Stop::WrongDepth, "the depth is not 1 to 5"),
+            (Stop::WrongLength, "a length is wrong"),
+            (Stop::WrongTable { word: 61 }, "the table breaks a rule: word 61 is the first wrong one, or the table ends there"),
+            (Stop::WrongMark { place: 3 }, "a mark is neither 0 nor 1: that of page 3 is the lowest such"),
+            (Stop::WrongNumber, "the base has no page of this number"),
             (
                 Stop::WrongHead,
-                "6: the proof's head has a wrong kind, layer or equation, or the equation has no such member",
+                "the proof's head has a wrong kind, layer or equation, or the equation has no such member",
             ),
-            (Stop::WrongHash, "7: a hash doesn't lead to the root"),
-            (Stop::NoFault, "8: the withheld hash fits: the proof shows no fault"),
-            (Stop::Absent { number: 4 }, "9: a needed page is absent: number 4"),
+            (Stop::WrongHash, "a hash doesn't lead to the root"),
+            (Stop::NoFault, "the withheld hash fits: the proof shows no fault"),
+            (Stop::Absent { number: 4 }, "a needed page is absent: number 4"),
         ];
         for (number, (stop, line)) in (1..).zip(stops) {
             let failure = Failure::stopped(stop);
-            assert_eq!((failure.status, &failure.lines[..]), (number, &[line.to_string()][..]));
+            let line = format!("{line} (number {number}: cedunmi explain {number})");
+            assert_eq!((failure.status, failure.lines), (number, vec![line]));
         }
         let failure = Failure::stopped(Stop::Unknown { result: 0x1ff });
         assert_eq!(

@@ -48,8 +48,14 @@ impl Failure {
     pub fn stopped(stop: Stop) -> Failure {
         match stop {
             Stop::Unknown { .. } => Failure::new(UNKNOWN, stop.to_string()),
-            _ => Failure::new(stop.number(), format!("{}: {stop}", stop.number())),
+            _ => Failure::numbered(stop, &stop.to_string()),
         }
+    }
+
+    /// A stop in words of our own, with its number.
+    pub fn numbered(stop: Stop, words: &str) -> Failure {
+        let number = stop.number();
+        Failure::new(number, format!("{words} (number {number}: cedunmi explain {number})"))
     }
 
     pub fn and(mut self, line: impl Into<String>) -> Failure {

@@ -46,7 +46,9 @@ mod tests {
     #[test]
     fn commands_have_their_lines() {
         assert_eq!(commands().filter(|name| *name == "repair").count(), 2);
-        assert!(of("repair").starts_with("  repair DEPTH") && of("repair").ends_with("MARKS~\n"));
+        assert!(
+            of("repair").starts_with("  repair DEPTH") && of("repair").ends_with("twins alone\n")
+        );
         assert_eq!(
             of("root"),
             "  root ROOT                                  print a root, as a manual has it\n"

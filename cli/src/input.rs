@@ -113,9 +113,16 @@ pub fn stopped(stop: Stop, depth: u64, inputs: &[&Input]) -> Failure {
         }
         Stop::WrongTable { .. } => inputs.iter().filter_map(|input| input.other_depth()).collect(),
         Stop::WrongMark { .. } => inputs.iter().filter_map(|input| input.characters()).collect(),
+        Stop::WrongNumber => Depth::new(depth).map(base_numbers).into_iter().collect(),
         _ => Vec::new(),
     };
     lines.into_iter().fold(Failure::stopped(stop), Failure::and)
+}
+
+/// Which numbers base pages have.
+fn base_numbers(depth: Depth) -> String {
+    let last = depth.places(depth.layers() - 1).len() - 1;
+    format!("at depth {} base pages have the numbers 0 to {last}", depth.layers())
 }
 
 /// Which of the files have a wrong length; a fault proof, whose length its head demands, if no other has.
@@ -142,10 +149,7 @@ pub fn stopped_at(
     match (stop, Depth::new(depth)) {
         (Stop::Absent { number }, Some(depth)) => {
             let page = place(depth, number as usize);
-            Failure::new(
-                stop.number(),
-                format!("{}: {}: page {page}", stop.number(), stop.meaning()),
-            )
+            Failure::numbered(stop, &format!("{}: page {page}", stop.meaning()))
         }
         _ => stopped(stop, depth, inputs),
     }

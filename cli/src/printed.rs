@@ -155,7 +155,7 @@ pub fn parse(text: &[u8]) -> Result<Typed, Slips> {
     let (form, root, mut slips) = best.expect("there are forms");
     if slips.is_empty() {
         let right = digits(&root, CHECK_OF_ALL)?;
-        slips.extend(of_all.iter().filter_map(|line| slip_of_all(line, &right)));
+        slips.extend(of_all.iter().filter_map(|line| slip_of_all(line, &right, form)));
     }
     match slips.is_empty() {
         true => Ok(Typed { root, unchecked: !form.checked && of_all.is_empty() }),
@@ -197,8 +197,8 @@ fn counted(lines: &[Line], at: usize, wanted: usize, form: Form) -> usize {
     typed.unwrap_or(wanted)
 }
 
-/// What is wrong with a check of all, as it was typed.
-fn slip_of_all(line: &Line, right: &str) -> Option<String> {
+/// What is wrong with a check of all, as it was typed. Where each line fits its own, the slip is here.
+fn slip_of_all(line: &Line, right: &str, form: Form) -> Option<String> {
     let (at, typed) = (line.at, line.words[1..].concat());
     if typed.len() != CHECK_OF_ALL {
         return Some(format!(
@@ -206,9 +206,9 @@ fn slip_of_all(line: &Line, right: &str) -> Option<String> {
             typed.len()
         ));
     }
-    (typed != right).then(|| {
-        format!("line {at}: the check of these hashes is {right}, not {typed}: a digit is wrong")
-    })
+    let place = if form.checked { "the slip is in this line" } else { "a digit is wrong" };
+    (typed != right)
+        .then(|| format!("line {at}: the check of these hashes is {right}, not {typed}: {place}"))
 }
 
 /// The hash that a line writes, and its check, in a form.

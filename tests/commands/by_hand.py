@@ -214,7 +214,8 @@ class Repair:
 
     def report(self, where=None):
         """The report; WHERE is the name of the proof, None for a check, which writes nothing."""
-        lines = [line for layer in self.layers for line in layer.lines()]
+        lines = ["a repair would come to this:"] if where is None else []
+        lines += [line for layer in self.layers for line in layer.lines()]
         for j in range(len(self.layers), self.depth):
             low, count = first(j), pages(j)
             lines.append("layer %d: %d pages, %d to %d: not entered" % (

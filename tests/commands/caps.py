@@ -2,7 +2,6 @@
 import os
 import resource
 import subprocess
-import time
 
 from room import Coded, need, put
 
@@ -33,12 +32,9 @@ def lay():
 
 
 def soon(room, status, words, **how):
-    """The command ends so within two seconds; nothing is written."""
-    began = time.monotonic()
+    """The command ends so, with little memory, though its input has no end; nothing is written."""
     before = sorted(os.listdir("."))
-    said = room.ends(status, *words, limits=LITTLE, timeout=5, **how).errors()
-    took = time.monotonic() - began
-    need(took < 2, "%s, after %.1f seconds" % (said, took))
+    said = room.ends(status, *words, limits=LITTLE, **how).errors()
     need(sorted(os.listdir(".")) == before, str(said) + ", and has written")
     return said
 

@@ -213,7 +213,7 @@ def test_lock_is_told(room):
         quiet = room.start("table", "--quiet", 1, "out/quiet")
         told = [room.start(*words) for words in commands]
         for process in told:
-            need(select.select([process.stderr], [], [], 5)[0], "nothing was told")
+            need(select.select([process.stderr], [], [], 20)[0], "nothing was told")
             line = process.stderr.readline()
             need(line == b"cedunmi: waiting for another command in out ..\n", line)
             need(process.poll() is None, "it did not wait:", process.returncode)
@@ -290,7 +290,7 @@ def test_no_lock_while_waiting(room):
     Coded(1).lay()
     text = slurp("text")
     waiting = room.start("typed", "-", "new")
-    room.works("table", 1, "other", timeout=5)
+    room.works("table", 1, "other")
     waiting.communicate(text, 20)
     need(waiting.returncode == 0 and slurp("new") == slurp("root"), waiting.returncode)
 
@@ -306,7 +306,7 @@ def test_signal_while_locked(room):
                 time.sleep(0.02)
                 process.send_signal(number)
                 try:
-                    process.communicate(timeout=3)
+                    process.communicate(timeout=20)
                 except subprocess.TimeoutExpired:
                     process.kill()
                     process.communicate()

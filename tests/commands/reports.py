@@ -38,6 +38,7 @@ def test_the_report_of_the_manual(room):
     """One bad copy at depth 2, word for word."""
     Coded(2, 1).harm(bad=[2]).lay()
     room.ends(30, "check", 2, *WHOLE).prints(
+        "a repair would come to this:\n"
         "layer 0: 16 pages, 0 to 15: 0 absent, 1 bad; 1 stored, 0 missing\n"
         "  bad copies: 2\n"
         "layer 1: 32 pages, 16 to 47: 0 absent, 0 bad; 0 stored, 0 missing\n"
@@ -45,6 +46,7 @@ def test_the_report_of_the_manual(room):
         "whole: every page is held, and the tree agrees with the root and the table\n")
     put("marks", bytes(48))
     room.ends(32, "check", 2, *WHOLE).prints(
+        "a repair would come to this:\n"
         "layer 0: 16 pages, 0 to 15: 16 absent, 0 bad; 0 stored, 16 missing\n"
         "  missing: 0 1 2 3 4 5 6 7 8 9 10 11 12 13 14 15\n"
         "layer 1: 32 pages, 16 to 47: not entered\n"

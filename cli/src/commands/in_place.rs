@@ -72,7 +72,7 @@ fn not_written(after: &After, quiet: bool) -> Done {
     if !quiet {
         said::report(&after.report(&Shown::Nowhere))?;
     }
-    said::remark("nothing was written: fewer pages would be held than before; repair into a FOLDER, or by the volume's own root");
+    said::remark("nothing was written: fewer pages would be held than before; bring pages first, or repair into a FOLDER");
     Ok(answer::status(&after.repaired.end))
 }
 

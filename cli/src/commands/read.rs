@@ -22,9 +22,9 @@ pub fn run(arguments: &Arguments) -> Done {
     let status = answer::status_as_is(&after.repaired);
     if after.repaired.end != End::Whole {
         let failure = Failure::new(status, format!("the volume was not read: {}", after.ended()));
-        return Err(
-            failure.and("cedunmi check says more; read --unverified reads it by the marks alone")
-        );
+        return Err(failure.and(
+            "cedunmi check says more; read --unverified reads it unchecked: its bytes may be wrong",
+        ));
     }
     let bytes = cedunmi::read_block(depth, &after.tree, &after.marks).map_err(Failure::stopped)?;
     output.put(Content::File(&bytes))?;
