@@ -18,6 +18,7 @@ mod printed;
 mod progress;
 mod report;
 mod said;
+mod typed;
 
 use arguments::Arguments;
 use std::process::exit;

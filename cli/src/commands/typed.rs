@@ -6,8 +6,8 @@ use crate::failure::{Failure, SLIP};
 use crate::input::{stopped, Reader};
 use crate::kind::Kind;
 use crate::output::{Content, Output};
-use crate::printed::{self, Slips};
 use crate::said;
+use crate::typed::{self, Slips};
 use cedunmi::Stop;
 
 pub fn run(arguments: &Arguments) -> Done {
@@ -17,7 +17,7 @@ pub fn run(arguments: &Arguments) -> Done {
         return Err(stopped(Stop::WrongLength, 1, &[&text]));
     }
     let output = Output::file(root, arguments.options, &[&text])?;
-    let typed = printed::parse(&text.bytes).map_err(|slips| match slips {
+    let typed = typed::parse(&text.bytes).map_err(|slips| match slips {
         Slips::Lines(lines) => Failure { status: SLIP, lines },
         Slips::Stopped(stop) => Failure::stopped(stop),
     })?;
