@@ -16,20 +16,6 @@ pub enum Kind {
 }
 
 impl Kind {
-    pub fn name(self) -> &'static str {
-        match self {
-            Kind::Volume => "volume",
-            Kind::Tree => "tree",
-            Kind::Marks => "marks file",
-            Kind::Root => "root",
-            Kind::Table => "table",
-            Kind::Sample => "sample",
-            Kind::Proof => "fault proof",
-            Kind::Message => "message",
-            Kind::Text => "typed root",
-        }
-    }
-
     /// The most bytes that one of this kind has, at any depth: nothing is read further than one byte more,
     /// which the call refuses like any longer file.
     pub fn most(self) -> usize {
@@ -38,18 +24,18 @@ impl Kind {
             Kind::Proof => Depth::MAX.output_bytes(),
             Kind::Message => MESSAGE_MAX,
             Kind::Text => 65_536,
-            _ => self.bytes(Depth::MAX).unwrap_or(0),
+            _ => self.sized(Depth::MAX).map_or(0, |(_, bytes)| bytes),
         }
     }
 
-    /// The bytes at a depth, where that fixes them.
-    fn bytes(self, depth: Depth) -> Option<usize> {
+    /// What it is called, and its bytes at a depth, where that fixes them.
+    fn sized(self, depth: Depth) -> Option<(&'static str, usize)> {
         match self {
-            Kind::Volume => Some(depth.block_bytes()),
-            Kind::Tree => Some(depth.tree_bytes()),
-            Kind::Marks => Some(depth.symbols()),
-            Kind::Root => Some(ROOT_BYTES),
-            Kind::Sample => Some(depth.sample_bytes()),
+            Kind::Volume => Some(("volume", depth.block_bytes())),
+            Kind::Tree => Some(("tree", depth.tree_bytes())),
+            Kind::Marks => Some(("marks file", depth.symbols())),
+            Kind::Root => Some(("root", ROOT_BYTES)),
+            Kind::Sample => Some(("sample", depth.sample_bytes())),
             Kind::Table | Kind::Proof | Kind::Message | Kind::Text => None,
         }
     }
@@ -71,8 +57,8 @@ impl Kind {
             }
             Kind::Root if len != ROOT_BYTES as u64 => Some(format!("a root has {ROOT_BYTES}")),
             _ => {
-                let bytes = self.bytes(depth).filter(|&bytes| bytes as u64 != len)?;
-                Some(format!("a {} of depth {} has {bytes}", self.name(), depth.layers()))
+                let (name, bytes) = self.sized(depth).filter(|(_, bytes)| *bytes as u64 != len)?;
+                Some(format!("a {name} of depth {} has {bytes}", depth.layers()))
             }
         }
     }

@@ -16,7 +16,6 @@ pub fn run(arguments: &Arguments) -> Done {
     let [depth, root, table, tree, marks, volume] = arguments.take()?;
     let mut reader = Reader::new(arguments.options.quiet);
     let attempt = Attempt::read(&mut reader, [depth, root, table, tree, marks])?;
-    let depth = decimal("DEPTH", depth)?;
     let output = Output::file(volume, arguments.options, &attempt.inputs())?;
     let after = attempt.repair()?;
     let status = answer::status_as_is(&after.repaired);
@@ -26,7 +25,8 @@ pub fn run(arguments: &Arguments) -> Done {
             "cedunmi check says more; read --unverified reads it unchecked: its bytes may be wrong",
         ));
     }
-    let bytes = cedunmi::read_block(depth, &after.tree, &after.marks).map_err(Failure::stopped)?;
+    let bytes =
+        cedunmi::read_block(attempt.depth, &after.tree, &after.marks).map_err(Failure::stopped)?;
     output.put(Content::File(&bytes))?;
     if status != 0 && !arguments.options.quiet {
         said::remark(&damaged(&after));

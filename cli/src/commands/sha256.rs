@@ -4,6 +4,7 @@ use super::Done;
 use crate::arguments::Arguments;
 use crate::input::{stopped, Reader};
 use crate::kind::Kind;
+use crate::printed::hex;
 use crate::said;
 use std::ffi::OsStr;
 use std::os::unix::ffi::OsStrExt;
@@ -23,7 +24,7 @@ fn line(digest: &[u8], name: &OsStr) -> Vec<u8> {
     if name.as_bytes().iter().any(|byte| b"\\\n\r".contains(byte)) {
         line.push(b'\\');
     }
-    digest.iter().for_each(|byte| line.extend(format!("{byte:02x}").bytes()));
+    line.extend(hex(digest).bytes());
     line.extend(b"  ");
     for byte in name.as_bytes() {
         match byte {
