@@ -1,4 +1,4 @@
--- The forms of the six functions that the code computes are those of section 4.1.2.
+-- The forms in which the code computes five of the six functions are those of section 4.1.2.
 use mathlib.Core.Path.{_≡_, refl, sym, ap, ap₂, _∙_, subst}
 use Prim.Native.Nat.{ℕ, _+_, _-_, _*_, _/_, _%_, _^_, _≤_, _<_}
 use native.Mathlib.Nat.{mod-lt, mul-mod-left, mul-comm, mul-assoc, add-mul, add-comm, add-mul-mod-self-right, add-mul-div-right}
@@ -6,7 +6,7 @@ use native.Mathlib.Omega.{arith}
 use lib.Arith.{digits-lt, mod-mul}
 use lib.Pow.{pow-add, pow-pos, shr-lt, shl-shr, shr-shr, mod-pow-add}
 use lib.Bits.{bitAnd, bitOr, bitXor, and-comm, and-mask, or-shifted-r, xor-add-and, xor-block, xor-shr, xor-mod, xor-lt}
-use Rattle.octets.proofs.Bits.{bitwise-equal, xor-half, xor-bit, and-half, and-bit, xor-assoc, and-xor}
+use Rattle.octets.proofs.Bits.{bitwise-equal, xor-half, xor-bit, and-half, and-bit, and-xor}
 use Rattle.sha256.specs.Words.{rotr, complement}
 use Rattle.sha256.specs.Functions.{ch, maj}
 
@@ -103,7 +103,7 @@ module _ (m n j x : ℕ) (e : m + n + j ≡ 32) (h : x < 2 ^ 32) where
       ap (λ v. v * 2 ^ j) (mod-pow-add x m n) ∙ add-mul (x / 2 ^ n % 2 ^ m * 2 ^ n) (x % 2 ^ n) (2 ^ j)
       ∙ ap (λ v. v + x % 2 ^ n * 2 ^ j) (mul-assoc (x / 2 ^ n % 2 ^ m) (2 ^ n) (2 ^ j) ∙ ap (λ v. x / 2 ^ n % 2 ^ m * v) (sym (pow-add 2 n j)))
 
-  pub rotr-rotr : rotr m (rotr n x) ≡ rotr (m + n) x
+  rotr-rotr : rotr m (rotr n x) ≡ rotr (m + n) x
   rotr-rotr =
       let kn : 32 - n ≡ m + j = omega arith in
       let km : 32 - m ≡ n + j = omega arith in
@@ -119,22 +119,8 @@ module _ (m n j x : ℕ) (e : m + n + j ≡ 32) (h : x < 2 ^ 32) where
       ap (rotr m) one ∙ two ∙ ap₂ (λ u v. u * 2 ^ (n + j) + v) once-low once-high
       ∙ omega (arith, both-low, same) ∙ sym both
 
--- three rotations of one word, nested: a, a + b and a + b + c bits
-pub rotr-nested : (a b c x : ℕ) → a + b + c ≤ 32 → x < 2 ^ 32
-    → rotr a (bitXor x (rotr b (bitXor x (rotr c x)))) ≡ bitXor (bitXor (rotr a x) (rotr (a + b) x)) (rotr (a + b + c) x)
-rotr-nested a b c x l h =
-    let ha : a ≤ 32 = omega arith in
-    let hb : b ≤ 32 = omega arith in
-    let hc : rotr c x < 2 ^ 32 = rotr-lt c (omega arith) x h in
-    let hbc : rotr (b + c) x < 2 ^ 32 = rotr-lt (b + c) (omega arith) x h in
-    let hbx : rotr b x < 2 ^ 32 = rotr-lt b hb x h in
-    let inner : rotr b (bitXor x (rotr c x)) ≡ bitXor (rotr b x) (rotr (b + c) x) =
-    rotr-xor b hb x (rotr c x) h hc ∙ ap (bitXor (rotr b x)) (rotr-rotr b c (32 - (b + c)) x (omega arith) h) in
-    let outer : rotr a (bitXor (rotr b x) (rotr (b + c) x)) ≡ bitXor (rotr (a + b) x) (rotr (a + b + c) x) =
-    rotr-xor a ha (rotr b x) (rotr (b + c) x) hbx hbc
-    ∙ ap₂ bitXor (rotr-rotr a b (32 - (a + b)) x (omega arith) h)
-    (rotr-rotr a (b + c) (32 - (a + (b + c))) x (omega arith) h ∙ ap (λ v. rotr v x) (omega arith)) in
-    ap (λ v. rotr a (bitXor x v)) inner
-    ∙ rotr-xor a ha x (bitXor (rotr b x) (rotr (b + c) x)) h (xor-lt 32 (rotr b x) (rotr (b + c) x) hbx hbc)
-    ∙ ap (bitXor (rotr a x)) outer
-    ∙ sym (xor-assoc (rotr a x) (rotr (a + b) x) (rotr (a + b + c) x))
+-- two rotations of one word, nested: a and a + b bits
+pub rotr-nested : (a b x : ℕ) → a + b ≤ 32 → x < 2 ^ 32 → rotr a (bitXor x (rotr b x)) ≡ bitXor (rotr a x) (rotr (a + b) x)
+rotr-nested a b x l h =
+    rotr-xor a (omega arith) x (rotr b x) h (rotr-lt b (omega arith) x h)
+    ∙ ap (bitXor (rotr a x)) (rotr-rotr a b (32 - (a + b)) x (omega arith) h)

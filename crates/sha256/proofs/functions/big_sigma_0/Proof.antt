@@ -1,11 +1,8 @@
--- `big_sigma_0` meets its contract: three rotations nested are those of (4.4).
-use mathlib.Core.Path.{ap, _∙_}
-use native.Mathlib.Omega.{arith}
+-- `big_sigma_0` meets its contract, (4.4).
+use mathlib.Core.Path.{ap₂}
 use lib.Bits.{bitXor}
 use borrow.Author.Needs.{needs}
 use Rattle.sha256.specs.Functions.{bigSigma0}
-use Rattle.sha256.specs.Words.{rotr}
-use Rattle.sha256.proofs.BitForms.{rotr-nested}
 use Rattle.sha256.proofs.functions.big_sigma_0.Statement.{statement}
 use Rattle.sha256.proofs.functions.big_sigma_0.Tie as tie
 
@@ -20,10 +17,7 @@ rotr-requires-3 c κs = search needs
 
 returns : tie.Need-returns
 unfolding bigSigma0
-returns c =
-    c .rotr3 .ensures ∙ ap (λ v. rotr 2 (bitXor (c .before .before .before .args .x) v))
-    (c .before .rotr2 .ensures ∙ ap (λ v. rotr 11 (bitXor (c .before .before .before .args .x) v)) (c .before .before .rotr .ensures))
-    ∙ rotr-nested 2 11 9 (c .before .before .before .args .x) (omega arith) (omega arith)
+returns c = ap₂ bitXor (ap₂ bitXor (c .before .before .rotr .ensures) (c .before .rotr2 .ensures)) (c .rotr3 .ensures)
 
 pub big-sigma-0-spec : {M : Type 1} → statement M
 big-sigma-0-spec = tie.close (tie.spec rotr-requires rotr-requires-2 rotr-requires-3 returns)

@@ -1,8 +1,9 @@
--- `big_sigma_1` meets its contract: three rotations nested are those of (4.5).
-use mathlib.Core.Path.{ap, _∙_}
+-- `big_sigma_1` meets its contract, (4.5): its last two rotations nested are the standard's.
+use mathlib.Core.Path.{sym, ap, ap₂, _∙_}
 use native.Mathlib.Omega.{arith}
 use lib.Bits.{bitXor}
 use borrow.Author.Needs.{needs}
+use Rattle.octets.proofs.Bits.{xor-assoc}
 use Rattle.sha256.specs.Functions.{bigSigma1}
 use Rattle.sha256.specs.Words.{rotr}
 use Rattle.sha256.proofs.BitForms.{rotr-nested}
@@ -21,9 +22,9 @@ rotr-requires-3 c κs = search needs
 returns : tie.Need-returns
 unfolding bigSigma1
 returns c =
-    c .rotr3 .ensures ∙ ap (λ v. rotr 6 (bitXor (c .before .before .before .args .x) v))
-    (c .before .rotr2 .ensures ∙ ap (λ v. rotr 5 (bitXor (c .before .before .before .args .x) v)) (c .before .before .rotr .ensures))
-    ∙ rotr-nested 6 5 14 (c .before .before .before .args .x) (omega arith) (omega arith)
+    let x = c .before .before .before .args .x in
+    ap₂ bitXor (c .before .before .rotr .ensures) (c .rotr3 .ensures ∙ ap (λ v. rotr 11 (bitXor x v)) (c .before .rotr2 .ensures) ∙ rotr-nested 11 14 x (omega arith) (omega arith))
+    ∙ sym (xor-assoc (rotr 6 x) (rotr 11 x) (rotr 25 x))
 
 pub big-sigma-1-spec : {M : Type 1} → statement M
 big-sigma-1-spec = tie.close (tie.spec rotr-requires rotr-requires-2 rotr-requires-3 returns)
