@@ -9,19 +9,19 @@ use lib.Seq.{sets, take-suc, take-all}
 use Rattle.octets.specs.BigEndian.{be, bytesOf}
 use Rattle.octets.proofs.Bytes.{length-be, length-bytesOf}
 use Rattle.octets.proofs.Stores.{take-sets}
-use Rattle.sha256.specs.Constants.{initial}
 use Rattle.sha256.specs.Padding.{pad}
-use Rattle.sha256.specs.Hash.{added, compress, hashed, sha256}
+use Rattle.sha256.specs.Initial.{initial}
+use Rattle.sha256.specs.Hash.{intermediateHash, compress, processed, sha256}
 
-length-hashed : (p : List ℕ) (n : ℕ) → length (hashed p n) ≡ 8
-unfolding hashed initial compress added
-length-hashed p zero = refl
-length-hashed p (suc n) = refl
+length-processed : (p : List ℕ) (n : ℕ) → length (processed initial p n) ≡ 8
+unfolding processed initial compress intermediateHash
+length-processed p zero = refl
+length-processed p (suc n) = refl
 
 -- a digest has 32 bytes
 pub length-sha256 : (m : List ℕ) → length (sha256 m) ≡ 32
 unfolding sha256
-length-sha256 m = length-bytesOf _ ∙ ap (λ n. n * 4) (length-hashed (pad m) (length (pad m) / 64))
+length-sha256 m = length-bytesOf _ ∙ ap (λ n. n * 4) (length-processed (pad m) (length (pad m) / 64))
 
 bytesOf-snoc : (xs : List ℕ) (x : ℕ) → bytesOf (xs ++ (x ∷ [])) ≡ bytesOf xs ++ be 4 x
 unfolding bytesOf
@@ -41,6 +41,6 @@ put-more h out out′ i hi ho e eo =
 pub put-all : (h out : List ℕ) (i : ℕ) → i ≡ 8 → length h ≡ 8 → length out ≡ 32 → take (i * 4) out ≡ bytesOf (take i h) → out ≡ bytesOf h
 put-all h out i ei lh lo e = sym (take-all 32 out (omega arith)) ∙ rw ei at e ∙ ap bytesOf (take-all 8 h (omega arith))
 
-pub sha256-is : (m h out : List ℕ) → h ≡ hashed (pad m) (length (pad m) / 64) → out ≡ bytesOf h → out ≡ sha256 m
+pub sha256-is : (m h out : List ℕ) → h ≡ processed initial (pad m) (length (pad m) / 64) → out ≡ bytesOf h → out ≡ sha256 m
 unfolding sha256
 sha256-is m h out eh eo = rw (eo, eh)

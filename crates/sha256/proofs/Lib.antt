@@ -1,8 +1,11 @@
 pub mod BitForms
-pub mod Runs
-pub mod RoundLaws
-pub mod ScheduleLaws
 pub mod PaddingLaws
+pub mod ParsingLaws
+pub mod Runs
+pub mod ScheduleLaws
+pub mod RoundLaws
+pub mod CompressionLaws
+pub mod HashLaws
 pub mod DigestLaws
 pub mod CallLaws
 pub mod Vectors

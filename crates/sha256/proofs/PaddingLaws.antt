@@ -1,37 +1,23 @@
--- The padded message and its last blocks.
+-- The padded message, and its end after the message's whole blocks.
 use mathlib.Core.Path.{_≡_, refl, sym, ap, ap₂, _∙_}
 use mathlib.Core.List.{List, [], _∷_, _++_, append-assoc, append-nil}
 use Prim.Native.Nat.{ℕ, suc, _+_, _-_, _*_, _/_, _%_, _^_, _≤_, _<_}
 use native.Mathlib.Omega.{arith}
-use native.Mathlib.Numerals.{add-one}
-use lib.ListN.{length, take, drop, set, replicate, length-append, length-replicate, length-drop, replicate-append-replicate, drop-of-length-le}
-use lib.Seq.{sets, sets-eq, take-append-le, drop-append-le, take-all, take-take, take-at, drop-at, drop-drop, set-at, take-length, paste}
+use lib.ListN.{length, take, drop, set, replicate, length-append, length-replicate, length-drop, replicate-append-replicate}
+use lib.Seq.{sets, drop-append-le, take-at, drop-at, set-at, take-length, paste}
 use Rattle.octets.specs.BigEndian.{be}
 use Rattle.octets.proofs.Bytes.{length-be}
-use Rattle.sha256.specs.Padding.{pad, block}
-use Rattle.sha256.specs.Hash.{compress, hashed}
+use Rattle.octets.proofs.Stores.{take-sets}
+use Rattle.sha256.specs.Padding.{pad}
 
 pub length-pad : (m : List ℕ) → length (pad m) ≡ (length m + 72) / 64 * 64
 unfolding pad
 length-pad m = simp (length-append, length-replicate, length-be) (omega arith)
 
--- ---- whole blocks
-
-pub hashed-more : (p s r : List ℕ) (i : ℕ) → s ≡ hashed p i → r ≡ compress s (block p i) → r ≡ hashed p (i + 1)
-unfolding hashed
-hashed-more p s r i es er = rw (add-one, er, es)
-
-pub hashed-whole : (m s r : List ℕ) (i : ℕ) → i * 64 + 64 ≤ length m → s ≡ hashed (pad m) i
-    → r ≡ compress s (take 64 (drop (i * 64) m)) → r ≡ hashed (pad m) (i + 1)
-unfolding pad block
-hashed-whole m s r i h es er =
-    hashed-more (pad m) s r i es
-    (er ∙ ap (compress s) (sym (ap (take 64) (drop-append-le (i * 64) m _ (omega arith)) ∙ take-append-le 64 (drop (i * 64) m) _ (rw length-drop (omega arith)))))
-
--- ---- the block with the message's rest
+-- ---- the message's rest, and what follows it
 
 -- x, the byte 0x80, and z zeros
-abbrev pub closed : List ℕ → ℕ → List ℕ
+abbrev closed : List ℕ → ℕ → List ℕ
 closed x z = x ++ (0x80 ∷ replicate z 0)
 
 length-closed : (x : List ℕ) (z : ℕ) → length (closed x z) ≡ length x + suc z
@@ -50,16 +36,22 @@ unfolding pad
 pad-rest m at z h e =
     drop-append-le at m _ h ∙ ap (λ v. drop at m ++ (0x80 ∷ (replicate v 0 ++ be 8 (length m * 8)))) e
 
--- the rest copied into a block of zeros, and the byte 0x80 after it
-pub closed-copy : (x b : List ℕ) (n : ℕ) → length x ≡ n → n < 64 → b ≡ paste (replicate 64 0) 0 x (length x) → set b n 0x80 ≡ closed x (63 - n)
+-- the rest copied into zeros, and the byte 0x80 after it
+closed-copy : (x b : List ℕ) (n : ℕ) → length x ≡ n → n < 128 → b ≡ paste (replicate 128 0) 0 x (length x) → set b n 0x80 ≡ closed x (127 - n)
 closed-copy x b n l h e =
     let k : 0 + length x ≡ n = omega arith in
-    let s : 64 ≡ n + (64 - n) = omega arith in
-    let t : 64 - n ≡ suc (63 - n) = omega arith in
-    let zeros : drop {A = ℕ} (0 + length x) (replicate 64 0) ≡ 0 ∷ replicate (63 - n) 0 =
-    ap₂ (λ u v. drop {A = ℕ} u (replicate v 0)) k s ∙ ap (drop n) (sym (replicate-append-replicate n (64 - n) 0))
-    ∙ drop-at (replicate n 0) (replicate (64 - n) 0) n (length-replicate n 0) ∙ ap (λ u. replicate {A = ℕ} u 0) t in
-    ap (λ u. set u n 0x80) (e ∙ ap₂ _++_ (take-length x) zeros) ∙ set-at x 0 (replicate (63 - n) 0) 0x80 n l
+    let s : 128 ≡ n + (128 - n) = omega arith in
+    let t : 128 - n ≡ suc (127 - n) = omega arith in
+    let zeros : drop {A = ℕ} (0 + length x) (replicate 128 0) ≡ 0 ∷ replicate (127 - n) 0 =
+    ap₂ (λ u v. drop {A = ℕ} u (replicate v 0)) k s ∙ ap (drop n) (sym (replicate-append-replicate n (128 - n) 0))
+    ∙ drop-at (replicate n 0) (replicate (128 - n) 0) n (length-replicate n 0) ∙ ap (λ u. replicate {A = ℕ} u 0) t in
+    ap (λ u. set u n 0x80) (e ∙ ap₂ _++_ (take-length x) zeros) ∙ set-at x 0 (replicate (127 - n) 0) 0x80 n l
+
+-- its front, with y zeros of y + z
+closed-front : (x : List ℕ) (y z : ℕ) → take (length x + suc y) (closed x (y + z)) ≡ closed x y
+closed-front x y z =
+    ap (λ v. take (length x + suc y) (x ++ (0x80 ∷ v))) (sym (append-nil (replicate (y + z) 0)))
+    ∙ ap (take (length x + suc y)) (closed-append x [] y z) ∙ take-at (closed x y) _ (length x + suc y) (length-closed x y)
 
 -- ---- the last eight bytes
 
@@ -72,97 +64,52 @@ be-8 x h =
     let e4 : x / 2 ^ 32 % 256 ≡ 0 = omega arith in
     rw (e7, e6, e5, e4)
 
-pub length-stored : (b u v : List ℕ) (x : ℕ) → x < 2 ^ 32 → length b ≡ 64 → u ≡ sets b 56 (be 4 0) → v ≡ sets u 60 (be 4 x)
-    → v ≡ take 56 b ++ be 8 x
-unfolding be
-length-stored b u v x h l eu ev =
-    ev ∙ ap (λ w. sets w 60 (be 4 x)) eu ∙ sets-eq (0 ∷ 0 ∷ 0 ∷ 0 ∷ be 4 x) b 56 (omega arith)
-    ∙ ap (λ w. (take 56 b ++ (0 ∷ 0 ∷ 0 ∷ 0 ∷ be 4 x)) ++ w) (drop-of-length-le b {i = 64} (omega arith))
-    ∙ append-nil _ ∙ ap (λ w. take 56 b ++ w) (sym (be-8 x h))
+-- four zeros more, and a word
+closed-length : (x : List ℕ) (z v : ℕ) → v < 2 ^ 32 → closed x (z + 4) ++ be 4 v ≡ x ++ (0x80 ∷ (replicate z 0 ++ be 8 v))
+closed-length x z v h =
+    append-assoc x (0x80 ∷ replicate (z + 4) 0) (be 4 v)
+    ∙ ap (λ u. x ++ (0x80 ∷ (u ++ be 4 v))) (sym (replicate-append-replicate z 4 0))
+    ∙ ap (λ u. x ++ (0x80 ∷ u)) (append-assoc (replicate z 0) (replicate 4 0) (be 4 v) ∙ ap (λ u. replicate z 0 ++ u) (sym (be-8 v h)))
 
--- ---- the blocks after the whole ones
+-- ---- the end of the padded message
 
-module _ (m : List ℕ) (n : ℕ) (en : n ≡ length m / 64) where
-  rest : List ℕ
-  rest = drop (n * 64) m
+-- the buffer: two blocks of zeros, and a word in it
+pub buffer-length : (b : List ℕ) → b ≡ replicate 128 0 → length b ≡ 128
+buffer-length b e = ap length e ∙ length-replicate {A = ℕ} 128 0
 
-  length-rest : length rest ≡ length m % 64
-  unfolding rest
-  length-rest = rw length-drop (omega arith)
+pub in-buffer : (b : List ℕ) (at : ℕ) → length b ≡ 128 → at + 4 ≤ 128 → at + 4 ≤ length b
+in-buffer b at l h = omega arith
 
-  -- a rest below 56 bytes: one block
-  pub one-block : (b : List ℕ) → length m % 64 < 56 → b ≡ take 56 (closed (drop (n * 64) m) (63 - length m % 64)) ++ be 8 (length m * 8)
-      → b ≡ block (pad m) n
-  unfolding rest block
-  one-block b h e =
-      let r : length (drop (n * 64) m) ≡ length m % 64 = length-rest in
-      let x = drop (n * 64) m in
-      let z = 55 - length m % 64 in
-      let lc : length (closed x z) ≡ 56 = rw length-closed (omega arith) in
-      let k : 63 - length m % 64 ≡ z + 8 = omega arith in
-      let front : take 56 (closed x (63 - length m % 64)) ≡ closed x z =
-      ap (λ v. take 56 (closed x v)) k
-      ∙ ap (λ v. take 56 (x ++ (0x80 ∷ v))) (sym (append-nil (replicate (z + 8) 0)))
-      ∙ ap (take 56) (closed-append x [] z 8) ∙ take-at (closed x z) _ 56 lc in
-      let all : drop (n * 64) (pad m) ≡ closed x z ++ be 8 (length m * 8) =
-      pad-rest m (n * 64) z (omega arith) (omega arith) ∙ sym (append-assoc x (0x80 ∷ replicate z 0) _) in
-      let la : length (closed x z ++ be 8 (length m * 8)) ≡ 64 = rw length-append (omega (arith, lc, length-be 8 (length m * 8))) in
-      e ∙ ap (λ v. v ++ be 8 (length m * 8)) front ∙ sym (take-all 64 _ (omega arith)) ∙ sym (ap (take 64) all)
+module _ (m : List ℕ) where
+  abbrev whole : ℕ
+  whole = length m / 64 * 64
 
-  -- a longer rest: two blocks
-  module _ (h : 56 ≤ length m % 64) where
-    two : drop (n * 64) (pad m) ≡ closed rest (63 - length m % 64) ++ (replicate 56 0 ++ be 8 (length m * 8))
-    unfolding rest
-    two =
-        let k : (119 - length m % 64) % 64 ≡ (63 - length m % 64) + 56 = omega arith in
-        pad-rest m (n * 64) _ (omega arith) k ∙ closed-append (drop (n * 64) m) (be 8 (length m * 8)) (63 - length m % 64) 56
+  pub end-blocks : (length m % 64 + 72) / 64 ≡ length (pad m) / 64 - length m / 64
+  end-blocks = omega (arith, length-pad m)
 
-    length-first : length (closed rest (63 - length m % 64)) ≡ 64
-    length-first = rw length-closed (omega (arith, length-rest))
+  -- the bytes of the end
+  abbrev size : ℕ
+  size = (length m % 64 + 72) / 64 * 64
 
-    pub first-block : (b : List ℕ) → b ≡ closed (drop (n * 64) m) (63 - length m % 64) → b ≡ block (pad m) n
-    unfolding rest block
-    first-block b e = e ∙ sym (ap (take 64) two ∙ take-at _ _ 64 length-first)
+  sized-end : (b c d : List ℕ) (n : ℕ) → length m * 8 < 2 ^ 32 → n ≡ length m - whole → b ≡ paste (replicate 128 0) 0 (drop whole m) (length (drop whole m))
+      → c ≡ set b n 0x80 → d ≡ sets c (size - 4) (be 4 (length m * 8)) → take (length (pad m) - whole) d ≡ drop whole (pad m)
+  sized-end b c d n h en eb ec ed =
+      let x = drop whole m in
+      let l : length x ≡ n = length-drop whole m ∙ sym en in
+      let z = (119 - length m % 64) % 64 in
+      let closes : c ≡ closed x (127 - n) = ec ∙ closed-copy x b n l (omega arith) eb in
+      let lc : length c ≡ 128 = ap length closes ∙ length-closed x (127 - n) ∙ omega arith in
+      let lb : length (be 4 (length m * 8)) ≡ 4 = length-be 4 (length m * 8) in
+      let k : length (pad m) - whole ≡ size - 4 + length (be 4 (length m * 8)) = omega (arith, length-pad m, lb) in
+      let f : size - 4 ≡ length x + suc (z + 4) = omega (arith, l) in
+      let g : 127 - n ≡ z + 4 + (127 - n - (z + 4)) = omega arith in
+      ap₂ take k ed ∙ take-sets c (be 4 (length m * 8)) (size - 4) (omega (arith, lb, lc))
+      ∙ ap (λ u. u ++ be 4 (length m * 8)) (ap₂ take f (closes ∙ ap (closed x) g) ∙ closed-front x (z + 4) (127 - n - (z + 4)))
+      ∙ closed-length x z (length m * 8) h ∙ sym (pad-rest m whole z (omega arith) refl)
 
-    pub second-block : (b : List ℕ) → b ≡ replicate 56 0 ++ be 8 (length m * 8) → b ≡ block (pad m) (n + 1)
-    unfolding rest block
-    second-block b e =
-        let k : (n + 1) * 64 ≡ n * 64 + 64 = omega arith in
-        let d : drop ((n + 1) * 64) (pad m) ≡ replicate 56 0 ++ be 8 (length m * 8) =
-        ap (λ v. drop v (pad m)) k ∙ sym (drop-drop 64 (n * 64) (pad m)) ∙ ap (drop 64) two
-        ∙ drop-at (closed rest (63 - length m % 64)) (replicate 56 0 ++ be 8 (length m * 8)) 64 length-first in
-        let l : length (replicate 56 0 ++ be 8 (length m * 8)) ≡ 64 = rw (length-append, length-replicate) (omega (arith, length-be 8 (length m * 8))) in
-        e ∙ sym (take-all 64 _ (omega arith)) ∙ sym (ap (take 64) d)
-
--- ---- the hash value after the last block
-
--- a block that is lent whole
-whole-block : (p b : List ℕ) (i : ℕ) → b ≡ block p i → take 64 b ≡ block p i
-unfolding block
-whole-block p b i e = ap (take 64) e ∙ take-take 64 64 (drop (i * 64) p) (omega arith)
-
-hashed-next : (p s r b : List ℕ) (i : ℕ) → s ≡ hashed p i → b ≡ block p i → r ≡ compress s (take 64 b) → r ≡ hashed p (i + 1)
-hashed-next p s r b i es eb er = hashed-more p s r i es (er ∙ ap (compress s) (whole-block p b i eb))
-
-module _ (m s b : List ℕ) (es : s ≡ hashed (pad m) (length m / 64))
-    (eb : b ≡ closed (drop (length m / 64 * 64) m) (63 - (length m - length m / 64 * 64))) where
-  closed-rest : b ≡ closed (drop (length m / 64 * 64) m) (63 - length m % 64)
-  closed-rest = let k : length m - length m / 64 * 64 ≡ length m % 64 = omega arith in rw k at eb
-
-  pub hashed-one : (v r : List ℕ) → length m - length m / 64 * 64 < 56 → v ≡ take 56 b ++ be 8 (length m * 8) → r ≡ compress s (take 64 v)
-      → r ≡ hashed (pad m) (length (pad m) / 64)
-  hashed-one v r h ev er =
-      let k : length m / 64 + 1 ≡ length (pad m) / 64 = omega (arith, length-pad m) in
-      hashed-next (pad m) s r v (length m / 64) es
-      (one-block m (length m / 64) refl v (omega arith) (ev ∙ ap (λ u. take 56 u ++ be 8 (length m * 8)) closed-rest)) er
-      ∙ ap (hashed (pad m)) k
-
-  pub hashed-two : (t v r : List ℕ) → 56 ≤ length m - length m / 64 * 64 → t ≡ compress s (take 64 b)
-      → v ≡ replicate 56 0 ++ be 8 (length m * 8) → r ≡ compress t (take 64 v) → r ≡ hashed (pad m) (length (pad m) / 64)
-  hashed-two t v r h et ev er =
-      let k : length m / 64 + 1 + 1 ≡ length (pad m) / 64 = omega (arith, length-pad m) in
-      let g : 56 ≤ length m % 64 = omega arith in
-      hashed-next (pad m) t r v (length m / 64 + 1)
-      (hashed-next (pad m) s t b (length m / 64) es (first-block m (length m / 64) refl g b closed-rest) et)
-      (second-block m (length m / 64) refl g v ev) er
-      ∙ ap (hashed (pad m)) k
+  -- the rest in a buffer of zeros, the byte 0x80 after it, and the length in the last word of the e blocks
+  pub end-is : (b c d : List ℕ) (n e : ℕ) → length m * 8 < 2 ^ 32 → n ≡ length m - whole → e ≡ length (pad m) / 64 - length m / 64
+      → b ≡ paste (replicate 128 0) 0 (drop whole m) (length (drop whole m)) → c ≡ set b n 0x80 → d ≡ sets c (e * 64 - 4) (be 4 (length m * 8))
+      → take (length (pad m) - whole) d ≡ drop whole (pad m)
+  end-is b c d n e h en ee eb ec ed =
+      sized-end b c d n h en eb ec (ed ∙ ap (λ v. sets c (v * 64 - 4) (be 4 (length m * 8))) (ee ∙ sym end-blocks))

@@ -1,43 +1,27 @@
--- The message schedule, word by word.
-use mathlib.Core.Path.{_≡_, refl, sym, ap, ap₂, _∙_}
+-- Step 1: the message schedule, word by word.
+use mathlib.Core.Path.{_≡_, sym, ap, ap₂, _∙_}
 use mathlib.Core.List.{List, [], _∷_, _++_}
-use Prim.Native.Nat.{ℕ, zero, suc, _+_, _-_, _*_, _≤_, _<_}
+use Prim.Native.Nat.{ℕ, zero, suc, _+_, _-_, _≤_, _<_}
 use native.Mathlib.Nat.{zero-add, add-zero, suc-add, add-suc}
 use native.Mathlib.Omega.{arith}
 use native.Mathlib.Numerals.{add-one}
-use lib.ListN.{length, getD, take, drop, set}
-use lib.Seq.{getD-take, getD-drop, take-suc-set, take-all}
-use Rattle.octets.specs.BigEndian.{wordAt, words}
+use lib.ListN.{length, getD, take, set}
+use lib.Seq.{getD-take, take-suc, take-all}
 use Rattle.sha256.specs.Words.{_⊞_}
 use Rattle.sha256.specs.Functions.{smallSigma0, smallSigma1}
-use Rattle.sha256.specs.Hash.{nextWord, extended, schedule}
+use Rattle.sha256.specs.Hash.{nextWord, extended, messageSchedule}
+use Rattle.sha256.proofs.ParsingLaws.{take-more}
 use Rattle.sha256.proofs.Runs.{more}
 
--- ---- the block's sixteen words
+-- ---- W_0 to W_15
 
-in-block : (m : List ℕ) (at i n : ℕ) → i < 64 → n ≡ at + i → getD (take 64 (drop at m)) i 0 ≡ getD m n 0
-in-block m at i n h e = getD-take 64 (drop at m) i 0 h ∙ getD-drop at m i 0 ∙ ap (λ k. getD m k 0) (sym e)
+-- a word of the block more
+pub copied-more : (m w : List ℕ) (t v : ℕ) → t < length m → t < length w → take t w ≡ take t m → v ≡ getD m t 0
+    → take (t + 1) (set w t v) ≡ take (t + 1) m
+copied-more m w t v hm hw e ev =
+    take-more w t v hw ∙ ap₂ (λ x y. x ++ (y ∷ [])) e ev ∙ sym (ap (λ k. take k m) (add-one t) ∙ take-suc m t 0 hm)
 
-wordAt-block : (m : List ℕ) (at i : ℕ) → i + 4 ≤ 64 → wordAt (take 64 (drop at m)) i ≡ wordAt m (at + i)
-unfolding wordAt
-wordAt-block m at i h =
-    rw (
-      in-block m at i (at + i) (omega arith) refl,
-      in-block m at (i + 1) (at + i + 1) (omega arith) (omega arith),
-      in-block m at (i + 2) (at + i + 2) (omega arith) (omega arith),
-      in-block m at (i + 3) (at + i + 3) (omega arith) (omega arith),
-    )
-
-pub take-more : (w : List ℕ) (t v : ℕ) → t < length w → take (t + 1) (set w t v) ≡ take t w ++ (v ∷ [])
-take-more w t v h = rw (add-one, take-suc-set)
-
-pub words-more : (m w : List ℕ) (at t v : ℕ) → t < 16 → length w ≡ 64 → take t w ≡ words (take 64 (drop at m)) t → v ≡ wordAt m (at + t * 4)
-    → take (t + 1) (set w t v) ≡ words (take 64 (drop at m)) (t + 1)
-unfolding words
-words-more m w at t v h l e ev =
-    take-more w t v (omega arith) ∙ rw (add-one, e, ev, wordAt-block m at (t * 4) (omega arith))
-
--- ---- the words after them
+-- ---- W_16 to W_63
 
 next-take : (w : List ℕ) (t : ℕ) → 16 ≤ t
     → nextWord (take t w) t
@@ -70,6 +54,6 @@ extended-two w x y t ex ey =
     let e : t + 2 ≡ t + 1 + 1 = omega arith in
     ap (λ k. take k y) e ∙ more (λ t n v. extended v t n) extended-split t 1 1 ex ey
 
-pub schedule-is : (w b : List ℕ) → length w ≡ 64 → take 64 w ≡ extended (words b 16) 16 48 → w ≡ schedule b
-unfolding schedule
-schedule-is w b l e = sym (take-all 64 w (omega arith)) ∙ e
+pub schedule-is : (w m : List ℕ) → length w ≡ 64 → take 64 w ≡ extended m 16 48 → w ≡ messageSchedule m
+unfolding messageSchedule
+schedule-is w m l e = sym (take-all 64 w (omega arith)) ∙ e

@@ -1,10 +1,15 @@
-// SHA-256, as FIPS 180-4 has it, of a message of 0 to 1,048,576 bytes.
-mod functions; // section 4.1.2
-mod constants; // section 4.2.2
-mod schedule; // section 6.2.2, step 1
-mod rounds; // section 6.2.2, step 3
-mod state; // section 6.2.2: the hash value, and a block taken in
-mod padding; // sections 5.1.1 and 6.2.2: all blocks of a message
+// SHA-256, as FIPS 180-4 has it, of a message of 0 to 1,048,576 bytes. The modules stand in the order of the standard's sections.
+mod functions; // 4.1.2: the six functions
+mod constants; // 4.2.2: the sixty-four constants
+mod padding; // 5.1.1: padding the message
+mod parsing; // 5.2.1: parsing the message
+mod state; // 5.3.3: the initial hash value
+mod schedule; // 6.2.2, step 1: the message schedule
+mod variables; // 6.2.2, step 2: the working variables
+mod rounds; // 6.2.2, step 3: the sixty-four rounds
+mod intermediate; // 6.2.2, step 4: the intermediate hash value
+mod compression; // 6.2.2: the four steps on a block
+mod hash; // 6.2.2: all blocks of a message, and the digest
 
 ghost use mathlib.Core.Path.{_≡_};
 ghost use Rattle.sha256.specs.Call.{answer, after};
@@ -31,6 +36,6 @@ pub fn digest(message: &[u8], digest: &mut [u8]) -> Answer
     if digest.len() != 32 {
         return Answer::Length;
     }
-    state::put(padding::hash(message), digest);
+    hash::put_digest(hash::hash(message), digest);
     Answer::Done
 }

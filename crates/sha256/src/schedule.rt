@@ -1,18 +1,28 @@
-// FIPS 180-4, section 6.2.2, step 1: the message schedule. Each step takes the schedule whole and returns it whole; the steps stand at
-// literal indexes, where the compiler keeps the schedule in place and copies nothing (docs/DECISIONS.md, "Handed on whole").
+// FIPS 180-4, section 6.2.2, step 1: the message schedule. It is handed on whole from word to word; the words stand at literal indexes, where
+// the compiler keeps it in place and copies nothing (docs/DECISIONS.md, "Handed on whole"), and are put together by `extended-split`.
 use crate::functions::small_sigma_0;
 use crate::functions::small_sigma_1;
 use std::num::wrapping_add_u32;
 ghost use mathlib.Core.Path.{_≡_};
 ghost use Prim.Native.Nat.{_+_, _≤_, _<_};
-ghost use lib.ListN.{length, take, drop};
-ghost use Rattle.octets.specs.BigEndian.{words};
+ghost use lib.ListN.{take};
 ghost use Rattle.sha256.specs.Words.{_⊞_};
 ghost use Rattle.sha256.specs.Functions.{smallSigma0, smallSigma1};
-ghost use Rattle.sha256.specs.Hash.{extended, schedule as sSchedule};
+ghost use Rattle.sha256.specs.Hash.{extended, messageSchedule};
 
-// W_t from the words 16, 15, 7 and 2 before it.
-fn next(w16: u32, w15: u32, w7: u32, w2: u32) -> u32
+// W_t = M_t, for 0 ≤ t ≤ 15.
+fn first_words(m: [u32; 16]) -> [u32; 64]
+    ensures { λ r. ⌜ take 16 r ≡ m ⌝ }
+{
+    let mut w = [0u32; 64];
+    for t in 0..16usize {
+        w[t] = m[t];
+    }
+    w
+}
+
+// W_t, for 16 ≤ t ≤ 63, from W_t-2, W_t-7, W_t-15 and W_t-16.
+fn next(w2: u32, w7: u32, w15: u32, w16: u32) -> u32
     ensures { λ r. ⌜ r ≡ smallSigma1 w2 ⊞ w7 ⊞ smallSigma0 w15 ⊞ w16 ⌝ }
 {
     wrapping_add_u32(
@@ -27,7 +37,7 @@ fn extended_once(w: [u32; 64], t: usize) -> [u32; 64]
     ensures { λ r. ⌜ take (t + 1) r ≡ extended (take t w) t 1 ⌝ }
 {
     let mut v = w;
-    v[t] = next(w[t - 16], w[t - 15], w[t - 7], w[t - 2]);
+    v[t] = next(w[t - 2], w[t - 7], w[t - 15], w[t - 16]);
     v
 }
 
@@ -36,18 +46,6 @@ fn extended_twice(w: [u32; 64], t: usize) -> [u32; 64]
     ensures { λ r. ⌜ take (t + 2) r ≡ extended (take t w) t 2 ⌝ }
 {
     extended_once(extended_once(w, t), t + 1)
-}
-
-// The block's sixteen words, in front.
-fn begun(m: &[u8], at: usize) -> [u32; 64]
-    requires { ⌜ at + 64 ≤ length (now m) ⌝ }
-    ensures { λ r. ⌜ take 16 r ≡ words (take 64 (drop at (now (m .entry)))) 16 ⌝ }
-{
-    let mut w = [0u32; 64];
-    for t in 0..16usize {
-        w[t] = octets::word_at(m, at + t * 4);
-    }
-    w
 }
 
 fn extended_to_32(w: [u32; 64]) -> [u32; 64]
@@ -92,10 +90,9 @@ fn extended_to_64(w: [u32; 64]) -> [u32; 64]
     w
 }
 
-// The schedule of the block of m that starts at byte at.
-pub fn schedule(m: &[u8], at: usize) -> [u32; 64]
-    requires { ⌜ at + 64 ≤ length (now m) ⌝ }
-    ensures { λ r. ⌜ r ≡ sSchedule (take 64 (drop at (now (m .entry)))) ⌝ }
+// Step 1, of the block with the words m.
+pub fn message_schedule(m: [u32; 16]) -> [u32; 64]
+    ensures { λ r. ⌜ r ≡ messageSchedule m ⌝ }
 {
-    extended_to_64(extended_to_48(extended_to_32(begun(m, at))))
+    extended_to_64(extended_to_48(extended_to_32(first_words(m))))
 }

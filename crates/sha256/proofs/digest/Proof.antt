@@ -15,8 +15,8 @@ returns-2 c = other-digest _ _ (c .before .if1 .left) (c .if2 .taken)
 hash-requires : tie.Need-hash-requires
 hash-requires c κs = search needs
 
-put-requires : tie.Need-put-requires
-put-requires c κs = search needs
+put-digest-requires : tie.Need-put-digest-requires
+put-digest-requires c κs = search needs
 
 same-length : tie.Need-same-length
 same-length c = search needs
@@ -24,8 +24,8 @@ same-length c = search needs
 returns-3 : tie.Need-returns-3
 returns-3 c =
     hashed-call _ _ _ (c .before .before .before .before .before .before .if1 .left) (omega arith)
-    (sha256-is _ _ _ (c .before .before .before .before .hash .ensures) (c .before .before .put .ensures))
+    (sha256-is _ _ _ (c .before .before .before .before .hash .ensures) (c .before .before .put-digest .ensures))
 
 pub digest-spec : {M : Type 1} → statement M
 digest-spec =
-    tie.close (tie.spec returns returns-2 hash-requires put-requires same-length returns-3)
+    tie.close (tie.spec returns returns-2 hash-requires put-digest-requires same-length returns-3)

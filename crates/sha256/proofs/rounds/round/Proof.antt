@@ -4,41 +4,44 @@ use Rattle.sha256.proofs.RoundLaws.{round-is}
 use Rattle.sha256.proofs.rounds.round.Statement.{statement}
 use Rattle.sha256.proofs.rounds.round.Tie as tie
 
-array-read-temp1 : tie.Need-array-read-temp1
-array-read-temp1 c = search needs
+array-read-a : tie.Need-array-read-a
+array-read-a c = search needs
 
-array-read-temp1-2 : tie.Need-array-read-temp1-2
-array-read-temp1-2 c = search needs
+array-read-b : tie.Need-array-read-b
+array-read-b c = search needs
 
-array-read-temp1-3 : tie.Need-array-read-temp1-3
-array-read-temp1-3 c = search needs
+array-read-c : tie.Need-array-read-c
+array-read-c c = search needs
 
-array-read-temp1-4 : tie.Need-array-read-temp1-4
-array-read-temp1-4 c = search needs
+array-read-d : tie.Need-array-read-d
+array-read-d c = search needs
+
+array-read-e : tie.Need-array-read-e
+array-read-e c = search needs
+
+array-read-f : tie.Need-array-read-f
+array-read-f c = search needs
+
+array-read-g : tie.Need-array-read-g
+array-read-g c = search needs
+
+array-read-h : tie.Need-array-read-h
+array-read-h c = search needs
 
 mul-temp1 : tie.Need-mul-temp1
 mul-temp1 c = search needs
 
-array-read-temp1-5 : tie.Need-array-read-temp1-5
-array-read-temp1-5 c = search needs
+array-read-temp1 : tie.Need-array-read-temp1
+array-read-temp1 c = search needs
 
 mul-temp1-2 : tie.Need-mul-temp1-2
 mul-temp1-2 c = search needs
 
-array-read-temp1-6 : tie.Need-array-read-temp1-6
-array-read-temp1-6 c = search needs
+array-read-temp1-2 : tie.Need-array-read-temp1-2
+array-read-temp1-2 c = search needs
 
 temp1-requires : tie.Need-temp1-requires
 temp1-requires c κs = search needs
-
-array-read-temp2 : tie.Need-array-read-temp2
-array-read-temp2 c = search needs
-
-array-read-temp2-2 : tie.Need-array-read-temp2-2
-array-read-temp2-2 c = search needs
-
-array-read-temp2-3 : tie.Need-array-read-temp2-3
-array-read-temp2-3 c = search needs
 
 temp2-requires : tie.Need-temp2-requires
 temp2-requires c κs = search needs
@@ -46,29 +49,8 @@ temp2-requires c κs = search needs
 wrapping-add-u32-requires : tie.Need-wrapping-add-u32-requires
 wrapping-add-u32-requires c κs = search needs
 
-array-read-wrapping-add-u32 : tie.Need-array-read-wrapping-add-u32
-array-read-wrapping-add-u32 c = search needs
-
 wrapping-add-u32-requires-2 : tie.Need-wrapping-add-u32-requires-2
 wrapping-add-u32-requires-2 c κs = search needs
-
-array-read-t17 : tie.Need-array-read-t17
-array-read-t17 c = search needs
-
-array-read-t27 : tie.Need-array-read-t27
-array-read-t27 c = search needs
-
-array-read-t31 : tie.Need-array-read-t31
-array-read-t31 c = search needs
-
-array-read-t14 : tie.Need-array-read-t14
-array-read-t14 c = search needs
-
-array-read-t20 : tie.Need-array-read-t20
-array-read-t20 c = search needs
-
-array-read-t23 : tie.Need-array-read-t23
-array-read-t23 c = search needs
 
 returns : tie.Need-returns
 returns c =
@@ -79,26 +61,20 @@ pub round-spec : {M : Type 1} → statement M
 round-spec =
     tie.close
     (tie.spec
-    array-read-temp1
-    array-read-temp1-2
-    array-read-temp1-3
-    array-read-temp1-4
+    array-read-a
+    array-read-b
+    array-read-c
+    array-read-d
+    array-read-e
+    array-read-f
+    array-read-g
+    array-read-h
     mul-temp1
-    array-read-temp1-5
+    array-read-temp1
     mul-temp1-2
-    array-read-temp1-6
+    array-read-temp1-2
     temp1-requires
-    array-read-temp2
-    array-read-temp2-2
-    array-read-temp2-3
     temp2-requires
     wrapping-add-u32-requires
-    array-read-wrapping-add-u32
     wrapping-add-u32-requires-2
-    array-read-t17
-    array-read-t27
-    array-read-t31
-    array-read-t14
-    array-read-t20
-    array-read-t23
     returns)

@@ -1,19 +1,19 @@
--- `begun` meets its contract. The loop keeps: the first t words are the block's.
+-- `block` meets its contract. The loop keeps: the first t words are the block's.
 use mathlib.Core.Path.{_≡_, refl}
-use Prim.Native.Nat.{_-_, _≤_}
+use Prim.Native.Nat.{_-_, _*_, _≤_}
 use native.Mathlib.Omega.{arith}
 use lib.ListN.{length, take, drop, length-set}
 use borrow.Author.Needs.{needs}
 use Rattle.octets.specs.BigEndian.{words}
-use Rattle.sha256.proofs.ScheduleLaws.{words-more}
-use Rattle.sha256.proofs.schedule.begun.Statement.{statement}
-use Rattle.sha256.proofs.schedule.begun.Tie as tie
+use Rattle.sha256.proofs.ParsingLaws.{words-more, words-all}
+use Rattle.sha256.proofs.parsing.block.Statement.{statement}
+use Rattle.sha256.proofs.parsing.block.Tie as tie
 
 abbrev Inv-loop : tie.InvT-loop
-Inv-loop m at w₀ t₀ w t = (t ≤ 16) × (length w ≡ 64) × (take t w ≡ words (take 64 (drop at m)) t)
+Inv-loop p i b₀ t₀ b t = (t ≤ 16) × (length b ≡ 16) × (take t b ≡ words (take 64 (drop (i * 64) p)) t)
 
 abbrev μ-loop : tie.MeasureT-loop
-μ-loop m at w₀ t₀ w t = 16 - t
+μ-loop p i b₀ t₀ b t = 16 - t
 
 loop-holds : tie.Need-loop-holds Inv-loop μ-loop
 unfolding words
@@ -22,17 +22,20 @@ loop-holds c = (omega arith, refl, refl)
 mul-word-at : tie.Need-mul-word-at Inv-loop μ-loop
 mul-word-at c = search needs
 
+mul-word-at-2 : tie.Need-mul-word-at-2 Inv-loop μ-loop
+mul-word-at-2 c = search needs
+
 add-word-at : tie.Need-add-word-at Inv-loop μ-loop
 add-word-at c = search needs
 
 word-at-requires : tie.Need-word-at-requires Inv-loop μ-loop
 word-at-requires c κs = search needs
 
-mul-w : tie.Need-mul-w Inv-loop μ-loop
-mul-w c = search needs
+mul-b : tie.Need-mul-b Inv-loop μ-loop
+mul-b c = search needs
 
-array-write-w : tie.Need-array-write-w Inv-loop μ-loop
-array-write-w c = search needs
+array-write-b : tie.Need-array-write-b Inv-loop μ-loop
+array-write-b c = search needs
 
 add-t : tie.Need-add-t Inv-loop μ-loop
 add-t c = search needs
@@ -45,20 +48,21 @@ loop-again c =
     (omega arith, simp length-set (c .before .before .loop .inv .1), words-more _ _ _ _ _ (c .before .loop-test .taken) (c .before .before .loop .inv .1) (c .before .before .loop .inv .2) (c .word-at .ensures))
 
 returns : tie.Need-returns Inv-loop μ-loop
-returns c = let e : c .before .loop .t ≡ 16 = omega arith in rw e at (c .before .loop .inv .2)
+returns c = words-all _ _ _ (c .before .loop .t) (omega arith) (c .before .loop .inv .1) (c .before .loop .inv .2)
 
-pub begun-spec : {M : Type 1} → statement M
-begun-spec =
+pub block-spec : {M : Type 1} → statement M
+block-spec =
     tie.close
     (tie.spec
     Inv-loop
     μ-loop
     loop-holds
     mul-word-at
+    mul-word-at-2
     add-word-at
     word-at-requires
-    mul-w
-    array-write-w
+    mul-b
+    array-write-b
     add-t
     loop-less
     loop-again

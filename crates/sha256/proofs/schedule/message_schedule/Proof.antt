@@ -1,14 +1,14 @@
--- `schedule` meets its contract: sixteen words, and three times sixteen more.
+-- `message_schedule` meets its contract: sixteen words, and three times sixteen more.
 use mathlib.Core.Path.{ap, _∙_}
 use borrow.Author.Needs.{needs}
 use Rattle.sha256.specs.Hash.{extended}
 use Rattle.sha256.proofs.Runs.{more}
 use Rattle.sha256.proofs.ScheduleLaws.{extended-split, schedule-is}
-use Rattle.sha256.proofs.schedule.schedule.Statement.{statement}
-use Rattle.sha256.proofs.schedule.schedule.Tie as tie
+use Rattle.sha256.proofs.schedule.message_schedule.Statement.{statement}
+use Rattle.sha256.proofs.schedule.message_schedule.Tie as tie
 
-begun-requires : tie.Need-begun-requires
-begun-requires c κs = search needs
+first-words-requires : tie.Need-first-words-requires
+first-words-requires c κs = search needs
 
 extended-to-32-requires : tie.Need-extended-to-32-requires
 extended-to-32-requires c κs = search needs
@@ -22,14 +22,14 @@ extended-to-64-requires c κs = search needs
 returns : tie.Need-returns
 returns c = schedule-is _ _ (search needs)
     (more (λ t n v. extended v t n) extended-split 16 32 16
-    (more (λ t n v. extended v t n) extended-split 16 16 16 (c .before .before .extended-to-32 .ensures ∙ ap (λ v. extended v 16 16) (c .before .before .before .begun .ensures)) (c .before .extended-to-48 .ensures))
+    (more (λ t n v. extended v t n) extended-split 16 16 16 (c .before .before .extended-to-32 .ensures ∙ ap (λ v. extended v 16 16) (c .before .before .before .first-words .ensures)) (c .before .extended-to-48 .ensures))
     (c .extended-to-64 .ensures))
 
-pub schedule-spec : {M : Type 1} → statement M
-schedule-spec =
+pub message-schedule-spec : {M : Type 1} → statement M
+message-schedule-spec =
     tie.close
     (tie.spec
-    begun-requires
+    first-words-requires
     extended-to-32-requires
     extended-to-48-requires
     extended-to-64-requires

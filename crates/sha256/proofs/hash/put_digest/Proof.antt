@@ -1,4 +1,4 @@
--- `put` meets its contract. The loop keeps: the first i words are written.
+-- `put_digest` meets its contract. The loop keeps: the first i words are written.
 use mathlib.Core.Path.{_≡_, refl, ap, _∙_}
 use Prim.Native.Nat.{_-_, _*_, _≤_}
 use native.Mathlib.Omega.{arith}
@@ -7,8 +7,8 @@ use lib.Seq.{length-sets}
 use borrow.Author.Needs.{needs}
 use Rattle.octets.specs.BigEndian.{bytesOf}
 use Rattle.sha256.proofs.DigestLaws.{put-more, put-all}
-use Rattle.sha256.proofs.state.put.Statement.{statement}
-use Rattle.sha256.proofs.state.put.Tie as tie
+use Rattle.sha256.proofs.hash.put_digest.Statement.{statement}
+use Rattle.sha256.proofs.hash.put_digest.Tie as tie
 
 abbrev Inv-loop : tie.InvT-loop
 Inv-loop out₀ h i₀ out i = (i ≤ 8) × (length out ≡ 32) × (take (i * 4) out ≡ bytesOf (take i h))
@@ -48,8 +48,8 @@ same-length c = search needs
 returns : tie.Need-returns Inv-loop μ-loop
 returns c = put-all _ _ (c .before .loop .i) (omega arith) (search needs) (c .before .loop .inv .1) (c .before .loop .inv .2)
 
-pub put-spec : {M : Type 1} → statement M
-put-spec =
+pub put-digest-spec : {M : Type 1} → statement M
+put-digest-spec =
     tie.close
     (tie.spec
     Inv-loop

@@ -1,8 +1,8 @@
--- `added` meets its contract: the eight sums of step 4.
+-- `intermediate_hash` meets its contract: the eight sums of step 4.
 use borrow.Author.Needs.{needs}
-use Rattle.sha256.proofs.RoundLaws.{added-is}
-use Rattle.sha256.proofs.state.added.Statement.{statement}
-use Rattle.sha256.proofs.state.added.Tie as tie
+use Rattle.sha256.proofs.CompressionLaws.{sums-are}
+use Rattle.sha256.proofs.intermediate.intermediate_hash.Statement.{statement}
+use Rattle.sha256.proofs.intermediate.intermediate_hash.Tie as tie
 
 array-read-wrapping-add-u32 : tie.Need-array-read-wrapping-add-u32
 array-read-wrapping-add-u32 c = search needs
@@ -78,14 +78,14 @@ wrapping-add-u32-requires-8 c κs = search needs
 
 returns : tie.Need-returns
 returns c =
-    added-is _ _ _ _ _ _ _ _ _ _ (c .before .before .before .before .before .before .before .wrapping-add-u32 .ensures)
+    sums-are _ _ _ _ _ _ _ _ _ _ (c .before .before .before .before .before .before .before .wrapping-add-u32 .ensures)
     (c .before .before .before .before .before .before .wrapping-add-u322 .ensures)
     (c .before .before .before .before .before .wrapping-add-u323 .ensures)
     (c .before .before .before .before .wrapping-add-u324 .ensures) (c .before .before .before .wrapping-add-u325 .ensures)
     (c .before .before .wrapping-add-u326 .ensures) (c .before .wrapping-add-u327 .ensures) (c .wrapping-add-u328 .ensures)
 
-pub added-spec : {M : Type 1} → statement M
-added-spec =
+pub intermediate-hash-spec : {M : Type 1} → statement M
+intermediate-hash-spec =
     tie.close
     (tie.spec
     array-read-wrapping-add-u32
