@@ -5,7 +5,7 @@ use Prim.Native.Nat.{ℕ, zero, suc, _+_, _-_, _*_, _/_, _≤_}
 use native.Mathlib.Nat.{add-zero, add-suc}
 use native.Mathlib.Omega.{arith}
 use native.Mathlib.Numerals.{add-one}
-use lib.ListN.{length, take, drop, length-drop, take-append-drop}
+use lib.ListN.{length, take, drop, length-drop}
 use lib.Seq.{take-append-le, drop-append-le, drop-drop}
 use Rattle.octets.specs.BigEndian.{words}
 use Rattle.sha256.specs.Padding.{pad, block}
@@ -52,22 +52,18 @@ module _ (m : List ℕ) where
   unfolding pad
   front-blocks = sym (processed-front initial m _ own (omega arith))
 
-  -- what the end's buffer holds behind the end is not read
-  end-only : (end s : List ℕ) → take (length (pad m) - own * 64) end ≡ drop (own * 64) (pad m)
-      → processed s end left ≡ processed s (drop (own * 64) (pad m)) left
-  end-only end s e =
-      let k = length (pad m) - own * 64 in
-      let l : length (drop (own * 64) (pad m)) ≡ k = length-drop (own * 64) (pad m) in
-      ap (λ p. processed s p left) (sym (take-append-drop k end) ∙ ap (λ p. p ++ drop k end) e)
-      ∙ processed-front s (drop (own * 64) (pad m)) (drop k end) left (omega (arith, l, length-pad m))
+  -- what stands behind the end is not read
+  end-only : (end zeros s : List ℕ) → end ≡ drop (own * 64) (pad m) ++ zeros → processed s end left ≡ processed s (drop (own * 64) (pad m)) left
+  end-only end zeros s e =
+      ap (λ p. processed s p left) e
+      ∙ processed-front s (drop (own * 64) (pad m)) zeros left (rw length-drop (omega (arith, length-pad m)))
 
   -- the message's own blocks, then the e blocks of the end, of which the last is taken in by itself
-  pub all-blocks : (end h s t r : List ℕ) (e : ℕ) → take (length (pad m) - own * 64) end ≡ drop (own * 64) (pad m) → h ≡ initial
-      → s ≡ processed h m own → e ≡ left → t ≡ processed s end (e - 1) → r ≡ compress t (block end (e - 1))
-      → r ≡ processed initial (pad m) (length (pad m) / 64)
-  all-blocks end h s t r e ee eh es en et er =
+  pub all-blocks : (end zeros h s t r : List ℕ) (e : ℕ) → end ≡ drop (own * 64) (pad m) ++ zeros → h ≡ initial → s ≡ processed h m own → e ≡ left
+      → t ≡ processed s end (e - 1) → r ≡ compress t (block end (e - 1)) → r ≡ processed initial (pad m) (length (pad m) / 64)
+  all-blocks end zeros h s t r e ee eh es en et er =
       let one : e - 1 + 1 ≡ left = omega (arith, length-pad m) in
       let all : own + left ≡ length (pad m) / 64 = omega (arith, length-pad m) in
-      processed-more s end t r (e - 1) et er ∙ ap (processed s end) one ∙ end-only end s ee
+      processed-more s end t r (e - 1) et er ∙ ap (processed s end) one ∙ end-only end zeros s ee
       ∙ ap (λ v. processed v (drop (own * 64) (pad m)) left) (es ∙ ap (λ v. processed v m own) eh ∙ front-blocks)
       ∙ sym (processed-split initial (pad m) own left) ∙ ap (processed initial (pad m)) all

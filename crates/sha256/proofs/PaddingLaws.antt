@@ -1,13 +1,12 @@
 -- The padded message, and its end after the message's whole blocks.
 use mathlib.Core.Path.{_≡_, refl, sym, ap, ap₂, _∙_}
-use mathlib.Core.List.{List, [], _∷_, _++_, append-assoc, append-nil}
+use mathlib.Core.List.{List, _∷_, _++_, append-assoc}
 use Prim.Native.Nat.{ℕ, suc, _+_, _-_, _*_, _/_, _%_, _^_, _≤_, _<_}
 use native.Mathlib.Omega.{arith}
 use lib.ListN.{length, take, drop, set, replicate, length-append, length-replicate, length-drop, replicate-append-replicate}
-use lib.Seq.{sets, drop-append-le, take-at, drop-at, set-at, take-length, paste}
+use lib.Seq.{sets, sets-eq, drop-append-le, take-at, drop-at, set-at, take-length, paste}
 use Rattle.octets.specs.BigEndian.{be}
 use Rattle.octets.proofs.Bytes.{length-be}
-use Rattle.octets.proofs.Stores.{take-sets}
 use Rattle.sha256.specs.Padding.{pad}
 
 pub length-pad : (m : List ℕ) → length (pad m) ≡ (length m + 72) / 64 * 64
@@ -23,11 +22,9 @@ closed x z = x ++ (0x80 ∷ replicate z 0)
 length-closed : (x : List ℕ) (z : ℕ) → length (closed x z) ≡ length x + suc z
 length-closed x z = simp (length-append, length-replicate)
 
-closed-append : (x ys : List ℕ) (y z : ℕ) → x ++ (0x80 ∷ (replicate (y + z) 0 ++ ys)) ≡ closed x y ++ (replicate z 0 ++ ys)
-closed-append x ys y z =
-    ap (λ v. x ++ (0x80 ∷ (v ++ ys))) (sym (replicate-append-replicate y z 0))
-    ∙ ap (λ v. x ++ (0x80 ∷ v)) (append-assoc (replicate y 0) (replicate z 0) ys)
-    ∙ sym (append-assoc x (0x80 ∷ replicate y 0) (replicate z 0 ++ ys))
+closed-split : (x : List ℕ) (y z : ℕ) → closed x (y + z) ≡ closed x y ++ replicate z 0
+closed-split x y z =
+    ap (λ v. x ++ (0x80 ∷ v)) (sym (replicate-append-replicate y z 0)) ∙ sym (append-assoc x (0x80 ∷ replicate y 0) (replicate z 0))
 
 -- the message's rest from byte at on, with z zeros after the byte 0x80
 pad-rest : (m : List ℕ) (at z : ℕ) → at ≤ length m → (119 - length m % 64) % 64 ≡ z
@@ -47,11 +44,12 @@ closed-copy x b n l h e =
     ∙ drop-at (replicate n 0) (replicate (128 - n) 0) n (length-replicate n 0) ∙ ap (λ u. replicate {A = ℕ} u 0) t in
     ap (λ u. set u n 0x80) (e ∙ ap₂ _++_ (take-length x) zeros) ∙ set-at x 0 (replicate (127 - n) 0) 0x80 n l
 
--- its front, with y zeros of y + z
-closed-front : (x : List ℕ) (y z : ℕ) → take (length x + suc y) (closed x (y + z)) ≡ closed x y
-closed-front x y z =
-    ap (λ v. take (length x + suc y) (x ++ (0x80 ∷ v))) (sym (append-nil (replicate (y + z) 0)))
-    ∙ ap (take (length x + suc y)) (closed-append x [] y z) ∙ take-at (closed x y) _ (length x + suc y) (length-closed x y)
+-- its front, with y zeros of y + z, and the zeros behind
+closed-front : (x : List ℕ) (y z k : ℕ) → k ≡ length x + suc y → take k (closed x (y + z)) ≡ closed x y
+closed-front x y z k e = ap (take k) (closed-split x y z) ∙ take-at (closed x y) _ k (length-closed x y ∙ sym e)
+
+closed-back : (x : List ℕ) (y z k : ℕ) → k ≡ length x + suc y → drop k (closed x (y + z)) ≡ replicate z 0
+closed-back x y z k e = ap (drop k) (closed-split x y z) ∙ drop-at (closed x y) _ k (length-closed x y ∙ sym e)
 
 -- ---- the last eight bytes
 
@@ -73,6 +71,9 @@ closed-length x z v h =
 
 -- ---- the end of the padded message
 
+regroup : (z b : ℕ) → z + 8 + b ≡ z + 4 + (4 + b)
+regroup z b = omega arith
+
 -- the buffer: two blocks of zeros, and a word in it
 pub buffer-length : (b : List ℕ) → b ≡ replicate 128 0 → length b ≡ 128
 buffer-length b e = ap length e ∙ length-replicate {A = ℕ} 128 0
@@ -91,8 +92,21 @@ module _ (m : List ℕ) where
   abbrev size : ℕ
   size = (length m % 64 + 72) / 64 * 64
 
+  -- the bytes behind the end
+  abbrev behind : ℕ
+  behind = 128 - (length (pad m) - whole)
+
+  zeros-in-all : (n : ℕ) → n ≡ length m - whole → 127 - n ≡ (119 - length m % 64) % 64 + 8 + behind
+  zeros-in-all n e =
+      let r : n ≡ length m % 64 = omega arith in
+      let t : 128 - size ≡ behind = omega (arith, length-pad m) in
+      ap (λ v. 127 - v) r ∙ split (length m % 64) (omega arith) ∙ ap (λ v. (119 - length m % 64) % 64 + 8 + v) t
+    where
+      split : (r : ℕ) → r < 64 → 127 - r ≡ (119 - r) % 64 + 8 + (128 - (r + 72) / 64 * 64)
+      split r h = omega arith
+
   sized-end : (b c d : List ℕ) (n : ℕ) → length m * 8 < 2 ^ 32 → n ≡ length m - whole → b ≡ paste (replicate 128 0) 0 (drop whole m) (length (drop whole m))
-      → c ≡ set b n 0x80 → d ≡ sets c (size - 4) (be 4 (length m * 8)) → take (length (pad m) - whole) d ≡ drop whole (pad m)
+      → c ≡ set b n 0x80 → d ≡ sets c (size - 4) (be 4 (length m * 8)) → d ≡ drop whole (pad m) ++ replicate behind 0
   sized-end b c d n h en eb ec ed =
       let x = drop whole m in
       let l : length x ≡ n = length-drop whole m ∙ sym en in
@@ -100,16 +114,18 @@ module _ (m : List ℕ) where
       let closes : c ≡ closed x (127 - n) = ec ∙ closed-copy x b n l (omega arith) eb in
       let lc : length c ≡ 128 = ap length closes ∙ length-closed x (127 - n) ∙ omega arith in
       let lb : length (be 4 (length m * 8)) ≡ 4 = length-be 4 (length m * 8) in
-      let k : length (pad m) - whole ≡ size - 4 + length (be 4 (length m * 8)) = omega (arith, length-pad m, lb) in
       let f : size - 4 ≡ length x + suc (z + 4) = omega (arith, l) in
-      let g : 127 - n ≡ z + 4 + (127 - n - (z + 4)) = omega arith in
-      ap₂ take k ed ∙ take-sets c (be 4 (length m * 8)) (size - 4) (omega (arith, lb, lc))
-      ∙ ap (λ u. u ++ be 4 (length m * 8)) (ap₂ take f (closes ∙ ap (closed x) g) ∙ closed-front x (z + 4) (127 - n - (z + 4)))
-      ∙ closed-length x z (length m * 8) h ∙ sym (pad-rest m whole z (omega arith) refl)
+      let k : size - 4 + length (be 4 (length m * 8)) ≡ length x + suc (z + 8) = omega (arith, l, lb) in
+      let i : 127 - n ≡ z + 8 + behind = zeros-in-all n en in
+      let g : 127 - n ≡ z + 4 + (4 + behind) = i ∙ regroup z behind in
+      ed ∙ sets-eq (be 4 (length m * 8)) c (size - 4) (omega (arith, lb, lc))
+      ∙ ap₂ (λ u v. (u ++ be 4 (length m * 8)) ++ v) (ap (take (size - 4)) (closes ∙ ap (closed x) g) ∙ closed-front x (z + 4) (4 + behind) (size - 4) f)
+      (ap (drop (size - 4 + length (be 4 (length m * 8)))) (closes ∙ ap (closed x) i) ∙ closed-back x (z + 8) behind _ k)
+      ∙ ap (λ u. u ++ replicate behind 0) (closed-length x z (length m * 8) h ∙ sym (pad-rest m whole z (omega arith) refl))
 
   -- the rest in a buffer of zeros, the byte 0x80 after it, and the length in the last word of the e blocks
   pub end-is : (b c d : List ℕ) (n e : ℕ) → length m * 8 < 2 ^ 32 → n ≡ length m - whole → e ≡ length (pad m) / 64 - length m / 64
       → b ≡ paste (replicate 128 0) 0 (drop whole m) (length (drop whole m)) → c ≡ set b n 0x80 → d ≡ sets c (e * 64 - 4) (be 4 (length m * 8))
-      → take (length (pad m) - whole) d ≡ drop whole (pad m)
+      → d ≡ drop whole (pad m) ++ replicate behind 0
   end-is b c d n e h en ee eb ec ed =
       sized-end b c d n h en eb ec (ed ∙ ap (λ v. sets c (v * 64 - 4) (be 4 (length m * 8))) (ee ∙ sym end-blocks))

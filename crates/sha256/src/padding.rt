@@ -1,8 +1,9 @@
 // FIPS 180-4, section 5.1.1: padding the message. Its whole blocks stay where they are lent. What is written is the end of the padded message,
 // after those: the rest of the message, the bit 1, zeros, and the length in bits (`end-is`).
 ghost use mathlib.Core.Path.{_≡_};
+ghost use mathlib.Core.List.{_++_};
 ghost use Prim.Native.Nat.{_-_, _*_, _/_, _≤_};
-ghost use lib.ListN.{length, take, drop, replicate};
+ghost use lib.ListN.{length, drop, replicate};
 ghost use Rattle.sha256.specs.Padding.{pad};
 
 // How many blocks the end has: one, or two where the length has no room beside the rest (`end-blocks`).
@@ -12,12 +13,13 @@ pub fn end_blocks(m: &[u8]) -> usize
     (m.len() % 64 + 72) / 64
 }
 
-// Writes the end into the lent buffer, which is two blocks of zeros, from its first byte on.
+// Writes the end into the lent buffer, which is two blocks of zeros, from its first byte on; zeros stay behind it.
 pub fn put_end(m: &[u8], end: &mut [u8])
     requires { ⌜ (length (now m) ≤ 1048576) × (now end ≡ replicate 128 0) ⌝ }
     ensures { λ r.
-        ⌜ take (length (pad (now (m .entry))) - length (now (m .entry)) / 64 * 64) (now (end .exit))
-        ≡ drop (length (now (m .entry)) / 64 * 64) (pad (now (m .entry))) ⌝ }
+        ⌜ now (end .exit)
+        ≡ drop (length (now (m .entry)) / 64 * 64) (pad (now (m .entry)))
+        ++ replicate (128 - (length (pad (now (m .entry))) - length (now (m .entry)) / 64 * 64)) 0 ⌝ }
 {
     let n = m.len();
     let whole = n / 64 * 64;

@@ -38,7 +38,7 @@ after-block-requires c κs = omega (arith, length-pad (c .before .before .before
 
 returns : tie.Need-returns
 returns c =
-    all-blocks _ _ _ _ _ _ _ (c .before .before .before .before .before .before .before .put-end .ensures) (c .before .before .before .before .before .before .before .before .before .new .ensures) (c .before .before .before .before .before .processed .ensures)
+    all-blocks _ _ _ _ _ _ _ _ (c .before .before .before .before .before .before .before .put-end .ensures) (c .before .before .before .before .before .before .before .before .before .new .ensures) (c .before .before .before .before .before .processed .ensures)
     (c .before .before .before .before .end-blocks .ensures) (c .before .before .processed2 .ensures) (c .after-block .ensures)
 
 pub hash-spec : {M : Type 1} → statement M
