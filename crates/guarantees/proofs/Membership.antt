@@ -11,14 +11,11 @@ use borrow.Author.Tests.{ltb-true, eqb-true, eq-eqb}
 use Rattle.octets.proofs.Choice.{by-test, pick-ind, pick-yes, pick-no, and-yes}
 use Rattle.parity_table.specs.Members.{every, ascending, lastOf}
 use Rattle.model.specs.Symbols.{bit, count, others}
-use Rattle.model.proofs.Counts.{isIt, others-none}
+use Rattle.model.proofs.Counts.{isIt, others-none, member-later}
 use Rattle.guarantees.specs.Tables.{IsMember}
 
 member-first : (x : ℕ) (xs : List ℕ) → IsMember x (x ∷ xs)
 member-first x xs = (0, omega arith, refl)
-
-member-later : (x y : ℕ) (xs : List ℕ) → IsMember x xs → IsMember x (y ∷ xs)
-member-later x y xs (q, h, e) = (suc q, omega arith, e)
 
 -- what holds of every element holds of a member
 pub every-member-of : (p : ℕ → Bool) (xs : List ℕ) → every p xs ≡ true → (x : ℕ) → IsMember x xs → p x ≡ true
@@ -26,16 +23,6 @@ unfolding every
 every-member-of p [] a x (q, h, e) = absurd (omega arith)
 every-member-of p (y ∷ ys) a x (zero, h, e) = ap p (sym e) ∙ and-yes (p y) (every p ys) a .0
 every-member-of p (y ∷ ys) a x (suc q, h, e) = every-member-of p ys (and-yes (p y) (every p ys) a .1) x (q, omega arith, e)
-
--- a number that is counted is a member
-pub counted-member : (x : ℕ) (xs : List ℕ) → 1 ≤ count (isIt x) xs → IsMember x xs
-unfolding count
-counted-member x [] h = absurd (omega arith)
-counted-member x (y ∷ ys) h =
-    by-test (eqb y x) (λ t. (0, omega arith, eqb-true y x t))
-    (λ t.
-    let b : bit (eqb y x) ≡ 0 = ap bit t in
-    member-later x y ys (counted-member x ys (omega arith)))
 
 -- a member other than x is one of the others
 pub member-other : (x y : ℕ) (xs : List ℕ) → IsMember y xs → y ≢ x → IsMember y (others x xs)

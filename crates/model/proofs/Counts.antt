@@ -9,9 +9,10 @@ use native.Mathlib.Numerals.{add-one}
 use lib.ListN.{length, getD, drop, drop-of-length-le}
 use lib.Dec.{ltb, eqb}
 use borrow.Author.Tests.{ltb-true, eqb-true, eqb-false, eq-eqb, ne-eqb}
-use Rattle.parity_table.specs.Members.{every, ascending, lastOf}
+use Rattle.parity_table.specs.Members.{every, ascending, lastOf, IsMember}
 use Rattle.octets.proofs.Choice.{by-test, pick-yes, pick-no, pick-ind, and-yes, yes-and, both}
 use Rattle.octets.specs.ByteLists.{xors}
+use Rattle.octets.specs.Choice.{pick}
 use Rattle.model.specs.Symbols.{xorOf, others, bit, count, firstOf, lowest}
 use Rattle.model.proofs.Bytes.{xors-left-comm}
 use Rattle.model.proofs.Members.{from-here}
@@ -93,6 +94,22 @@ ascending-once x (y ∷ ys) a =
     by-test (eqb y x)
     (λ t. omega (arith, bit-le (eqb y x), every-none (ltb y) (isIt x) (λ z w. ne-eqb z x (λ k. omega (arith, ltb-true y z w, eqb-true y x t))) ys u))
     (λ t. omega (arith, ap bit t, ascending-once x ys v))
+
+-- a number that is counted is a member, and a member is counted
+pub member-later : (x y : ℕ) (xs : List ℕ) → IsMember x xs → IsMember x (y ∷ xs)
+member-later x y xs (q, h, e) = (suc q, omega arith, e)
+
+pub counted-member : (x : ℕ) (xs : List ℕ) → 1 ≤ count (isIt x) xs → IsMember x xs
+unfolding count
+counted-member x [] h = absurd (omega arith)
+counted-member x (y ∷ ys) h =
+    by-test (eqb y x) (λ t. (0, omega arith, eqb-true y x t)) (λ t. member-later x y ys (counted-member x ys (omega (arith, ap bit t))))
+
+pub member-counted : (x : ℕ) (xs : List ℕ) → IsMember x xs → 1 ≤ count (isIt x) xs
+unfolding count
+member-counted x [] (q, h, e) = absurd (omega arith)
+member-counted x (y ∷ ys) (zero, h, e) = omega (arith, ap bit (eq-eqb y x e))
+member-counted x (y ∷ ys) (suc q, h, e) = omega (arith, member-counted x ys (q, omega arith, e))
 
 pub others-none : (x : ℕ) (xs : List ℕ) → count (isIt x) xs ≡ 0 → others x xs ≡ xs
 unfolding others count
@@ -215,6 +232,13 @@ lowest-is p i (suc f) =
       found = λ h. r .found (omega arith);
       before = λ m a b. by-test (eqb m i) (λ u. ap p (eqb-true m i u) ∙ t) (λ u. r .before m (omega (arith, eqb-false m i u)) b);
     })
+
+-- tests that say the same of these numbers
+pub lowest-same : (p q : ℕ → Bool) (i f : ℕ) → ((x : ℕ) → i ≤ x → x < i + f → p x ≡ q x) → lowest p i f ≡ lowest q i f
+unfolding lowest
+lowest-same p q i zero h = refl
+lowest-same p q i (suc f) h =
+    ap₂ (λ (b : Bool) (r : ℕ). pick b i r) (h i (omega arith) (omega arith)) (lowest-same p q (suc i) f (λ x a b. h x (omega arith) (omega arith)))
 
 -- ---- from element i on, as a loop meets them
 

@@ -12,6 +12,12 @@ use lib.ListN.{length, getD, take, drop, set, replicate, length-set, length-take
 use lib.Seq.{drop-cons, getD-take, getD-drop, getD-set-same, getD-set-other, ext-getD, take-suc-set}
 use Rattle.octets.specs.ByteLists.{same, xors}
 
+-- the front of an array of zeros
+pub front-zeros : (n k : ℕ) → k ≤ n → take {A = ℕ} k (replicate n 0) ≡ replicate k 0
+front-zeros n zero h = refl
+front-zeros zero (suc k) h = absurd (omega arith)
+front-zeros (suc n) (suc k) h = ap (λ (l : List ℕ). 0 ∷ l) (front-zeros n k (omega arith))
+
 -- ---- a part of a list: n elements from element `at` on
 
 module _ (l : List ℕ) (at n : ℕ) (inside : at + n ≤ length l) where

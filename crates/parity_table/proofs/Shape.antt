@@ -1,7 +1,7 @@
 -- Laws of depths and of the numbers of symbols.
 use mathlib.Core.Path.{_≡_, sym, ap}
 use mathlib.Core.Bool.{Bool, true, false, _&&_}
-use Prim.Native.Nat.{ℕ, suc, _+_, _*_, _%_, _^_, _≤_, _<_}
+use Prim.Native.Nat.{ℕ, suc, _+_, _-_, _*_, _%_, _^_, _≤_, _<_}
 use native.Mathlib.Omega.{arith}
 use lib.Dec.{leb}
 use lib.Pow.{pow-pos, pow-mono}
@@ -33,6 +33,11 @@ k-pos j = omega (arith, pow-pos j)
 pub k-small : (j : ℕ) → j < maxDepth → kOf j ≤ 4 * 2 ^ maxDepth
 unfolding kOf
 k-small j h = let p : 2 ^ j ≤ 2 ^ maxDepth = pow-mono {i = j} {j = maxDepth} (omega arith) in omega arith
+
+-- those of a layer are at most those of the lowest one
+pub k-low : (j : ℕ) → j < maxDepth → kOf j ≤ 4 * 2 ^ (maxDepth - 1)
+unfolding kOf
+k-low j h = omega (arith, pow-mono {i = j} {j = maxDepth - 1} (omega arith))
 
 pub k-grows : (j t : ℕ) → kOf j ≤ kOf (j + t)
 unfolding kOf

@@ -4,3 +4,4 @@ pub mod Table
 pub mod Reader
 pub mod Right
 pub mod Parse
+pub mod Coverage

@@ -9,6 +9,9 @@ ghost use Rattle.parity_table.specs.Shape.{maxDepth, depthFits, kOf};
 // The largest depth of a tree.
 pub const MAX_DEPTH: usize = 5;
 
+// The data symbols of the lowest layer of a tree of the largest depth.
+pub const MAX_DATA: usize = 4 << (MAX_DEPTH - 1);
+
 // The equations of a table of the largest depth.
 pub const MAX_EQUATIONS: usize = 3 * ((4 << MAX_DEPTH) - 4);
 

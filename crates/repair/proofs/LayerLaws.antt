@@ -6,13 +6,13 @@ use Prim.Native.Nat.{_*_, _+_, _-_, _<_, _^_, _≤_, suc, zero, ℕ}
 use native.Mathlib.Omega.{arith}
 use lib.Dec.{ltb}
 use lib.ListN.{drop, getD, length, length-replicate, replicate, take}
-use lib.Pow.{pow-mono}
 use borrow.Author.Tests.{le-ltb, lt-ltb}
 use Rattle.octets.proofs.Choice.{by-test, pick-no, pick-yes}
 use Rattle.octets.specs.Choice.{pick}
 use Rattle.parity_table.proofs.Accepts.{accepted-depth, accepted-table, located, start-inside, start-known}
 use Rattle.parity_table.proofs.Parse.{members-take}
 use Rattle.parity_table.proofs.Rules.{members-below}
+use Rattle.parity_table.proofs.Shape.{k-low}
 use Rattle.parity_table.specs.Members.{every}
 use Rattle.parity_table.specs.Parse.{HasEquation, numberIn, tableOf}
 use Rattle.parity_table.specs.Shape.{kOf, maxDepth, nOf}
@@ -38,11 +38,6 @@ use Rattle.repair.specs.Reports.{Layered, passes, settled}
 use Rattle.repair.specs.declared.layer.Passage.{Passage}
 
 -- ---- what its calls ask
-
--- the data symbols of a layer are at most those of the lowest one
-pub k-low : (j : ℕ) → j < maxDepth → kOf j ≤ 4 * 2 ^ (maxDepth - 1)
-unfolding kOf
-k-low j h = omega (arith, pow-mono {i = j} {j = maxDepth - 1} (omega arith))
 
 -- the equations of the lowest layer of a tree of the largest depth
 abbrev pub mostEquations : ℕ
@@ -122,12 +117,6 @@ module _ {d : ℕ} {ws starts root t m o : List ℕ} (k : Given d ws starts root
         → Peelable root ws starts first t m o u from j 0
     unfolding lent
     peelable first u l h nb = record { lent = lent u l; first-room = h; none-before = nb; passed = λ e b. absurd (omega arith) }
-
--- the front of an array of zeros
-pub front-zeros : (n k : ℕ) → k ≤ n → take {A = ℕ} k (replicate n 0) ≡ replicate k 0
-front-zeros n zero h = refl
-front-zeros zero (suc k) h = absurd (omega arith)
-front-zeros (suc n) (suc k) h = ap (λ (l : List ℕ). 0 ∷ l) (front-zeros n k (omega arith))
 
 -- ---- (c)
 

@@ -1,6 +1,6 @@
 // One layer of a repair: (a) the sweep, (b) peeling, (c) "gaps left mean "unavailable" with this layer, else go on".
 use crate::End;
-use parity_table::MAX_DEPTH;
+use parity_table::MAX_DATA;
 use parity_table::data_count;
 use parity_table::index;
 use peeling::Outcome;
@@ -16,9 +16,6 @@ ghost use Rattle.parity_table.specs.Parse.{tableOf};
 ghost use Rattle.model.specs.Shape.{tree as shape, places};
 ghost use Rattle.repair.specs.Buffers.{Given};
 ghost use Rattle.repair.specs.Reports.{passes, settled, Layered};
-
-// The data symbols of the lowest layer of a tree of the largest depth.
-const MAX_DATA: usize = 4 << (MAX_DEPTH - 1);
 
 // Whether the repair goes on after a layer.
 pub enum Passage {

@@ -6,6 +6,8 @@ use native.Mathlib.Omega.{arith}
 use lib.ListN.{length, length-replicate, replicate}
 use lib.Seq.{length-take-le}
 use borrow.Author.Needs.{needs}
+use Rattle.octets.proofs.ListLaws.{front-zeros}
+use Rattle.parity_table.proofs.Shape.{k-low}
 use Rattle.parity_table.specs.Parse.{tableOf}
 use Rattle.parity_table.specs.Shape.{kOf, nOf}
 use Rattle.model.proofs.Hung.{tree-hangs}
@@ -14,7 +16,7 @@ use Rattle.model.specs.Shape.{places, tree}
 use Rattle.peeling.proofs.FirstLaws.{none-before}
 use Rattle.peeling.specs.Firsts.{NoneBefore}
 use Rattle.peeling.specs.Levels.{Level}
-use Rattle.repair.proofs.LayerLaws.{equations, front-zeros, given-keep, k-low, layer-below, layered, level, listed, mostEquations, peelable, reads}
+use Rattle.repair.proofs.LayerLaws.{equations, given-keep, layer-below, layered, level, listed, mostEquations, peelable, reads}
 use Rattle.repair.proofs.layer.repair_layer.Statement.{statement}
 use Rattle.repair.proofs.layer.repair_layer.Tie as tie
 

@@ -1,0 +1,188 @@
+-- An accepted table, layer after layer: where a loop over its layers stands, and what a layer comes to.
+use mathlib.Core.Path.{_≡_, refl, sym, ap, ap₂, _∙_, subst}
+use mathlib.Core.Bool.{Bool, true, false}
+use mathlib.Core.List.{List, [], _∷_, _++_, append-assoc}
+use Prim.Native.Nat.{ℕ, zero, suc, _+_, _-_, _*_, _^_, _≤_, _<_, min}
+use native.Mathlib.Nat.{zero-add}
+use native.Mathlib.Numerals.{add-one}
+use native.Mathlib.Omega.{arith}
+use native.Mathlib.Decide.{decLt}
+use lib.ListN.{length, getD, drop, replicate, length-drop, length-append, length-replicate, getD-replicate}
+use lib.Seq.{drop-cons, drop-drop}
+use lib.Dec.{ltb}
+use borrow.Author.Tests.{lt-ltb, le-ltb, le-leb}
+use Rattle.octets.proofs.Choice.{pick-yes, pick-no}
+use Rattle.parity_table.specs.Shape.{maxDepth, kOf}
+use Rattle.parity_table.specs.declared.Answer.the-variants.{Whole}
+use Rattle.parity_table.specs.Reader.{readOf}
+use Rattle.parity_table.specs.Table.{layerOf, layerWord, equationWord, endWord, equationsWords, layersWords, tableWords, TableOk, WellFormed}
+use Rattle.parity_table.specs.Parse.{tableOf}
+use Rattle.parity_table.proofs.Accepts.{accepted-depth, accepted-formed, accepted-table}
+use Rattle.parity_table.proofs.Parse.{formed-words}
+use Rattle.parity_table.proofs.Rules.{LayersOk, table-layers}
+use Rattle.parity_table.proofs.Shape.{k-low}
+use Rattle.model.specs.Symbols.{lowest}
+use Rattle.model.proofs.Counts.{lowest-same, lowest-hit, lowest-pass, lowest-none}
+use Rattle.coverage.specs.Counting.{endsLayer, Tally, tallied, tally, isThin, LayerCounted}
+use Rattle.coverage.specs.declared.Coverage.the-variants.{Covered, Uncovered}
+use Rattle.coverage.specs.Coverage.{times, lowestThin, hasThin, firstThin, coverageOf}
+use Rattle.coverage.proofs.Tallies.{ends-layer, ends-equation, Comes, Pass, pass-end, pass-equations}
+
+-- a pass that begins with no symbol seen
+pub counted : (ws seen : List ℕ) (at k end low : ℕ) → end ≤ length ws → tallied seen (drop end ws) ≡ tally (replicate k 0) (drop at ws)
+    → low ≡ lowest (isThin seen) 0 (length seen) → LayerCounted ws at k end low
+counted ws seen at k end low h e l = (
+  h,
+  ap (λ (y : Tally). y .rest) e,
+  l ∙ ap (λ (y : Tally). lowest (isThin (y .seen)) 0 (length (y .seen))) e,
+)
+
+-- the words after a layer's equations: those of the next layer, or the end word
+after-layer : (n j : ℕ) (ls : List (List (List ℕ))) → j + length ls ≤ maxDepth
+    → Pass (layersWords j ls ++ (endWord n ∷ [])) (layersWords j ls ++ (endWord n ∷ [])) (λ i. 0)
+unfolding layersWords
+after-layer n j [] h = pass-end (endWord n) [] (sym (ends-equation (endWord n) (omega arith)) ∙ le-leb (endWord 0) (endWord n) (omega arith))
+after-layer n j (es ∷ ls) h =
+    pass-end (layerWord j) ((equationsWords 0 es ++ layersWords (suc j) ls) ++ (endWord n ∷ [])) (sym (ends-layer (layerWord j) (omega arith) (omega arith)))
+
+thin-same : (n t : ℕ) → n ≡ min 2 (0 + (t + 0)) → ltb n 2 ≡ ltb t 2
+thin-same n t e =
+    elim (decLt t 2) [
+      | yes h ↦ lt-ltb n 2 (omega arith) ∙ sym (lt-ltb t 2 h)
+      | no h ↦ le-ltb n 2 (omega arith) ∙ sym (le-ltb t 2 (omega arith))
+    ]
+
+module _ (d : ℕ) (ws : List ℕ) (r : readOf d ws ≡ Whole) where
+  abbrev tbl : List (List (List ℕ))
+  tbl = tableOf ws
+
+  abbrev last : ℕ
+  last = endWord (length (layersWords 0 tbl))
+
+  ok : TableOk d tbl
+  ok = accepted-table d ws r
+
+  -- layer j, or the end, begins at word `at`
+  pub record Stands (at j : ℕ) : Type 0 where
+    pub inside : at ≤ length ws
+    pub words : drop at ws ≡ layersWords j (drop j tbl) ++ (last ∷ [])
+    pub rules : LayersOk j (drop j tbl)
+
+  pub stands-first : Stands 0 0
+  unfolding tableWords
+  stands-first =
+      record {
+        inside = omega arith;
+        words = formed-words d ws (accepted-formed d ws r .1) (accepted-depth d ws r .1);
+        rules = table-layers d tbl ok;
+      }
+
+  module _ (at j : ℕ) (s : Stands at j) (hj : j < d) where
+    abbrev es : List (List ℕ)
+    es = layerOf tbl j
+
+    abbrev rest : List ℕ
+    rest = layersWords (suc j) (drop (suc j) tbl) ++ (last ∷ [])
+
+    layer-there : drop j tbl ≡ es ∷ drop (suc j) tbl
+    unfolding layerOf
+    layer-there = drop-cons tbl j [] (omega (arith, ok .depth))
+
+    opened : drop at ws ≡ layerWord j ∷ (equationsWords 0 es ++ rest)
+    unfolding layersWords
+    opened =
+        s .words
+        ∙ ap (λ (l : List (List (List ℕ))). layersWords j l ++ (last ∷ [])) layer-there
+        ∙ ap {B = List ℕ} (λ l. layerWord j ∷ l) (append-assoc (equationsWords 0 es) (layersWords (suc j) (drop (suc j) tbl)) (last ∷ []))
+
+    pub known : j < maxDepth
+    known = omega (arith, accepted-depth d ws r .1)
+
+    -- so a word stands there
+    pub past-opener : at + 1 ≤ length ws
+    past-opener = omega (arith, s .inside, length-drop at ws, ap length opened)
+
+    equations-there : drop (at + 1) ws ≡ equationsWords 0 es ++ rest
+    equations-there = sym (drop-drop 1 at ws) ∙ ap (drop 1) opened
+
+    rules-there : LayersOk j (es ∷ drop (suc j) tbl)
+    rules-there = subst (LayersOk j) layer-there (s .rules)
+
+    -- no symbol is seen at first
+    abbrev none : List ℕ
+    none = replicate (kOf j) 0
+
+    none-length : length none ≡ kOf j
+    none-length = length-replicate {A = ℕ} (kOf j) 0
+
+    none-seen : (i : ℕ) → i < kOf j → getD none i 0 ≡ 0
+    none-seen i h = getD-replicate (kOf j) i 0 0 h
+
+    comes : Comes none (equationsWords 0 es ++ rest) rest (λ i. times i es + 0)
+    comes =
+        let o = rules-there in
+        pass-equations j 0 es rest rest (λ i. 0) known (o .1) (omega (arith, o .0))
+        (after-layer (length (layersWords 0 tbl)) (suc j) (drop (suc j) tbl)
+        (omega (arith, length-drop (suc j) tbl, ok .depth, accepted-depth d ws r .1)))
+        none (omega (arith, none-length, k-low j known))
+        (λ i h. omega (arith, none-seen i (omega (arith, none-length))))
+
+    abbrev seen : List ℕ
+    seen = tally none (equationsWords 0 es ++ rest) .seen
+
+    all-seen : length seen ≡ kOf j
+    all-seen = comes .as-long ∙ none-length
+
+    thin-there : (i : ℕ) → i < kOf j → isThin seen i ≡ ltb (times i es) 2
+    unfolding isThin
+    thin-there i h =
+        thin-same (getD seen i 0) (times i es)
+        (comes .counts i (omega (arith, none-length))
+        ∙ ap (λ (n : ℕ). min 2 (n + (times i es + 0))) (none-seen i h))
+
+    module _ (end low : ℕ) (c : LayerCounted ws (at + 1) (kOf j) end low) where
+      pub stands-next : Stands end (j + 1)
+      stands-next =
+          subst (Stands end) (sym (add-one j))
+          record {
+            inside = c .0;
+            words = c .1 ∙ ap (λ (l : List ℕ). tally none l .rest) equations-there ∙ comes .rest-is;
+            rules = rules-there .2;
+          }
+
+      pub lowest-there : low ≡ lowestThin tbl j
+      unfolding lowestThin
+      lowest-there =
+          c .2
+          ∙ ap (λ (l : List ℕ). lowest (isThin (tally none l .seen)) 0 (length (tally none l .seen))) equations-there
+          ∙ ap (lowest (isThin seen) 0) all-seen
+          ∙ lowest-same (isThin seen) (λ i. ltb (times i es) 2) 0 (kOf j) (λ i a h. thin-there i (omega arith))
+
+-- ---- the answer, by the first layer with such a symbol
+
+module _ (d : ℕ) (tbl : List (List (List ℕ))) where
+  -- the search from layer j on comes to what all of it comes to
+  abbrev pub From : ℕ → Type 0
+  From j = lowest (hasThin tbl) j (d - j) ≡ firstThin d tbl
+
+  pub from-first : From 0
+  unfolding firstThin
+  from-first = ap (lowest (hasThin tbl) 0) (omega arith)
+
+  module _ (j : ℕ) (f : From j) where
+    pub thin-found : j < d → lowestThin tbl j < kOf j → Uncovered j (lowestThin tbl j) ≡ coverageOf d tbl
+    unfolding coverageOf hasThin
+    thin-found h l =
+        let e : j ≡ firstThin d tbl = lowest-hit (hasThin tbl) d j (firstThin d tbl) f h (lt-ltb (lowestThin tbl j) (kOf j) l) in
+        ap (λ (x : ℕ). Uncovered x (lowestThin tbl x)) e
+        ∙ sym (pick-yes (ltb (firstThin d tbl) d) (Uncovered (firstThin d tbl) (lowestThin tbl (firstThin d tbl))) Covered (lt-ltb (firstThin d tbl) d (omega arith)))
+
+    pub none-thin : j < d → kOf j ≤ lowestThin tbl j → From (j + 1)
+    unfolding hasThin
+    none-thin h l = lowest-pass (hasThin tbl) d j (firstThin d tbl) f h (le-ltb (lowestThin tbl j) (kOf j) l)
+
+    pub all-covered : j ≡ d → Covered ≡ coverageOf d tbl
+    unfolding coverageOf
+    all-covered h =
+        let e : d ≡ firstThin d tbl = lowest-none (hasThin tbl) d j (firstThin d tbl) f h in
+        sym (pick-no (ltb (firstThin d tbl) d) (Uncovered (firstThin d tbl) (lowestThin tbl (firstThin d tbl))) Covered (le-ltb (firstThin d tbl) d (omega arith)))

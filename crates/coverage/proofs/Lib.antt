@@ -1,0 +1,4 @@
+pub mod Tallies
+pub mod Layers
+pub mod Times
+pub mod Right
