@@ -13,7 +13,7 @@ use Rattle.octets.proofs.Choice.{by-test, pick-yes, pick-no, pick-ind}
 use Rattle.parity_table.specs.Shape.{maxDepth, depthFits, nOf}
 use Rattle.parity_table.proofs.Shape.{depth-is}
 use Rattle.calls.specs.declared.Stop.{Stop}
-use Rattle.calls.specs.declared.Stop.the-variants.{Depth, Length, Table, Mark, Number, Head, Hash, NoFault, Absent}
+use Rattle.calls.specs.declared.Stop.the-variants.{Depth, Length, Table, Mark, Number, Head, Hash, NoFault, Absent, Uncovered}
 use Rattle.calls.specs.declared.Answer.{Answer}
 use Rattle.calls.specs.declared.Answer.the-variants.{Done, Stopped}
 use Rattle.calls.specs.Stops.{numberOf, valuesOf, Small}
@@ -117,6 +117,7 @@ number-low (Stopped Head) = omega arith
 number-low (Stopped Hash) = omega arith
 number-low (Stopped NoFault) = omega arith
 number-low (Stopped (Absent x)) = omega arith
+number-low (Stopped (Uncovered j i)) = omega arith
 
 -- an answer without values
 pub small-plain : {a : Answer} → valuesOf a ≡ (0, 0) → Small a

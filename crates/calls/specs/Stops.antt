@@ -1,6 +1,6 @@
--- The number of an answer, and the values that are returned with it: 01, "What stops a call". Definitions only.
+-- The number of an answer, and the values that are returned with it: 01, "What stops a call", and 02. Definitions only.
 use Prim.Native.Nat.{ℕ, _^_, _<_}
-use Rattle.calls.specs.declared.Stop.the-variants.{Depth, Length, Table, Mark, Number, Head, Hash, NoFault, Absent}
+use Rattle.calls.specs.declared.Stop.the-variants.{Depth, Length, Table, Mark, Number, Head, Hash, NoFault, Absent, Uncovered}
 use Rattle.calls.specs.declared.Answer.{Answer}
 use Rattle.calls.specs.declared.Answer.the-variants.{Done, Stopped}
 
@@ -15,6 +15,7 @@ numberOf (Stopped Head) = 6
 numberOf (Stopped Hash) = 7
 numberOf (Stopped NoFault) = 8
 numberOf (Stopped (Absent x)) = 9
+numberOf (Stopped (Uncovered j i)) = 10
 
 -- the values that are returned with it, at most two; 0 where there is none
 abbrev pub valuesOf : Answer → ℕ × ℕ
@@ -28,10 +29,7 @@ valuesOf (Stopped Head) = (0, 0)
 valuesOf (Stopped Hash) = (0, 0)
 valuesOf (Stopped NoFault) = (0, 0)
 valuesOf (Stopped (Absent x)) = (x, 0)
-
--- the first of them
-abbrev pub valueOf : Answer → ℕ
-valueOf a = valuesOf a .0
+valuesOf (Stopped (Uncovered j i)) = (j, i)
 
 -- the values have room in the one number that C gets: 24 bits for the first, 32 for the second
 pub record Small (a : Answer) : Type 0 where

@@ -1,4 +1,4 @@
--- The tests that calls share, in the order of their list: 1, 2, 3, then 4, then 5. Definitions only.
+-- The tests that calls share, in their order: 1, 2, 3, 10, then 4, then 5. Definitions only.
 use mathlib.Core.Bool.{Bool, _&&_}
 use mathlib.Core.List.{List}
 use Prim.Native.Nat.{ℕ, _-_}
@@ -9,9 +9,12 @@ use Rattle.parity_table.specs.Shape.{depthFits, nOf}
 use Rattle.parity_table.specs.declared.Answer.{Answer as Read}
 use Rattle.parity_table.specs.declared.Answer.the-variants as read
 use Rattle.parity_table.specs.Reader.{readOf}
-use Rattle.parity_table.specs.Parse.{over, indexedBy}
+use Rattle.parity_table.specs.Parse.{tableOf, indexOf, over}
 use Rattle.table_bytes.specs.Bytes.{wordsOf, lengthFits}
-use Rattle.calls.specs.declared.Stop.the-variants.{Depth, Length, Table, Mark, Number}
+use Rattle.coverage.specs.declared.Coverage.{Coverage}
+use Rattle.coverage.specs.declared.Coverage.the-variants as coverage
+use Rattle.coverage.specs.Coverage.{coverageOf}
+use Rattle.calls.specs.declared.Stop.the-variants.{Depth, Length, Table, Mark, Number, Uncovered}
 use Rattle.calls.specs.declared.Answer.{Answer}
 use Rattle.calls.specs.declared.Answer.the-variants.{Done, Stopped}
 use Rattle.calls.specs.Marks.{lowestBad}
@@ -44,6 +47,11 @@ readAnswer read.Length = Stopped Length
 readAnswer (read.Wrong i) = Stopped (Table i)
 readAnswer read.Whole = Done
 
+-- 10: "A table that keeps the old rules but breaks this stops with 10, tested right after 3, with the first such layer and its lowest such symbol."
+abbrev pub coverAnswer : Coverage → Answer
+coverAnswer coverage.Covered = Done
+coverAnswer (coverage.Uncovered j i) = Stopped (Uncovered j i)
+
 -- 4: "a mark neither 0 nor 1", with the lowest place
 unfoldable pub testMarks : List ℕ → Answer
 testMarks m = pick (ltb (lowestBad m) (length m)) (Stopped (Mark (lowestBad m))) Done
@@ -58,13 +66,17 @@ testNumber d i = pick (ltb i (nOf (d - 1))) Done (Stopped Number)
 abbrev pub opened : ℕ → Bool → Answer
 opened d sized = testDepth d then testLengths sized
 
--- of a call that is lent a table as bytes: 1, 2, 3
-abbrev pub admitted : ℕ → Bool → List ℕ → Answer
-admitted d sized table = opened d (sized && lengthFits (length table)) then readAnswer (readOf d (wordsOf table))
+-- of a table as words: 1, 3, 10
+abbrev pub wordsTested : ℕ → List ℕ → Answer
+wordsTested d ws = readAnswer (readOf d ws) then coverAnswer (coverageOf d (tableOf ws))
 
--- what a call's own buffers for words and index hold then: they are used once tests 1 and 2 have passed
+-- of a call that is lent a table as bytes: 1, 2, 3, 10
+abbrev pub admitted : ℕ → Bool → List ℕ → Answer
+admitted d sized table = opened d (sized && lengthFits (length table)) then wordsTested d (wordsOf table)
+
+-- what a call's own buffers then hold: for words, which are used once tests 1 and 2 have passed, and for the index of a table that is admitted
 abbrev pub wordsLeft : ℕ → Bool → List ℕ → List ℕ → List ℕ
 wordsLeft d sized table lent = left (opened d (sized && lengthFits (length table))) (over (wordsOf table) lent) lent
 
 abbrev pub startsLeft : ℕ → Bool → List ℕ → List ℕ → List ℕ
-startsLeft d sized table lent = left (opened d (sized && lengthFits (length table))) (indexedBy (readOf d (wordsOf table)) (wordsOf table) lent) lent
+startsLeft d sized table lent = left (admitted d sized table) (over (indexOf (wordsOf table)) lent) lent

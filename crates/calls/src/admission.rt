@@ -1,26 +1,20 @@
-// Tests 1, 2 and 3. A call that is lent a table makes its words and index in buffers of its own, which the cores take.
+// Tests 1 and 2, then those of a table. A call that is lent a table makes its words and index in buffers of its own, which the cores take.
 use crate::Answer;
 use crate::Stop;
-use parity_table::Answer as Read;
+use crate::check_words;
 use parity_table::MAX_EQUATIONS;
 use parity_table::depth_fits;
+use parity_table::index;
 use table_bytes::MAX_WORDS;
 use table_bytes::length_fits;
-use table_bytes::load_words;
+use table_bytes::words_from;
 ghost use mathlib.Core.Path.{_≡_};
-ghost use Rattle.calls.specs.Tests.{readAnswer, opened, admitted, wordsLeft, startsLeft};
-
-// The reader's answer as a call's.
-pub fn answer_of(r: Read) -> Answer
-    ensures { λ a. ⌜ a ≡ readAnswer r ⌝ }
-{
-    match r {
-        Read::Depth => Answer::Stopped(Stop::Depth),
-        Read::Length => Answer::Stopped(Stop::Length),
-        Read::Wrong(i) => Answer::Stopped(Stop::Table(i)),
-        Read::Whole => Answer::Done,
-    }
-}
+ghost use mathlib.Core.Bool.{true};
+ghost use Prim.Native.Nat.{_/_, _≤_};
+ghost use lib.ListN.{length, take};
+ghost use Rattle.parity_table.specs.Parse.{indexOf, over};
+ghost use Rattle.table_bytes.specs.Bytes.{maxBytes};
+ghost use Rattle.calls.specs.Tests.{opened, admitted, wordsLeft, startsLeft};
 
 // Tests 1 and 2: `sized` says whether the call's own buffers have the lengths of this depth.
 pub fn enter(depth: usize, sized: bool) -> Answer
@@ -35,8 +29,41 @@ pub fn enter(depth: usize, sized: bool) -> Answer
     Answer::Done
 }
 
-// Tests 1, 2 and 3. The table's words go to the front of words, and the index of a table that is accepted to the front of starts. Words that
-// break a rule stay in words: both buffers are the call's own.
+// Tests 1, 2, 3, 10. The table's words go to the front of words, which is the call's own: those of a table that is refused stay there.
+fn test_table(depth: usize, sized: bool, table: &[u8], words: &mut [u32]) -> Answer
+    requires { ⌜ maxBytes / 4 ≤ length (now words) ⌝ }
+    ensures { λ r.
+        ⌜ (r ≡ admitted depth sized (now (table .entry)))
+        × (now (words .exit) ≡ wordsLeft depth sized (now (table .entry)) (now (words .entry))) ⌝ }
+{
+    if let Answer::Stopped(s) = enter(depth, sized) {
+        return Answer::Stopped(s);
+    }
+    if !length_fits(table.len()) {
+        return Answer::Stopped(Stop::Length);
+    }
+    let n = table.len() / 4;
+    words_from(table, words);
+    check_words(&words[..n], depth)
+}
+
+// Checks a table of this depth, as bytes, for the answer alone.
+pub fn check_table(depth: usize, table: &[u8]) -> Answer
+    ensures { λ r. ⌜ r ≡ admitted depth true (now (table .entry)) ⌝ }
+{
+    let mut words = [0u32; MAX_WORDS];
+    test_table(depth, true, table, &mut words)
+}
+
+// The index of the first n words.
+fn fill_index(words: &[u32], n: usize, starts: &mut [usize])
+    requires { ⌜ (n ≤ length (now words)) × (length (indexOf (take n (now words))) ≤ length (now starts)) ⌝ }
+    ensures { λ r. ⌜ now (starts .exit) ≡ over (indexOf (take n (now (words .entry)))) (now (starts .entry)) ⌝ }
+{
+    index::fill(&words[..n], starts);
+}
+
+// Tests 1, 2, 3, 10. The words of a table go to the front of words, and the index of one that is admitted to the front of starts.
 pub fn admit(
     depth: usize,
     sized: bool,
@@ -49,11 +76,9 @@ pub fn admit(
         × (now (words .exit) ≡ wordsLeft depth sized (now (table .entry)) (now (words .entry)))
         × (now (starts .exit) ≡ startsLeft depth sized (now (table .entry)) (now (starts .entry))) ⌝ }
 {
-    if let Answer::Stopped(s) = enter(depth, sized) {
+    if let Answer::Stopped(s) = test_table(depth, sized, table, words) {
         return Answer::Stopped(s);
     }
-    if !length_fits(table.len()) {
-        return Answer::Stopped(Stop::Length);
-    }
-    answer_of(load_words(table, depth, words, starts))
+    fill_index(words, table.len() / 4, starts);
+    Answer::Done
 }

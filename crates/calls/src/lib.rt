@@ -1,19 +1,22 @@
 // What a call answers, and the tests that calls share, in the order of their list.
-mod admission; // 1, 2, 3: depth, lengths, table
+mod admission; // 1, 2: depth, lengths; then a table's tests
 mod base; // 5: the number of a base symbol
 mod lengths; // 2: the lengths of a tree and its marks
 mod marks; // 4: the marks of a tree
 mod numbering; // an answer as numbers
+mod table; // 3, 10: a table
 
 pub use admission::admit;
-pub use admission::answer_of;
+pub use admission::check_table;
 pub use admission::enter;
 pub use base::test_number;
 pub use lengths::tree_fits;
 pub use marks::test_marks;
 pub use numbering::numbers_of;
+pub use table::answer_of;
+pub use table::check_words;
 
-// Why a call stopped: 01, "What stops a call". A stop has at most two values.
+// Why a call stopped: 01, "What stops a call", and 02. A stop has at most two values.
 pub enum Stop {
     // the depth is not 1 to the largest
     Depth,
@@ -33,6 +36,8 @@ pub enum Stop {
     NoFault,
     // a needed symbol is absent: the index in the sample of the first, or its base number
     Absent(usize),
+    // a data symbol is a member of fewer than two equations of its layer: the first such layer, and its lowest such symbol
+    Uncovered { layer: usize, symbol: usize },
 }
 
 // What a call answers.

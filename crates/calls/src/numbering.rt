@@ -5,14 +5,13 @@ use crate::Stop;
 ghost use mathlib.Core.Path.{_≡_};
 ghost use Rattle.calls.specs.Stops.{numberOf, valuesOf};
 
-// A number alone, or with one value.
-fn with(number: usize, first: usize) -> Numbers
-    ensures { λ r. ⌜ (r .number ≡ number) × (r .first ≡ first) × (r .second ≡ 0) ⌝ }
+fn with(number: usize, first: usize, second: usize) -> Numbers
+    ensures { λ r. ⌜ (r .number ≡ number) × (r .first ≡ first) × (r .second ≡ second) ⌝ }
 {
     Numbers {
         number,
         first,
-        second: 0,
+        second,
     }
 }
 
@@ -22,15 +21,16 @@ fn of_stop(s: Stop) -> Numbers
         × (r .second ≡ valuesOf (Answer.Stopped s) .1) ⌝ }
 {
     match s {
-        Stop::Depth => with(1, 0),
-        Stop::Length => with(2, 0),
-        Stop::Table(i) => with(3, i),
-        Stop::Mark(p) => with(4, p),
-        Stop::Number => with(5, 0),
-        Stop::Head => with(6, 0),
-        Stop::Hash => with(7, 0),
-        Stop::NoFault => with(8, 0),
-        Stop::Absent(x) => with(9, x),
+        Stop::Depth => with(1, 0, 0),
+        Stop::Length => with(2, 0, 0),
+        Stop::Table(i) => with(3, i, 0),
+        Stop::Mark(p) => with(4, p, 0),
+        Stop::Number => with(5, 0, 0),
+        Stop::Head => with(6, 0, 0),
+        Stop::Hash => with(7, 0, 0),
+        Stop::NoFault => with(8, 0, 0),
+        Stop::Absent(x) => with(9, x, 0),
+        Stop::Uncovered { layer, symbol } => with(10, layer, symbol),
     }
 }
 
@@ -38,7 +38,7 @@ pub fn numbers_of(a: Answer) -> Numbers
     ensures { λ r. ⌜ (r .number ≡ numberOf a) × (r .first ≡ valuesOf a .0) × (r .second ≡ valuesOf a .1) ⌝ }
 {
     match a {
-        Answer::Done => with(0, 0),
+        Answer::Done => with(0, 0, 0),
         Answer::Stopped(s) => of_stop(s),
     }
 }

@@ -1,13 +1,11 @@
 -- An accepted table, layer after layer: where a loop over its layers stands, and what a layer comes to.
-use mathlib.Core.Path.{_≡_, refl, sym, ap, ap₂, _∙_, subst}
-use mathlib.Core.Bool.{Bool, true, false}
+use mathlib.Core.Path.{_≡_, sym, ap, _∙_, subst}
 use mathlib.Core.List.{List, [], _∷_, _++_, append-assoc}
-use Prim.Native.Nat.{ℕ, zero, suc, _+_, _-_, _*_, _^_, _≤_, _<_, min}
-use native.Mathlib.Nat.{zero-add}
+use Prim.Native.Nat.{ℕ, suc, _+_, _-_, _≤_, _<_, min}
 use native.Mathlib.Numerals.{add-one}
 use native.Mathlib.Omega.{arith}
 use native.Mathlib.Decide.{decLt}
-use lib.ListN.{length, getD, drop, replicate, length-drop, length-append, length-replicate, getD-replicate}
+use lib.ListN.{length, getD, drop, replicate, length-drop, length-replicate, getD-replicate}
 use lib.Seq.{drop-cons, drop-drop}
 use lib.Dec.{ltb}
 use borrow.Author.Tests.{lt-ltb, le-ltb, le-leb}
@@ -15,7 +13,7 @@ use Rattle.octets.proofs.Choice.{pick-yes, pick-no}
 use Rattle.parity_table.specs.Shape.{maxDepth, kOf}
 use Rattle.parity_table.specs.declared.Answer.the-variants.{Whole}
 use Rattle.parity_table.specs.Reader.{readOf}
-use Rattle.parity_table.specs.Table.{layerOf, layerWord, equationWord, endWord, equationsWords, layersWords, tableWords, TableOk, WellFormed}
+use Rattle.parity_table.specs.Table.{layerOf, layerWord, endWord, equationsWords, layersWords, tableWords, TableOk}
 use Rattle.parity_table.specs.Parse.{tableOf}
 use Rattle.parity_table.proofs.Accepts.{accepted-depth, accepted-formed, accepted-table}
 use Rattle.parity_table.proofs.Parse.{formed-words}
@@ -23,7 +21,7 @@ use Rattle.parity_table.proofs.Rules.{LayersOk, table-layers}
 use Rattle.parity_table.proofs.Shape.{k-low}
 use Rattle.model.specs.Symbols.{lowest}
 use Rattle.model.proofs.Counts.{lowest-same, lowest-hit, lowest-pass, lowest-none}
-use Rattle.coverage.specs.Counting.{endsLayer, Tally, tallied, tally, isThin, LayerCounted}
+use Rattle.coverage.specs.Counting.{Tally, tallied, tally, isThin, LayerCounted}
 use Rattle.coverage.specs.declared.Coverage.the-variants.{Covered, Uncovered}
 use Rattle.coverage.specs.Coverage.{times, lowestThin, hasThin, firstThin, coverageOf}
 use Rattle.coverage.proofs.Tallies.{ends-layer, ends-equation, Comes, Pass, pass-end, pass-equations}

@@ -1,15 +1,15 @@
 -- The answer on a table's coverage is right, and no other is.
-use mathlib.Core.Path.{_≡_, refl, sym, ap, ap₂, _∙_, subst}
+use mathlib.Core.Path.{_≡_, refl, sym, ap₂, subst}
 use mathlib.Core.Logic.{_≢_}
-use mathlib.Core.Bool.{Bool, true, false, true≢false}
-use mathlib.Core.List.{List, []}
-use Prim.Native.Nat.{ℕ, suc, _+_, _*_, _≤_, _<_}
+use mathlib.Core.Bool.{true, false}
+use mathlib.Core.List.{List}
+use Prim.Native.Nat.{ℕ, _*_, _≤_, _<_}
 use native.Mathlib.Omega.{arith}
 use native.Mathlib.Decide.{decLt}
-use lib.ListN.{length, getD}
+use lib.ListN.{length}
 use lib.Dec.{ltb}
-use borrow.Author.Tests.{ltb-true, ltb-false, lt-ltb, le-ltb}
-use Rattle.octets.proofs.Choice.{by-test, pick-ind, both}
+use borrow.Author.Tests.{ltb-true, ltb-false}
+use Rattle.octets.proofs.Choice.{pick-ind}
 use Rattle.parity_table.specs.Shape.{kOf}
 use Rattle.parity_table.specs.Table.{layerOf, equationOf, TableOk}
 use Rattle.parity_table.specs.Coverage.{Mentions, InTwo, Covered, FirstUncovered}
@@ -19,6 +19,11 @@ use Rattle.coverage.specs.declared.Coverage.{Coverage}
 use Rattle.coverage.specs.declared.Coverage.the-variants as found
 use Rattle.coverage.specs.Coverage.{times, lowestThin, hasThin, firstThin, coverageOf, Right}
 use Rattle.coverage.proofs.Times.{twice, two-equations}
+
+-- it is a data symbol, or their number
+pub lowest-low : (tbl : List (List (List ℕ))) (j : ℕ) → lowestThin tbl j ≤ kOf j
+unfolding lowestThin
+lowest-low tbl j = omega (arith, lowest-is (λ i. ltb (times i (layerOf tbl j)) 2) 0 (kOf j) .upto)
 
 module _ (d : ℕ) (tbl : List (List (List ℕ))) (o : TableOk d tbl) where
   -- ---- a data symbol

@@ -1,20 +1,19 @@
 -- The pass over a layer's words: what each word does, and what the counts come to at its end.
-use mathlib.Core.Path.{_≡_, refl, sym, ap, ap₂, _∙_, subst}
+use mathlib.Core.Path.{_≡_, refl, sym, ap, _∙_, subst}
 use mathlib.Core.Bool.{Bool, true, false, not, _&&_}
 use mathlib.Core.List.{List, [], _∷_, _++_, append-assoc}
-use Prim.Native.Nat.{ℕ, zero, suc, _+_, _*_, _^_, _≤_, _<_, min}
+use Prim.Native.Nat.{ℕ, suc, _+_, _*_, _≤_, _<_, min}
 use native.Mathlib.Nat.{zero-add}
 use native.Mathlib.Numerals.{add-one}
 use native.Mathlib.Omega.{arith}
-use lib.ListN.{length, getD, take, drop, set, length-set, drop-of-length-le}
+use lib.ListN.{length, getD, drop, set, length-set, drop-of-length-le}
 use lib.Seq.{drop-cons, getD-set-same, getD-set-other}
 use lib.Dec.{leb, ltb, eqb}
-use borrow.Author.Tests.{lt-ltb, le-ltb, ltb-true, ltb-false, le-leb, lt-leb, eqb-true, eqb-false, eq-eqb, ne-eqb}
-use Rattle.octets.specs.Choice.{pick}
-use Rattle.octets.proofs.Choice.{by-test, pick-yes, pick-no, pick-ind, and-yes, yes-and}
+use borrow.Author.Tests.{lt-ltb, le-ltb, ltb-true, ltb-false, le-leb, lt-leb, leb-true, leb-false, eqb-true, eqb-false}
+use Rattle.octets.proofs.Choice.{by-test, pick-yes, pick-no, pick-ind, and-yes}
 use Rattle.parity_table.specs.Shape.{maxDepth, kOf}
 use Rattle.parity_table.specs.Members.{every}
-use Rattle.parity_table.specs.Table.{layerWord, equationWord, endWord, equationsWords, layersWords}
+use Rattle.parity_table.specs.Table.{layerWord, equationWord, endWord, equationsWords}
 use Rattle.parity_table.specs.Parse.{opensEquation}
 use Rattle.parity_table.proofs.Starts.{opens-yes, opens-low, opens-high}
 use Rattle.parity_table.proofs.Chain.{equation-chain, chain-within}
@@ -41,9 +40,9 @@ ends-layer w h g = sym (ap not (opens-low w g)) ∙ ends-high w h
 pub ends-equation : (w : ℕ) → equationWord 0 ≤ w → leb (endWord 0) w ≡ endsLayer w
 ends-equation w h =
     by-test (leb (endWord 0) w)
-    (λ t. t ∙ sym (ap not (opens-high w (borrow.Author.Tests.leb-true (endWord 0) w t))) ∙ ends-high w (omega arith))
+    (λ t. t ∙ sym (ap not (opens-high w (leb-true (endWord 0) w t))) ∙ ends-high w (omega arith))
     (λ t.
-    let l : w < endWord 0 = borrow.Author.Tests.leb-false (endWord 0) w t in
+    let l : w < endWord 0 = leb-false (endWord 0) w t in
     t ∙ sym (ap not (opens-yes w h l)) ∙ ends-high w (omega arith))
 
 -- ---- one more

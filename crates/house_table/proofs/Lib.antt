@@ -1,3 +1,4 @@
 pub mod HouseRules
 pub mod HouseParts
 pub mod HouseBytes
+pub mod HouseCovered

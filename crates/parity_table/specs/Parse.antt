@@ -6,8 +6,7 @@ use Prim.Native.Nat.{ℕ, suc, _+_, _-_, _*_, _≤_, _<_}
 use lib.ListN.{length, take, drop}
 use lib.Dec.{leb, ltb}
 use Rattle.octets.specs.Choice.{pick}
-use Rattle.parity_table.specs.declared.Answer.{Answer}
-use Rattle.parity_table.specs.declared.Answer.the-variants.{Depth, Length, Wrong, Whole}
+use Rattle.parity_table.specs.declared.Answer.the-variants.{Whole}
 use Rattle.parity_table.specs.Shape.{kOf}
 use Rattle.parity_table.specs.Table.{equationOf, layerWord, equationWord, endWord}
 use Rattle.parity_table.specs.Reader.{readOf}
@@ -60,13 +59,6 @@ indexOf ws = startsFrom 0 ws
 -- what a lent list holds once xs is written to its front
 abbrev pub over : List ℕ → List ℕ → List ℕ
 over xs lent = xs ++ drop (length xs) lent
-
--- what the index's lent buffer holds after the reader's answer: the index of an accepted table
-abbrev pub indexedBy : Answer → List ℕ → List ℕ → List ℕ
-indexedBy Depth ws lent = lent
-indexedBy Length ws lent = lent
-indexedBy (Wrong i) ws lent = lent
-indexedBy Whole ws lent = over (indexOf ws) lent
 
 -- the equations of all layers above layer j: 3k each, 3 (4 + 8 + ..)
 unfoldable pub equationsAbove : ℕ → ℕ

@@ -1,5 +1,4 @@
 // Where the equations of a table stand in its words, so that each is reached at once.
-use crate::Answer;
 use crate::END;
 use crate::EQUATION;
 use crate::LAYER;
@@ -8,7 +7,7 @@ ghost use mathlib.Core.Path.{_≡_};
 ghost use Prim.Native.Nat.{_*_, _≤_, _<_};
 ghost use lib.ListN.{length, drop};
 ghost use Rattle.parity_table.specs.Shape.{maxDepth, kOf};
-ghost use Rattle.parity_table.specs.Parse.{membersOf, indexOf, over, indexedBy, numberIn, HasEquation, Located};
+ghost use Rattle.parity_table.specs.Parse.{membersOf, indexOf, over, numberIn, HasEquation, Located};
 
 // Where the members of an equation stand.
 pub struct Span {
@@ -32,21 +31,6 @@ pub fn fill(ws: &[u32], starts: &mut [usize])
                 found += 1;
             }
         }
-    }
-}
-
-// The same where the reader has accepted the words; else starts stays.
-pub fn fill_accepted(ws: &[u32], a: Answer, starts: &mut [usize])
-    requires { ⌜ (a ≡ Answer.Whole → length (indexOf (now ws)) ≤ length (now starts)) ⌝ }
-    ensures { λ r. ⌜ now (starts .exit) ≡ indexedBy a (now (ws .entry)) (now (starts .entry)) ⌝ }
-{
-    match a {
-        Answer::Whole => {
-            fill(ws, starts);
-        }
-        Answer::Depth => {}
-        Answer::Length => {}
-        Answer::Wrong(_) => {}
     }
 }
 

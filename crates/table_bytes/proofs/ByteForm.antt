@@ -9,17 +9,11 @@ use lib.ListN.{length, getD, take, drop, set, drop-of-length-le}
 use lib.Seq.{drop-cons, set-append-seam, take-at}
 use lib.Dec.{leb, eqb}
 use borrow.Author.Tests.{leb-true, le-leb, lt-leb}
-use Rattle.octets.specs.Choice.{pick}
 use Rattle.octets.specs.BigEndian.{be, wordAt, words, bytesOf}
 use Rattle.octets.proofs.Bytes.{length-words}
-use Rattle.parity_table.specs.declared.Answer.{Answer}
-use Rattle.parity_table.specs.declared.Answer.the-variants.{Depth, Length, Wrong, Whole}
-use Rattle.parity_table.specs.Shape.{depthFits}
-use Rattle.parity_table.specs.Reader.{readOf}
-use Rattle.parity_table.specs.Parse.{indexOf, over, indexedBy, Indexed}
-use Rattle.table_bytes.specs.Bytes.{maxBytes, lengthFits, wordsOf, readBytesOf}
-use Rattle.octets.proofs.Choice.{by-test, pick-yes, pick-no, and-yes}
-use Rattle.parity_table.proofs.Accepts.{refused-wrong}
+use Rattle.parity_table.specs.Parse.{over}
+use Rattle.table_bytes.specs.Bytes.{maxBytes, lengthFits, wordsOf}
+use Rattle.octets.proofs.Choice.{and-yes}
 
 -- ---- a length
 
@@ -63,22 +57,6 @@ pub bytes-none : (ws : List ℕ) (i : ℕ) → length ws ≤ i → bytesOf (drop
 unfolding bytesOf
 bytes-none ws i h = ap bytesOf (drop-of-length-le ws {i = i} h)
 
--- ---- the reader's answer of bytes
-
-pub bytes-depth : (d : ℕ) (b : List ℕ) → depthFits d ≡ false → Depth ≡ readBytesOf d b
-unfolding readBytesOf
-bytes-depth d b t = sym (pick-no (depthFits d) _ _ t)
-
-bytes-by : (d : ℕ) (b : List ℕ) → depthFits d ≡ true → readBytesOf d b ≡ pick (lengthFits (length b)) (readOf d (wordsOf b)) Length
-unfolding readBytesOf
-bytes-by d b t = pick-yes (depthFits d) _ _ t
-
-pub bytes-length : (d : ℕ) (b : List ℕ) → depthFits d ≡ true → lengthFits (length b) ≡ false → Length ≡ readBytesOf d b
-bytes-length d b h t = sym (bytes-by d b h ∙ pick-no (lengthFits (length b)) (readOf d (wordsOf b)) Length t)
-
-pub bytes-words : (d : ℕ) (b : List ℕ) → depthFits d ≡ true → lengthFits (length b) ≡ true → readOf d (wordsOf b) ≡ readBytesOf d b
-bytes-words d b h t = sym (bytes-by d b h ∙ pick-yes (lengthFits (length b)) (readOf d (wordsOf b)) Length t)
-
 length-most : (n : ℕ) → lengthFits n ≡ true → n ≤ maxBytes
 unfolding lengthFits
 length-most n t = leb-true n maxBytes (and-yes (leb n maxBytes) (eqb (n % 4) 0) t .0)
@@ -91,39 +69,6 @@ wordsOf-length b = length-words b (length b / 4)
 pub words-front : (b lent v : List ℕ) → v ≡ over (wordsOf b) lent → take (length b / 4) v ≡ wordsOf b
 words-front b lent v h =
     ap (take (length b / 4)) h ∙ take-at (wordsOf b) (drop (length (wordsOf b)) lent) (length b / 4) (wordsOf-length b)
-
--- ---- what a caller knows of an answer
-
--- an answer 3 or 0 is the reader's on the words
-by-words : (d : ℕ) (b : List ℕ) (r : Answer) → readBytesOf d b ≡ r → (Depth ≡ r → ⊥) → (Length ≡ r → ⊥) → (lengthFits (length b) ≡ true) × (readOf d (wordsOf b) ≡ r)
-by-words d b r q nd nl =
-    by-test (depthFits d)
-    (λ t.
-    by-test (lengthFits (length b)) (λ u. (u, bytes-words d b t u ∙ q)) (λ u. absurd (nl (bytes-length d b t u ∙ q))))
-    (λ t. absurd (nd (bytes-depth d b t ∙ q)))
-
--- a wrong word of a table from C is one of its words, or their number
-pub bytes-wrong : (d : ℕ) (b : List ℕ) (i : ℕ) → readBytesOf d b ≡ Wrong i → i ≤ maxBytes / 4
-bytes-wrong d b i q =
-    let (u, r) =
-    by-words d b (Wrong i) q (λ e. let z : _≡_ {A = ℕ} 0 1 = cc in omega arith) (λ e. let z : _≡_ {A = ℕ} 0 1 = cc in omega arith) in
-    omega (arith, refused-wrong d (wordsOf b) i r .1 .within, wordsOf-length b, length-most (length b) u)
-
-module _ (d : ℕ) (b : List ℕ) (q : readBytesOf d b ≡ Whole) where
-  -- the reader has accepted the words
-  pub bytes-accepted : readOf d (wordsOf b) ≡ Whole
-  bytes-accepted =
-      by-words d b Whole q (λ e. let z : _≡_ {A = ℕ} 0 1 = cc in omega arith) (λ e. let z : _≡_ {A = ℕ} 0 1 = cc in omega arith) .1
-
-  -- and the index's buffer holds their index
-  pub loaded-indexed : (lent : List ℕ) → Indexed d (wordsOf b) (indexedBy (readBytesOf d b) (wordsOf b) lent)
-  loaded-indexed lent =
-      record {
-        accepted = bytes-accepted;
-        index =
-            ap (λ (r : Answer). take (length (indexOf (wordsOf b))) (indexedBy r (wordsOf b) lent)) q
-            ∙ take-at (indexOf (wordsOf b)) (drop (length (indexOf (wordsOf b))) lent) (length (indexOf (wordsOf b))) refl;
-      }
 
 -- the words of a table have room in a buffer for the longest
 pub quarter-most : (n : ℕ) → lengthFits n ≡ true → n / 4 ≤ maxBytes / 4

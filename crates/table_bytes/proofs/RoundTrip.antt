@@ -1,13 +1,13 @@
--- A list of words goes to bytes and back unchanged, so the reader's answer is the same in both forms.
+-- A list of words goes to bytes and back unchanged, so a table's bytes say that table.
 use mathlib.Core.Path.{_≡_, refl, sym, ap, _∙_}
-use mathlib.Core.Bool.{Bool, true, _&&_}
+use mathlib.Core.Bool.{Bool, true}
 use mathlib.Core.List.{List, [], _∷_, _++_}
 use Prim.Native.Nat.{ℕ, zero, suc, _+_, _*_, _/_, _%_, _^_, _≤_, _<_}
 use native.Mathlib.Nat.{div-add-mod', div-div-eq-div-mul, mod-eq-of-lt}
 use native.Mathlib.Omega.{arith}
 use lib.ListN.{length, getD, take, length-append}
 use lib.Seq.{take-suc, take-length}
-use lib.Dec.{ltb, leb, eqb}
+use lib.Dec.{ltb}
 use borrow.Author.Tests.{ltb-true, lt-ltb, le-leb, eq-eqb}
 use Rattle.octets.specs.BigEndian.{be, wordAt, words, bytesOf}
 use Rattle.octets.proofs.Bytes.{length-bytesOf}
@@ -16,14 +16,14 @@ use Rattle.parity_table.specs.Shape.{maxDepth, depthFits, kOf}
 use Rattle.parity_table.specs.Members.{every}
 use Rattle.parity_table.specs.Table.{TableOk, layerWord, equationWord, endWord, equationsWords, layersWords, tableWords}
 use Rattle.parity_table.specs.Reader.{readOf}
-use Rattle.table_bytes.specs.Bytes.{maxBytes, lengthFits, wordsOf, readBytesOf}
+use Rattle.table_bytes.specs.Bytes.{maxBytes, lengthFits, wordsOf}
 use Rattle.parity_table.specs.Parse.{tableOf}
-use Rattle.octets.proofs.Choice.{by-test, pick-yes, pick-no, and-yes, yes-and}
+use Rattle.octets.proofs.Choice.{and-yes, yes-and}
 use Rattle.parity_table.proofs.Chain.{equation-chain, chain-within}
 use Rattle.parity_table.proofs.Rules.{EquationsOk, LayersOk, table-layers}
 use Rattle.parity_table.proofs.Parse.{tableOf-words}
 use Rattle.parity_table.proofs.Shape.{depth-is, k-small}
-use Rattle.parity_table.proofs.Accepts.{read-depth, formed-accepted}
+use Rattle.parity_table.proofs.Accepts.{formed-accepted}
 
 -- the words are of 32 bits
 abbrev pub Words : List ℕ → Type 0
@@ -84,19 +84,6 @@ words-bytes ws s =
     let n : length (bytesOf ws) / 4 ≡ length ws = omega (arith, length-bytesOf ws) in
     ap (words (bytesOf ws)) n ∙ words-of ws (length ws) s (omega arith) ∙ take-length ws
 
--- the reader's answer is that of the words
-pub bytes-read : (d : ℕ) (ws : List ℕ) → Words ws → length ws * 4 ≤ maxBytes → readBytesOf d (bytesOf ws) ≡ readOf d ws
-unfolding readBytesOf lengthFits
-bytes-read d ws s h =
-    by-test (depthFits d)
-    (λ t.
-    pick-yes (depthFits d) _ _ t
-    ∙ pick-yes (leb (length (bytesOf ws)) maxBytes && eqb (length (bytesOf ws) % 4) 0) _ _
-    (yes-and (le-leb (length (bytesOf ws)) maxBytes (omega (arith, length-bytesOf ws)))
-    (eq-eqb (length (bytesOf ws) % 4) 0 (omega (arith, length-bytesOf ws))))
-    ∙ ap (readOf d) (words-bytes ws s))
-    (λ t. pick-no (depthFits d) _ _ t ∙ read-depth d ws t)
-
 -- ---- the words of a table are of 32 bits
 
 pub every-append : (p : ℕ → Bool) (xs ys : List ℕ) → every p xs ≡ true → every p ys ≡ true → every p (xs ++ ys) ≡ true
@@ -135,14 +122,20 @@ table-words d tbl o h n =
     words-append (layersWords 0 tbl) (endWord m ∷ []) (words-layers 0 tbl (omega (arith, o .depth)) (table-layers d tbl o))
     (words-cons (endWord m) [] (omega (arith, length-append (layersWords 0 tbl) (endWord m ∷ []))) refl)
 
--- a table by the rules that isn't too long is accepted as bytes, and they say that table
+-- a table by the rules that isn't too long has a length that fits as bytes; they say that table, and their words are accepted
 module _ (d : ℕ) (tbl : List (List (List ℕ))) (o : TableOk d tbl) (t : depthFits d ≡ true) (short : length (tableWords tbl) * 4 ≤ maxBytes) where
   table-word : Words (tableWords tbl)
   table-word = table-words d tbl o (depth-is d t .1) (omega arith)
 
-  pub table-bytes-accepted : readBytesOf d (bytesOf (tableWords tbl)) ≡ Whole
+  pub table-bytes-fit : lengthFits (length (bytesOf (tableWords tbl))) ≡ true
+  unfolding lengthFits
+  table-bytes-fit =
+      let n = length-bytesOf (tableWords tbl) in
+      yes-and (le-leb (length (bytesOf (tableWords tbl))) maxBytes (omega arith)) (eq-eqb (length (bytesOf (tableWords tbl)) % 4) 0 (omega arith))
+
+  pub table-bytes-accepted : readOf d (wordsOf (bytesOf (tableWords tbl))) ≡ Whole
   table-bytes-accepted =
-      bytes-read d (tableWords tbl) table-word short ∙ formed-accepted d (tableWords tbl) t (record { table = tbl; rules = o; written = refl })
+      ap (readOf d) (words-bytes (tableWords tbl) table-word) ∙ formed-accepted d (tableWords tbl) t (record { table = tbl; rules = o; written = refl })
 
   pub table-bytes-say : tableOf (wordsOf (bytesOf (tableWords tbl))) ≡ tbl
   table-bytes-say = ap tableOf (words-bytes (tableWords tbl) table-word) ∙ tableOf-words d tbl o (depth-is d t .1)

@@ -5,12 +5,7 @@ use mathlib.Core.List.{List}
 use Prim.Native.Nat.{ℕ, _/_, _%_}
 use lib.ListN.{length}
 use lib.Dec.{leb, eqb}
-use Rattle.octets.specs.Choice.{pick}
 use Rattle.octets.specs.BigEndian.{words}
-use Rattle.parity_table.specs.declared.Answer.{Answer}
-use Rattle.parity_table.specs.declared.Answer.the-variants.{Depth, Length}
-use Rattle.parity_table.specs.Shape.{depthFits}
-use Rattle.parity_table.specs.Reader.{readOf}
 
 -- the words of the bytes
 unfoldable pub wordsOf : List ℕ → List ℕ
@@ -22,7 +17,3 @@ maxBytes = 16384
 
 unfoldable pub lengthFits : ℕ → Bool
 lengthFits n = leb n maxBytes && eqb (n % 4) 0
-
--- what the reader answers of a table from C, for depth d: tests 1, 2 and 3 in this order
-unfoldable pub readBytesOf : ℕ → List ℕ → Answer
-readBytesOf d b = pick (depthFits d) (pick (lengthFits (length b)) (readOf d (wordsOf b)) Length) Depth

@@ -1,9 +1,7 @@
 -- `check` meets its contract. The loop keeps: layer j begins at word `at`, and the first layer with such a symbol, from j on, is the first of all.
-use mathlib.Core.Path.{_≡_, refl, sym, ap, _∙_, subst}
+use mathlib.Core.Path.{_≡_, ap, _∙_, subst}
 use Prim.Native.Nat.{ℕ, _+_, _-_, _≤_}
 use native.Mathlib.Omega.{arith}
-use borrow.Author.Needs.{needs}
-use Rattle.parity_table.specs.Shape.{kOf}
 use Rattle.parity_table.specs.declared.Answer.the-variants.{Whole}
 use Rattle.parity_table.specs.Reader.{readOf}
 use Rattle.parity_table.specs.Parse.{tableOf}

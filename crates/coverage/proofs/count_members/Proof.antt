@@ -5,7 +5,7 @@ use Prim.Native.Nat.{ℕ, _+_, _-_, _≤_}
 use native.Mathlib.Omega.{arith}
 use lib.ListN.{length, getD, drop}
 use borrow.Author.Needs.{needs}
-use Rattle.coverage.specs.Counting.{tally, noted}
+use Rattle.coverage.specs.Counting.{tally}
 use Rattle.coverage.proofs.Tallies.{noted-length, tally-end, tally-on, tally-over}
 use Rattle.coverage.proofs.count_members.Statement.{statement}
 use Rattle.coverage.proofs.count_members.Tie as tie

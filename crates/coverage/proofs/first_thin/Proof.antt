@@ -2,8 +2,7 @@
 use mathlib.Core.Path.{_≡_, refl, ap}
 use Prim.Native.Nat.{_-_, _≤_}
 use native.Mathlib.Omega.{arith}
-use lib.ListN.{length, getD}
-use borrow.Author.Tests.{lt-ltb, le-ltb}
+use lib.ListN.{length}
 use Rattle.model.specs.Symbols.{lowest}
 use Rattle.model.proofs.Counts.{lowest-hit, lowest-pass, lowest-none}
 use Rattle.coverage.specs.Counting.{isThin}

@@ -2,8 +2,8 @@
 use mathlib.Core.Path.{sym, ap}
 use borrow.Author.Needs.{needs}
 use Rattle.calls.specs.Tests.{readAnswer}
-use Rattle.calls.proofs.admission.answer_of.Statement.{statement}
-use Rattle.calls.proofs.admission.answer_of.Tie as tie
+use Rattle.calls.proofs.table.answer_of.Statement.{statement}
+use Rattle.calls.proofs.table.answer_of.Tie as tie
 
 enum-told : tie.Need-enum-told
 enum-told c = search needs
