@@ -8,14 +8,14 @@ use fault_calls::Outcome;
 use fault_calls::ending_of;
 use sha256::Answer as Hashed;
 ghost use mathlib.Core.Path.{_≡_};
+ghost use mathlib.Core.Bool.{true};
 ghost use Prim.Native.Nat.{_+_, _*_, _^_, _<_};
 ghost use lib.ListN.{length};
 ghost use Rattle.octets.specs.BigEndian.{bytesOf};
 ghost use Rattle.sha256.specs.Call.{answer, after};
-ghost use Rattle.table_bytes.specs.Bytes.{readBytesOf};
 ghost use Rattle.house_table.specs.House.{houseWords, houseAnswer, houseOut};
 ghost use Rattle.calls.specs.Stops.{Small};
-ghost use Rattle.calls.specs.Tests.{readAnswer};
+ghost use Rattle.calls.specs.Tests.{readAnswer, admitted};
 ghost use Rattle.volume_calls.specs.Writing.{treeWritten};
 ghost use Rattle.volume_calls.specs.Writing as writing;
 ghost use Rattle.volume_calls.specs.Reading.{blockRead};
@@ -91,12 +91,13 @@ pub extern "C" fn cmt_sha256(message: &[u8], digest: &mut [u8]) -> u64
     call_result(hash_answer(sha256::digest(message, digest)))
 }
 
-// Whether the bytes are a well-formed parity table of this depth. 1: the depth; 2: the length; 3: the first wrong word, or the number of words.
+// Whether a call takes these bytes as a parity table of this depth. 1: the depth; 2: the length; 3: the first wrong word, or the number of words;
+// 10: the first layer with a data symbol in fewer than two of its equations, and the lowest such symbol.
 #[no_mangle]
 pub extern "C" fn cmt_table_check(depth: u64, table: &[u8]) -> u64
-    ensures { λ r. ⌜ r ≡ callResult (readAnswer (readBytesOf depth (now (table .entry)))) ⌝ }
+    ensures { λ r. ⌜ r ≡ callResult (admitted depth true (now (table .entry))) ⌝ }
 {
-    call_result(calls::answer_of(table_bytes::check(table, depth as usize)))
+    call_result(calls::check_table(depth as usize, table))
 }
 
 // The house table of this depth into exactly as many bytes as it has. 1: the depth; 2: the length; and nothing changed.
@@ -111,7 +112,8 @@ pub extern "C" fn cmt_house_table(depth: u64, table: &mut [u8]) -> u64
     call_result(calls::answer_of(house_table::write_bytes(table, depth as usize)))
 }
 
-// Writes the tree of a block, its marks and its root. 1: the depth; 2: a length; 3: the table's first wrong word.
+// Writes the tree of a block, its marks and its root. 1: the depth; 2: a length; 3: the table's first wrong word; 10: its first
+// uncovered layer and symbol.
 #[no_mangle]
 pub extern "C" fn cmt_tree_write(
     depth: u64,
@@ -162,7 +164,7 @@ pub extern "C" fn cmt_sample_check(depth: u64, number: u64, root: &[u8], sample:
 }
 
 // Checks a fault proof against a root and a table. 0: a fault is shown; 1: the depth; 2: a length; 3: the table's first wrong word;
-// 6: the head; 7: a hash doesn't lead to the root; 8: the withheld hash fits.
+// 10: its first uncovered layer and symbol; 6: the head; 7: a hash doesn't lead to the root; 8: the withheld hash fits.
 #[no_mangle]
 pub extern "C" fn cmt_proof_check(depth: u64, root: &[u8], table: &[u8], proof: &[u8]) -> u64
     ensures { λ r. ⌜ r ≡ callResult (proofChecked depth (now (root .entry)) (now (table .entry)) (now (proof .entry))) ⌝ }
@@ -171,7 +173,7 @@ pub extern "C" fn cmt_proof_check(depth: u64, root: &[u8], table: &[u8], proof: 
 }
 
 // Repairs a tree by its root and a table; the output is for a fault proof or twins. 1: the depth; 2: a length; 3: the table's first wrong word;
-// 4: the lowest bad mark. A repair that ended: 0, its end, the symbols stored, and the proof's length or the incomplete layer.
+// 10: its first uncovered layer and symbol; 4: the lowest bad mark. A repair that ended: 0, its end, the symbols stored, and the proof's length or the incomplete layer.
 #[no_mangle]
 pub extern "C" fn cmt_repair(
     depth: u64,

@@ -58,7 +58,7 @@ proof-admitted : (d : ℕ) (root table t m o : List ℕ) → Formed d root table
     → Done ≡ admitted d (proofSized (length root) (length b)) table
 proof-admitted d root table t m o k b l =
     admits d (proofSized (length root) (length b)) table (k .admits .deep) (yes-and (eq-eqb (length root) 512 (k .root-full)) (le-leb 12 (length b) l))
-    (k .admits .whole)
+    (k .admits .length-fits) (k .admits .accepted) (k .admits .covered)
 
 long : (tbl : List (List (List ℕ))) (root b : List ℕ) → verdict tree (symbolHash Plain) root tbl b ≡ accepted → 12 ≤ length b
 unfolding proofLength

@@ -28,7 +28,7 @@ judged wrongLength = Stopped Length
 judged (broken j) = Stopped Hash
 judged noFault = Stopped NoFault
 
--- "A proof is tested 1, 2, 3, 6, then 2 again for the length its head demands, 7, 8."
+-- "A proof is tested 1, 2, 3, 6, then 2 again for the length its head demands, 7, 8", and 10 "right after 3"
 unfoldable pub proofChecked : ℕ → List ℕ → List ℕ → List ℕ → Answer
 proofChecked d root table b =
     admitted d (proofSized (length root) (length b)) table then judged (verdict tree (symbolHash Plain) root (tableOf (wordsOf table)) b)

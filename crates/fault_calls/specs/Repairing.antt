@@ -39,7 +39,7 @@ leaves a t m o = record { answer = a; tree = t; marks = m; out = o }
 abbrev pub repairSized : ℕ → ℕ → ℕ → ℕ → ℕ → Bool
 repairSized d root t m o = treeSized d t m && (rootSized root && eqb o (12 + 256 * (8 * d - 1)))
 
--- tests 1, 2, 3, 4: "Input to a repair is well-formed when no numbered test turns it away before layer 0 is entered."
+-- tests 1, 2, 3, 10, 4: "Input to a repair is well-formed when no numbered test turns it away before layer 0 is entered."
 unfoldable pub repairTested : ℕ → List ℕ → List ℕ → List ℕ → List ℕ → List ℕ → Answer
 repairTested d root table t m o = admitted d (repairSized d (length root) (length t) (length m) (length o)) table then testMarks m
 

@@ -33,7 +33,7 @@ fn sizes_fit(root: usize, proof: usize) -> bool
     12 <= proof
 }
 
-// Checks a fault proof against a root and a table that comes as bytes: tests 1, 2, 3, 6, then 2 again for the length its head demands, 7, 8.
+// Checks a fault proof against a root and a table that comes as bytes: tests 1, 2, 3, 10, 6, then 2 again for the length its head demands, 7, 8.
 // Done: a fault is shown.
 pub fn check(depth: usize, root: &[u8], table: &[u8], proof: &[u8]) -> Answer
     ensures { λ r. ⌜ r ≡ proofChecked depth (now (root .entry)) (now (table .entry)) (now (proof .entry)) ⌝ }

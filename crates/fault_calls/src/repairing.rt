@@ -54,7 +54,7 @@ fn repair_with(
     Outcome::Ended(repair::repair(Kind::Plain, depth, words, starts, root, tree, marks, out))
 }
 
-// Repairs a tree by a root and a table that comes as bytes: tests 1, 2, 3, 4.
+// Repairs a tree by a root and a table that comes as bytes: tests 1, 2, 3, 10, 4.
 pub fn repair_tree(
     depth: usize,
     root: &[u8],

@@ -33,7 +33,7 @@ writtenBy a d tbl b t m root =
     leaves a (left a (writeTree tree (symbolHash Plain) tbl b t) t) (left a (writtenMarks tree d) m)
     (left a (writtenRoot tree (symbolHash Plain) (writeTree tree (symbolHash Plain) tbl b t)) root)
 
--- tests 1, 2, 3
+-- tests 1, 2, 3, 10
 abbrev pub writeTested : ℕ → List ℕ → List ℕ → List ℕ → List ℕ → List ℕ → Answer
 writeTested d table b t m root = admitted d (writeSized d (length b) (length t) (length m) (length root)) table
 

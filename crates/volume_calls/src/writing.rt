@@ -24,7 +24,7 @@ fn sizes_fit(depth: usize, block: usize, tree: usize, marks: usize, root: usize)
     root == 512
 }
 
-// Writes the tree of a block, its marks and its root, by a table that comes as bytes: tests 1, 2, 3.
+// Writes the tree of a block, its marks and its root, by a table that comes as bytes: tests 1, 2, 3, 10.
 pub fn write_tree(
     depth: usize,
     table: &[u8],
