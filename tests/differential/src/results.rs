@@ -4,21 +4,18 @@ use crate::difference::Difference;
 use reference::repair::{End, Repaired};
 use reference::stop::Stop;
 
-/// 01's number in the lowest eight bits, the value that goes with it above.
+/// The bits from which on the values of a stop stand, each below 2^24.
+const VALUES: [usize; 2] = [8, 32];
+
+/// The number of a stop, or 0, in the lowest eight bits, and the values that go
+/// with it.
 pub fn number(result: Result<(), Stop>) -> u64 {
-    let (number, value) = match result {
-        Ok(()) => (0, 0),
-        Err(Stop::Depth) => (1, 0),
-        Err(Stop::Length) => (2, 0),
-        Err(Stop::Word(at)) => (3, at),
-        Err(Stop::Mark(place)) => (4, place),
-        Err(Stop::Number) => (5, 0),
-        Err(Stop::Head) => (6, 0),
-        Err(Stop::Hash) => (7, 0),
-        Err(Stop::NoFault) => (8, 0),
-        Err(Stop::Absent(index)) => (9, index),
+    let (number, values) = match result {
+        Ok(()) => (0, vec![]),
+        Err(stop) => stop.numbers(),
     };
-    number + 256 * value as u64
+    assert!(values.len() <= VALUES.len() && values.iter().all(|&value| value < 1 << 24));
+    values.iter().zip(VALUES).fold(number, |result, (&value, bit)| result | (value as u64) << bit)
 }
 
 /// The end of a repair above the lowest eight bits, and from bit 32 on the
@@ -64,5 +61,20 @@ pub fn same(expected: u64, found: u64) -> Result<(), Difference> {
         Ok(())
     } else {
         Err(Difference::Result { expected, found })
+    }
+}
+
+#[cfg(test)]
+mod tests {
+    use super::*;
+
+    #[test]
+    fn as_many_values_as_a_stop_has() {
+        assert_eq!(number(Ok(())), 0);
+        assert_eq!(number(Err(Stop::NoFault)), 8);
+        assert_eq!(number(Err(Stop::Word(4095))), 3 + 256 * 4095);
+        let stop = Stop::Uncovered { layer: 4, symbol: 63 };
+        assert_eq!(number(Err(stop)), 10 + 256 * 4 + (63 << 32));
+        assert_eq!(outcome(number(Err(stop))), "10");
     }
 }

@@ -3,6 +3,7 @@
 //! It is written from the published documents, each module from the one that
 //! it names, and shares no code with the proved library.
 
+pub mod cover;
 pub mod listing;
 pub mod proof;
 pub mod repair;

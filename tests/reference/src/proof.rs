@@ -92,8 +92,12 @@ pub fn check(depth: u64, root: &[u8], table: &[u8], proof: &[u8]) -> Result<(), 
     if proof.len() < HEAD {
         return Err(Stop::Length);
     }
-    let equations = table::equations(depth, table)?;
-    let head = Head::read(&equations, proof)?;
+    judge(&table::equations(depth, table)?, root, proof)
+}
+
+/// Whether a proof of at least twelve bytes shows a fault by these equations.
+pub fn judge(equations: &Layers, root: &[u8], proof: &[u8]) -> Result<(), Stop> {
+    let head = Head::read(equations, proof)?;
     let members = &equations[head.layer][head.equation];
     exactly(proof.len(), proof_len(head.layer, members.len()))?;
     let given = &proof[HEAD..];

@@ -1,25 +1,43 @@
-//! What stops a call, written from the section "What stops a call" of 01.
+//! What stops a call, written from the section "What stops a call" of 01 and from
+//! CR 1 of 02.
 
 /// A cause, with the values that are returned beside its number.
 #[derive(Clone, Copy, Debug, PartialEq, Eq)]
 pub enum Stop {
-    /// 1
     Depth,
-    /// 2
     Length,
-    /// 3, with the first wrong word, or the number of words of a list that is
+    /// With the first wrong word, or the number of words of a list that is
     /// short.
     Word(usize),
-    /// 4, with the lowest place.
+    /// With the lowest place.
     Mark(usize),
-    /// 5
     Number,
-    /// 6
     Head,
-    /// 7
     Hash,
-    /// 8
     NoFault,
-    /// 9, with the index in the sample, or the base number.
+    /// With the index in the sample, or the base number.
     Absent(usize),
+    /// With the layer, and the number of the data symbol in it.
+    Uncovered {
+        layer: usize,
+        symbol: usize,
+    },
+}
+
+impl Stop {
+    /// The number of a cause, and its values, as many as it has.
+    pub fn numbers(self) -> (u64, Vec<usize>) {
+        match self {
+            Stop::Depth => (1, vec![]),
+            Stop::Length => (2, vec![]),
+            Stop::Word(at) => (3, vec![at]),
+            Stop::Mark(place) => (4, vec![place]),
+            Stop::Number => (5, vec![]),
+            Stop::Head => (6, vec![]),
+            Stop::Hash => (7, vec![]),
+            Stop::NoFault => (8, vec![]),
+            Stop::Absent(index) => (9, vec![index]),
+            Stop::Uncovered { layer, symbol } => (10, vec![layer, symbol]),
+        }
+    }
 }

@@ -1,6 +1,7 @@
 //! Parity tables, written from the sections "Layers", "Parity table", "House
 //! table" and "What stops a call" of 01.
 
+use crate::cover::covered;
 use crate::stop::Stop;
 
 /// The largest depth.
@@ -39,27 +40,39 @@ pub fn to_words(bytes: &[u8]) -> Vec<u32> {
 /// The members of each equation of each layer.
 pub type Layers = Vec<Vec<Vec<usize>>>;
 
-/// Reads a table that comes as bytes.
+/// Whether a table that comes as bytes is taken.
 pub fn check_bytes(depth: u64, table: &[u8]) -> Result<(), Stop> {
-    let layers = layers_of(depth)?;
-    byte_length(table)?;
-    read(layers, &to_words(table), |_, _| ())
+    equations(depth, table).map(|_| ())
 }
 
-/// Reads a table that comes as words.
-pub fn check_words(depth: u64, table: &[u32]) -> Result<(), Stop> {
-    read(layers_of(depth)?, table, |_, _| ())
-}
-
-/// The equations of a table that comes as bytes.
+/// The equations of a table that comes as bytes, where it is taken.
 pub fn equations(depth: u64, table: &[u8]) -> Result<Layers, Stop> {
-    let layers = layers_of(depth)?;
+    layers_of(depth)?;
     byte_length(table)?;
+    let layers = listed(depth, &to_words(table))?;
+    covered(&layers)?;
+    Ok(layers)
+}
+
+/// Whether a list keeps the rules of 01, covered or not.
+pub fn check_words(depth: u64, words: &[u32]) -> Result<(), Stop> {
+    read(layers_of(depth)?, words, |_, _| ())
+}
+
+/// The equations of a list that keeps the rules of 01, covered or not.
+pub fn listed(depth: u64, words: &[u32]) -> Result<Layers, Stop> {
+    check_words(depth, words)?;
+    Ok(listed_so_far(layers_of(depth)?, words))
+}
+
+/// The equations that a list has before its first wrong word.
+pub fn listed_so_far(layers: usize, words: &[u32]) -> Layers {
     let mut found = vec![Vec::new(); layers];
-    read(layers, &to_words(table), |layer, members| {
+    // Where the word is, the caller knows, or does not ask.
+    let _ = read(layers, words, |layer, members| {
         found[layer].push(members.iter().map(|&member| member as usize).collect());
-    })?;
-    Ok(found)
+    });
+    found
 }
 
 /// The layers of a depth.
@@ -191,6 +204,7 @@ pub fn write(layers: &[Vec<Vec<usize>>]) -> Vec<u32> {
 #[cfg(test)]
 mod tests {
     use super::*;
+    use crate::written::without;
 
     /// Cases 1 and 2.
     #[test]
@@ -223,10 +237,25 @@ mod tests {
 
     #[test]
     fn a_short_list_is_wrong_at_its_end() {
-        let words = house(2);
-        for len in 0..words.len() {
-            assert_eq!(check_words(2, &words[..len]), Err(Stop::Word(len)));
+        for words in [house(2), without(2, 0, 1)] {
+            for len in 0..words.len() {
+                assert_eq!(check_words(2, &words[..len]), Err(Stop::Word(len)));
+                assert_eq!(check_bytes(2, &to_bytes(&words[..len])), Err(Stop::Word(len)));
+            }
+            assert_eq!(check_words(2, &words), Ok(()));
         }
+    }
+
+    #[test]
+    fn equations_before_a_wrong_word() {
+        let words = house(2);
+        let whole = listed(2, &words).unwrap();
+        // The first layer has 60 words, and an equation of it that is not the first 5.
+        for (len, equations) in [(0, 0), (59, 11), (60, 12), (61, 12)] {
+            let found = listed_so_far(2, &words[..len]);
+            assert_eq!((&found[0][..], found[1].len()), (&whole[0][..equations], 0));
+        }
+        assert_eq!(listed_so_far(2, &[&words[..], &[0]].concat()), whole);
     }
 
     #[test]
@@ -239,6 +268,11 @@ mod tests {
         assert_eq!(check_bytes(1, &[0xff; MAX_BYTES + 4]), Err(Stop::Length));
         assert_eq!(check_bytes(1, &[0xff; MAX_BYTES]), Err(Stop::Word(0)));
         assert_eq!(check_bytes(1, &[]), Err(Stop::Word(0)));
+        let uncovered = to_bytes(&without(1, 0, 2));
+        assert_eq!(check_bytes(1, &uncovered[1..]), Err(Stop::Length));
+        assert_eq!(check_bytes(1, &uncovered[4..]), Err(Stop::Word(0)));
+        assert_eq!(check_bytes(2, &uncovered), Err(Stop::Word(uncovered.len() / 4 - 1)));
+        assert_eq!(check_bytes(1, &uncovered), Err(Stop::Uncovered { layer: 0, symbol: 2 }));
     }
 
     /// The first wrong word of the house table of depth 1 with one word

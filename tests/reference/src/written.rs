@@ -1,6 +1,6 @@
 //! Trees to test with.
 
-use crate::table::{equations, to_bytes, Layers};
+use crate::table::{equations, house, listed, to_bytes, write as write_table, Layers};
 use crate::tree::{block_len, code_tree, tree_symbols, write, Symbol, ROOT, SYMBOL};
 
 /// A written tree with the buffers that hold it.
@@ -48,6 +48,20 @@ impl Written {
     pub fn equations(&self) -> Layers {
         equations(self.depth, &self.table).unwrap()
     }
+}
+
+/// The house table with another data symbol in the place of one of a layer,
+/// wherever that is a member, or none where the other is a member too.
+pub fn without(depth: usize, layer: usize, symbol: usize) -> Vec<u32> {
+    let mut layers = listed(depth as u64, &house(depth)).unwrap();
+    for members in &mut layers[layer] {
+        if let Some(at) = members.iter().position(|&member| member == symbol) {
+            members[at] = symbol ^ 1;
+            members.sort_unstable();
+            members.dedup();
+        }
+    }
+    write_table(&layers)
 }
 
 pub fn block_of(depth: usize) -> Vec<u8> {

@@ -1,6 +1,6 @@
 use super::*;
 use crate::table::{house, to_bytes};
-use crate::written::{block_of, cases_block, Written};
+use crate::written::{block_of, cases_block, without, Written};
 
 /// The tree of 01's case 7.
 fn case_7() -> Written {
@@ -121,6 +121,12 @@ fn tests_in_their_order() {
     assert_eq!(check(1, &w.root, &no_table[1..], &proof), Err(Stop::Length));
     assert_eq!(check(1, &w.root, &no_table, &proof[..11]), Err(Stop::Length));
     assert_eq!(check(1, &w.root, &no_table, &[0; 12]), Err(Stop::Word(60)));
+    let uncovered = to_bytes(&without(1, 0, 3));
+    let stop = Err(Stop::Uncovered { layer: 0, symbol: 3 });
+    assert_eq!(check(1, &w.root, &uncovered, &[0; 11]), Err(Stop::Length));
+    assert_eq!(check(1, &w.root, &uncovered[..40], &[0; 12]), Err(Stop::Word(10)));
+    assert_eq!(check(1, &w.root, &uncovered, &[0; 12]), stop);
+    assert_eq!(check(1, &w.root, &uncovered, &proof), stop);
     assert_eq!(check(1, &w.root, &w.table, &[0; 12]), Err(Stop::Head));
     assert_eq!(check(1, &w.root, &w.table, &[0; 780]), Err(Stop::Head));
     assert_eq!(check(1, &w.root, &w.table, &proof[..12]), Err(Stop::Length));

@@ -1,7 +1,7 @@
 use super::*;
 use crate::proof::check;
-use crate::table::{house, write as write_table};
-use crate::written::{block_of, cases_block, Written};
+use crate::table::{house, to_bytes, write as write_table};
+use crate::written::{block_of, cases_block, without, Written};
 
 const LENT: u8 = 0xdd;
 
@@ -165,11 +165,13 @@ fn faults_of_each_layer() {
 }
 
 /// After a take the search begins again: equation 1 gives symbol 1, and then
-/// equation 0 comes before the others, which all hold or show a fault.
+/// equation 0 comes before the others, which all hold or show a fault, or lack 0
+/// too.
 #[test]
 fn the_search_begins_again() {
     let mut layer: Vec<Vec<usize>> = vec![vec![0, 1, 4], vec![1, 5]];
-    layer.extend((2..12).map(|e| vec![2, 4 + e]));
+    layer.extend((2..10).map(|e| vec![2, 4 + e]));
+    layer.extend((10..12).map(|e| vec![0, 3, 4 + e]));
     let words = write_table(&[layer]);
     let mut w = Written::altered(1, &words, &cases_block(), |_, symbols| {
         symbols[4] = [0x55; SYMBOL];
@@ -198,6 +200,22 @@ fn twins_of_a_poor_hash() {
     assert_eq!(repair.stored, 1);
     assert_eq!(output[..2 * SYMBOL], [[0x66; SYMBOL], [0x04 ^ 0x08 ^ 0x05; SYMBOL]].concat());
     assert!(output[2 * SYMBOL..].iter().all(|&byte| byte == LENT));
+}
+
+/// A table that is not covered, and a mark that is none: 10 comes first, and
+/// everything stays as it was.
+#[test]
+fn uncovered_tables_are_not_repaired_by() {
+    let mut w = written(2);
+    w.table = to_bytes(&without(2, 0, 1));
+    for mark in [0, 2] {
+        w.marks[20] = mark;
+        let before = w.clone();
+        let (result, output) = repaired(&mut w);
+        assert_eq!(result, Err(Stop::Uncovered { layer: 0, symbol: 1 }));
+        assert!(w.tree == before.tree && w.marks == before.marks);
+        assert!(output.iter().all(|&byte| byte == LENT));
+    }
 }
 
 /// What a repair stops with for these lengths of root, table, tree, marks and

@@ -1,6 +1,6 @@
 use super::*;
 use crate::table::{house, house_equation, to_bytes, write as write_table};
-use crate::written::{block_of, cases_block, Written};
+use crate::written::{block_of, cases_block, without, Written};
 
 /// Case 3.
 #[test]
@@ -120,6 +120,17 @@ fn tests_of_the_writer_in_their_order() {
         assert_eq!(stop_of(1, lens), Some(last));
     }
     assert_eq!(stop_of(1, [0, 1024, 4096, 16, 512]), Some(Stop::Word(0)));
+}
+
+/// A table that is not covered: the buffers stay as they are.
+#[test]
+fn uncovered_tables_are_not_written_by() {
+    let lent = Written::lent(2, &without(2, 1, 5));
+    let mut w = lent.clone();
+    let block = block_of(2);
+    let result = write(2, &w.table, &block, &mut w.tree, &mut w.marks, &mut w.root);
+    assert_eq!(result, Err(Stop::Uncovered { layer: 1, symbol: 5 }));
+    assert!(w.tree == lent.tree && w.marks == lent.marks && w.root == lent.root);
 }
 
 #[test]
