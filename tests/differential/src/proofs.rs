@@ -16,13 +16,14 @@ use crate::input::Input;
 use crate::random::Random;
 use crate::results::number;
 use crate::stops::{DEPTH, DEPTHS, LENGTHS};
+use crate::tables::cover::COVER;
 use crate::tables::{TABLE_LEN, WORDS};
 use crate::trees::ROOT_LEN;
 use crate::volumes::{equation_of, Volume};
 use reference::proof::{self, hash_for, proof_len, Head, HEAD};
 use reference::sha256::sha256;
 use reference::stop::Stop;
-use reference::table::{self, Layers, END, EQUATION, LAYER};
+use reference::table::{self, to_words, Layers, END, EQUATION, LAYER};
 use reference::tree::{exactly, exclusive_or, symbol_at, ROOT, SYMBOL};
 
 pub static PROOF_CHECK: Call = Call {
@@ -34,7 +35,7 @@ pub static PROOF_CHECK: Call = Call {
         Read("table", TABLE_LEN),
         Read("proof", Length::Within { least: HEAD, most: usize::MAX, step: 1 }),
     ],
-    tests: &[DEPTH, LENGTHS, WORDS, HEADS, BODIES, HASHES, FAULT],
+    tests: &[DEPTH, LENGTHS, WORDS, COVER, HEADS, BODIES, HASHES, FAULT],
     apart: &[(3, 7), (3, 8)],
     good: |depth, random| {
         let layer = random.below(depth);
@@ -68,6 +69,7 @@ pub static PROOF_CHECK: Call = Call {
         ("6", 5000),
         ("7", 10_000),
         ("8", 5000),
+        ("10", 1000),
     ],
     ..CALL
 };
@@ -103,8 +105,11 @@ const BODIES: Test = Test {
 /// Every hash leads to the root.
 const HASHES: Test = Test {
     number: 7,
-    ask: |i| match cut(i).map(|(mut i, ..)| (PROOF_CHECK.reference)(&mut i)) {
-        Some(result) if result % 256 == 7 => Err(Stop::Hash),
+    ask: |i| match (table(i), cut(i)) {
+        (Some(table), Some((cut, ..))) => match proof::judge(&table, &cut["root"], &cut["proof"]) {
+            Err(Stop::NoFault) => Ok(()),
+            judged => judged,
+        },
         _ => Ok(()),
     },
     spoil: |i, random| {
@@ -130,10 +135,9 @@ const FAULT: Test = Test {
     ..TEST
 };
 
-/// The equations of the table, where it is one.
+/// The equations of the table, where it keeps 01's rules, covered or not.
 fn table(input: &Input) -> Option<Layers> {
-    let table = &input["table"];
-    table::equations(input.size()? as u64, &table[..TABLE_LEN.cut(None, table.len())]).ok()
+    table::listed(input.size()? as u64, &to_words(&input["table"])).ok()
 }
 
 /// The head and the number of members of its equation, where its values are in
@@ -154,7 +158,6 @@ fn cut(input: &Input) -> Option<(Input, Head, usize)> {
     let (head, members) = named(input)?;
     let len = proof_len(head.layer, members);
     let mut cut = input.cut(|_| true);
-    cut.set("depth", input.size()? as u64);
     cut["proof"].truncate(len);
     cut["proof"].splice(..HEAD, head.bytes());
     let whole = cut["proof"].len() == len && cut["root"].len() == ROOT;

@@ -18,6 +18,7 @@ use crate::proofs::PROOF_CHECK;
 use crate::random::Random;
 use crate::results::{ended, repaired};
 use crate::stops::{DEPTH, DEPTHS, LENGTHS};
+use crate::tables::cover::COVER;
 use crate::tables::lists::some_table;
 use crate::tables::{TABLE_LEN, WORDS};
 use crate::trees::{MARKS_LEN, ROOT_LEN, TREE_LEN};
@@ -36,7 +37,7 @@ pub static REPAIR: Call = Call {
         Written("marks", MARKS_LEN),
         Written("output", Length::Of(output_len)),
     ],
-    tests: &[DEPTH, LENGTHS, WORDS, MARKS],
+    tests: &[DEPTH, LENGTHS, WORDS, COVER, MARKS],
     good: some_repair,
     reference: |i| {
         let depth = i.number("depth");
@@ -80,6 +81,7 @@ pub static REPAIR: Call = Call {
         ("2", 1000),
         ("3", 1000),
         ("4", 1000),
+        ("10", 2000),
     ],
     ..CALL
 };

@@ -1,12 +1,15 @@
 //! `cmt_table_check` and `cmt_house_table` beside the reference, and the tables
 //! that other calls read.
 
+pub mod cover;
 mod damaged;
 pub mod lists;
+pub mod uses;
 
 #[cfg(test)]
 pub mod mutants;
 
+use cover::{every_symbol, every_two_equations, COVER};
 use damaged::damaged_tables;
 
 use crate::call::Argument::{Number, Read, Written};
@@ -17,7 +20,8 @@ use crate::input::Input;
 use crate::random::Random;
 use crate::results::number;
 use crate::stops::{BEYOND, DEPTH, DEPTHS, LENGTHS};
-use lists::{alterations, random_damage, random_table, some_table, WORD_KINDS};
+use lists::{alterations, random_damage, random_table, some_table};
+use lists::{perhaps_uncovered, WORD_KINDS};
 use reference::stop::Stop;
 use reference::table::{self, check_words, house, layers_of, to_bytes, to_words};
 use reference::table::{MAX_BYTES, MAX_DEPTH};
@@ -26,11 +30,20 @@ pub static TABLE_CHECK: Call = Call {
     name: "table_check",
     sizes: &DEPTHS,
     arguments: &[Number("depth"), Read("table", TABLE_LEN)],
-    tests: &[DEPTH, LENGTHS, WORDS],
+    tests: &[DEPTH, LENGTHS, WORDS, COVER],
     good: |depth, random| listed(depth as u64, &some_table(depth, random)),
     reference: |i| number(table::check_bytes(i.number("depth"), &i["table"])),
-    own: &[depths, every_word, more_words, random_tables, random_words, byte_lengths],
-    least: &[("end 0", 15_000), ("1", 2000), ("2", 1000), ("3", 100_000)],
+    own: &[
+        depths,
+        every_symbol,
+        every_two_equations,
+        every_word,
+        more_words,
+        random_tables,
+        random_words,
+        byte_lengths,
+    ],
+    least: &[("end 0", 15_000), ("1", 2000), ("2", 1000), ("3", 100_000), ("10", 1000)],
     ..CALL
 };
 
@@ -133,11 +146,12 @@ fn more_words(c: &mut Comparisons) -> Compared {
     Ok(())
 }
 
-/// Random tables, whole and with some words damaged.
+/// Random tables, covered or not, whole and with some words damaged.
 fn random_tables(c: &mut Comparisons) -> Compared {
     for depth in DEPTHS {
         for _ in 0..300 {
             let words = random_table(depth, &mut c.random);
+            let words = perhaps_uncovered(depth, words, &mut c.random);
             c.make("a random table", &listed(depth as u64, &words))?;
             for damages in 1..=3 {
                 let damaged = random_damage(&words, damages, &mut c.random);

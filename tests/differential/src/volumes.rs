@@ -1,5 +1,5 @@
-//! Coded trees with their tables: such as are correctly coded, and such as are
-//! not though their hashes fit.
+//! Coded trees with their tables, covered or not: such as are correctly coded, and
+//! such as are not though their hashes fit.
 
 use crate::random::Random;
 use crate::tables::lists::some_table;
@@ -59,7 +59,7 @@ impl Volume {
         random: &mut Random,
     ) -> Volume {
         let table = to_bytes(words);
-        let equations = table::equations(depth as u64, &table).expect("a table");
+        let equations = table::listed(depth as u64, words).expect("a table");
         let block = random.bytes(block_len(depth));
         let (tree, root) = code_tree(&equations, &block, |layer, symbols| {
             for &(_, symbol) in replaced.iter().filter(|replaced| replaced.0 == layer) {

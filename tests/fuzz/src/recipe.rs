@@ -3,8 +3,9 @@
 
 use differential::random::Random;
 use differential::tables::lists::{random_table, table_of};
+use differential::tables::uses::use_times;
 use differential::volumes::Volume;
-use reference::table::house;
+use reference::table::{data_symbols, house, listed, write};
 use reference::tree::{symbols, HASH};
 
 /// The depths that buffers are made for, the smaller ones more often.
@@ -62,13 +63,24 @@ impl<'a> Recipe<'a> {
         }
     }
 
-    /// The words of a well-formed table.
+    /// The words of a well-formed table, mostly a covered one.
     pub fn words(&mut self, depth: usize) -> Vec<u32> {
         match self.byte() {
-            0..=127 => house(depth),
+            0..=95 => house(depth),
+            96..=127 => self.words_with_few(depth),
             size @ 128..=191 => table_of(depth, 2 + usize::from(size) % 7),
             _ => random_table(depth, &mut self.random()),
         }
+    }
+
+    /// A table in which a data symbol of a layer is put into none to three equations.
+    fn words_with_few(&mut self, depth: usize) -> Vec<u32> {
+        let mut layers = listed(depth as u64, &self.words(depth)).expect("a table");
+        let layer = usize::from(self.byte()) % depth;
+        let symbol = self.below(data_symbols(layer));
+        let times = usize::from(self.byte()) % 4;
+        use_times(&mut layers[layer], &[symbol], times, &mut self.random());
+        write(&layers)
     }
 
     /// A tree with up to three symbols replaced before they were hashed, and

@@ -5,7 +5,7 @@ use super::{make_for_right_tree, of, of_fault};
 use crate::comparisons::Comparisons;
 use crate::difference::Compared;
 use crate::stops::DEPTHS;
-use crate::tables::lists::{random_table, some_table};
+use crate::tables::lists::{any_table, random_table};
 use crate::volumes::{some_depth, some_symbol, Volume};
 use reference::proof::{self, Head, HEAD};
 use reference::table::{house, to_bytes};
@@ -24,7 +24,7 @@ pub fn other_volumes(c: &mut Comparisons) -> Compared {
         make_for_right_tree(c, "the root of another tree", &input)?;
         input["root"] = c.random.bytes(ROOT);
         c.make("a random root", &input)?;
-        for words in [house(depth), random_table(depth, &mut c.random)] {
+        for words in [house(depth), any_table(depth, &mut c.random)] {
             let mut input = right.clone();
             input["table"] = to_bytes(&words);
             c.make("another table", &input)?;
@@ -38,7 +38,7 @@ pub fn other_volumes(c: &mut Comparisons) -> Compared {
 pub fn forged_members(c: &mut Comparisons) -> Compared {
     for depth in DEPTHS {
         for turn in 0..200 {
-            let words = some_table(depth, &mut c.random);
+            let words = any_table(depth, &mut c.random);
             let volume = Volume::new(depth, &words, &mut c.random);
             let layer = turn % depth;
             let head = volume.some_head(layer, &mut c.random);
@@ -85,7 +85,7 @@ pub fn random_proofs(c: &mut Comparisons) -> Compared {
 pub fn damage_for_right_trees(c: &mut Comparisons) -> Compared {
     for _ in 0..650 {
         let depth = some_depth(&mut c.random);
-        let words = some_table(depth, &mut c.random);
+        let words = any_table(depth, &mut c.random);
         let volume = Volume::new(depth, &words, &mut c.random);
         let layer = c.random.below(depth);
         for _ in 0..10 {

@@ -7,7 +7,7 @@ use crate::input::Input;
 use crate::random::Random;
 use crate::results::repaired;
 use crate::stops::DEPTHS;
-use crate::tables::lists::some_table;
+use crate::tables::lists::{any_table, some_table};
 use crate::volumes::{some_depth, Volume};
 use reference::repair::{End, Repaired};
 use reference::table::{data_symbols, house};
@@ -23,6 +23,13 @@ const STOPPING_SET: [usize; 7] = [0, 4, 5, 6, 8, 9, 12];
 fn some_volume(random: &mut Random) -> Volume {
     let depth = some_depth(random);
     let words = some_table(depth, random);
+    Volume::new(depth, &words, random)
+}
+
+/// The same of a table that may not be covered.
+fn any_volume(random: &mut Random) -> Volume {
+    let depth = some_depth(random);
+    let words = any_table(depth, random);
     Volume::new(depth, &words, random)
 }
 
@@ -74,7 +81,7 @@ pub fn lost_parity(c: &mut Comparisons) -> Compared {
 /// Many sets of the sixteen symbols of depth 1.
 pub fn sets_of_one_layer(c: &mut Comparisons) -> Compared {
     for turn in 0..6000 {
-        let words = some_table(1, &mut c.random);
+        let words = any_table(1, &mut c.random);
         let volume = Volume::new(1, &words, &mut c.random);
         let mut input = of(&volume, &mut c.random);
         let parts = PARTS[turn % PARTS.len()];
@@ -106,7 +113,7 @@ pub fn one_symbol(c: &mut Comparisons) -> Compared {
 
 pub fn random_losses(c: &mut Comparisons) -> Compared {
     for turn in 0..4000 {
-        let volume = some_volume(&mut c.random);
+        let volume = any_volume(&mut c.random);
         let mut input = of(&volume, &mut c.random);
         let parts = PARTS[turn % PARTS.len()];
         lose_some(&mut input, &volume.all_symbols(), parts, &mut c.random);
@@ -119,7 +126,7 @@ pub fn random_losses(c: &mut Comparisons) -> Compared {
 pub fn lost_layers(c: &mut Comparisons) -> Compared {
     for turn in 0..600 {
         let depth = 2 + turn % 4;
-        let words = some_table(depth, &mut c.random);
+        let words = any_table(depth, &mut c.random);
         let volume = Volume::new(depth, &words, &mut c.random);
         let mut input = of(&volume, &mut c.random);
         let heavy = c.random.below(depth);
@@ -134,7 +141,7 @@ pub fn lost_layers(c: &mut Comparisons) -> Compared {
 
 pub fn bad_copies(c: &mut Comparisons) -> Compared {
     for turn in 0..4000 {
-        let volume = some_volume(&mut c.random);
+        let volume = any_volume(&mut c.random);
         let mut input = of(&volume, &mut c.random);
         let parts = PARTS[turn % PARTS.len()];
         lose_some(&mut input, &volume.all_symbols(), parts / 2, &mut c.random);
@@ -175,7 +182,7 @@ pub fn found_stopping_sets(c: &mut Comparisons) -> Compared {
 /// Random bytes, marks and roots, in some or in all of the buffers.
 pub fn junk(c: &mut Comparisons) -> Compared {
     for turn in 0..1100 {
-        let volume = some_volume(&mut c.random);
+        let volume = any_volume(&mut c.random);
         let mut input = of(&volume, &mut c.random);
         let junk = 1 + turn % 7;
         if junk & 1 != 0 {

@@ -7,7 +7,7 @@ use crate::input::Input;
 use crate::random::Random;
 use crate::results::ended;
 use crate::stops::DEPTHS;
-use crate::tables::lists::some_table;
+use crate::tables::lists::any_table;
 use crate::volumes::{equation_of, some_depth, some_parity, some_symbol, Volume};
 use reference::proof::HEAD;
 use reference::repair::{End, Repaired};
@@ -56,7 +56,7 @@ fn shows_fault(c: &mut Comparisons, what: &str, input: &Input, layer: usize) -> 
 pub fn some_faults(c: &mut Comparisons) -> Compared {
     for turn in 0..7000 {
         let depth = some_depth(&mut c.random);
-        let words = some_table(depth, &mut c.random);
+        let words = any_table(depth, &mut c.random);
         let layer = c.random.below(depth);
         let faults = some_symbols(layer, &mut c.random);
         let volume = Volume::miscoded(depth, &words, &faults, &mut c.random);
@@ -77,7 +77,7 @@ pub fn some_faults(c: &mut Comparisons) -> Compared {
 pub fn faults_in_some_layers(c: &mut Comparisons) -> Compared {
     for turn in 0..500 {
         let depth = 2 + turn % 4;
-        let words = some_table(depth, &mut c.random);
+        let words = any_table(depth, &mut c.random);
         let mut faults = Vec::new();
         for _ in 0..3 {
             let layer = c.random.below(depth);
@@ -95,7 +95,7 @@ pub fn faults_in_some_layers(c: &mut Comparisons) -> Compared {
 pub fn other_hashes(c: &mut Comparisons) -> Compared {
     for turn in 0..800 {
         let depth = some_depth(&mut c.random);
-        let words = some_table(depth, &mut c.random);
+        let words = any_table(depth, &mut c.random);
         let mut volume = Volume::new(depth, &words, &mut c.random);
         let layer = c.random.below(depth);
         let symbol = some_symbol(layer, &mut c.random);

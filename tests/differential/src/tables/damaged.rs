@@ -1,6 +1,6 @@
 //! Calls with tables that are none.
 
-use super::lists::{random_damage, random_table, some_table, table_of};
+use super::lists::{any_table, random_damage, random_table, table_of};
 use crate::comparisons::Comparisons;
 use crate::difference::Compared;
 use crate::stops::BEYOND;
@@ -12,7 +12,7 @@ pub fn damaged_tables(c: &mut Comparisons, depth: usize) -> Compared {
     lists.extend((1..=10).map(|size| table_of(depth, size)));
     lists.extend((0..=BEYOND).flat_map(|other| [house(other), random_table(other, &mut c.random)]));
     for turn in 0..300 {
-        let table = some_table(depth, &mut c.random);
+        let table = any_table(depth, &mut c.random);
         lists.push(random_damage(&table, 1 + turn % 3, &mut c.random));
     }
     let mut input = c.good(depth);

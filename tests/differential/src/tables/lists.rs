@@ -1,15 +1,17 @@
 //! Lists of words: random tables, and tables that are damaged.
 
+use super::uses::{cover, uncover};
 use crate::random::Random;
-use reference::table::{data_symbols, house, word, write, END, EQUATION, LAYER, MEMBER};
+use reference::table::{data_symbols, house, listed, word, write, Layers};
+use reference::table::{END, EQUATION, LAYER, MEMBER};
 
 pub const WORD_KINDS: [u32; 4] = [MEMBER, LAYER, EQUATION, END];
 
 const VALUE: u32 = (1 << 30) - 1;
 
-/// A table by the rules, each equation of 2 to 8 members.
+/// A table that is taken, each equation of 2 to 8 members.
 pub fn random_table(depth: usize, random: &mut Random) -> Vec<u32> {
-    table_by(depth, |last| {
+    let mut layers = layers_by(depth, |_, last| {
         let others = 1 + random.below(7.min(last));
         let mut members: Vec<usize> = (0..last).collect();
         // The first `others` of a shuffle.
@@ -19,10 +21,12 @@ pub fn random_table(depth: usize, random: &mut Random) -> Vec<u32> {
         }
         members.truncate(others);
         members
-    })
+    });
+    cover(&mut layers, random);
+    write(&layers)
 }
 
-/// The house table or a random one.
+/// The house table or a random one, which are taken.
 pub fn some_table(depth: usize, random: &mut Random) -> Vec<u32> {
     match random.below(2) {
         0 => house(depth),
@@ -30,28 +34,54 @@ pub fn some_table(depth: usize, random: &mut Random) -> Vec<u32> {
     }
 }
 
-/// A table in which each equation has `size` members, or as many as there can
-/// be: by the rules where that is 2 to 8.
-pub fn table_of(depth: usize, size: usize) -> Vec<u32> {
-    table_by(depth, |last| (0..last.min(size - 1)).collect())
+/// The equations of such a table.
+pub fn some_equations(depth: usize, random: &mut Random) -> Layers {
+    listed(depth as u64, &some_table(depth, random)).expect("a table")
 }
 
-/// The table whose equations have the members that `others` gives for the last
-/// one, and the last one.
-fn table_by(depth: usize, mut others: impl FnMut(usize) -> Vec<usize>) -> Vec<u32> {
+/// Such a table, or, one time in eight, one that is not covered.
+pub fn any_table(depth: usize, random: &mut Random) -> Vec<u32> {
+    let words = some_table(depth, random);
+    perhaps_uncovered(depth, words, random)
+}
+
+/// A table of a depth, or, one time in eight, the same with a data symbol in too
+/// few equations.
+pub fn perhaps_uncovered(depth: usize, words: Vec<u32>, random: &mut Random) -> Vec<u32> {
+    match random.below(8) {
+        0 => {
+            let mut layers = listed(depth as u64, &words).expect("a table");
+            uncover(&mut layers, random);
+            write(&layers)
+        }
+        _ => words,
+    }
+}
+
+/// A table in which each equation has `size` members, or as many as there can
+/// be, from one of the data symbols on, each in turn: taken where that is 2 to 8.
+pub fn table_of(depth: usize, size: usize) -> Vec<u32> {
+    write(&layers_by(depth, |k, last| {
+        (0..last.min(size - 1)).map(|more| (last % k + more) % last).collect()
+    }))
+}
+
+/// The equations with the members that `others` gives for the layer's k and the
+/// last member, and the last one.
+fn layers_by(depth: usize, mut others: impl FnMut(usize, usize) -> Vec<usize>) -> Layers {
     let mut layers = Vec::new();
     for layer in 0..depth {
         let k = data_symbols(layer);
         let mut equations = Vec::new();
         for e in 0..3 * k {
-            let mut members = others(k + e);
+            let mut members = others(k, k + e);
             members.push(k + e);
             members.sort_unstable();
             equations.push(members);
         }
         layers.push(equations);
     }
-    write(&layers)
+    layers
 }
 
 /// The list with the word at a place altered in each way, with its name.

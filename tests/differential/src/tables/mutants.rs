@@ -1,6 +1,6 @@
 //! Wrong readers of tables, and wrong house tables.
 
-use super::{HOUSE_TABLE as CALL, TABLE_CHECK, WORDS};
+use super::{COVER, HOUSE_TABLE as CALL, TABLE_CHECK, WORDS};
 use crate::call::Ask;
 use crate::difference::Difference;
 use crate::input::Input;
@@ -24,6 +24,12 @@ pub const WRONG: &[(&str, Ask)] = &[
     ("no place", |i| (WORDS.ask)(i).map_err(|_| Stop::Word(0))),
     ("words after the end word", |i| match ((WORDS.ask)(i), i.size()) {
         (Err(Stop::Word(at)), Some(depth)) => {
+            check_words(depth as u64, &to_words(&i["table"])[..at]).map_err(|_| Stop::Word(at))
+        }
+        (result, _) => result,
+    }),
+    ("words after the end word asked after 10", |i| match ((WORDS.ask)(i), i.size()) {
+        (Err(Stop::Word(at)), Some(depth)) if (COVER.ask)(i).is_err() => {
             check_words(depth as u64, &to_words(&i["table"])[..at]).map_err(|_| Stop::Word(at))
         }
         (result, _) => result,

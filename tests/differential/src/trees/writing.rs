@@ -13,6 +13,7 @@ use crate::messages::{Content, CONTENTS};
 use crate::random::Random;
 use crate::results::number;
 use crate::stops::{DEPTH, DEPTHS, LENGTHS};
+use crate::tables::cover::COVER;
 use crate::tables::lists::{random_table, some_table, table_of};
 use crate::tables::{TABLE_LEN, WORDS};
 use reference::table::{house, to_bytes};
@@ -29,7 +30,7 @@ pub static TREE_WRITE: Call = Call {
         Written("marks", MARKS_LEN),
         Written("root", ROOT_LEN),
     ],
-    tests: &[DEPTH, LENGTHS, WORDS],
+    tests: &[DEPTH, LENGTHS, WORDS, COVER],
     good: |depth, random| to_write(depth, &some_table(depth, random), Content::Random, random),
     reference: |i| {
         let depth = i.number("depth");
@@ -37,7 +38,7 @@ pub static TREE_WRITE: Call = Call {
         number(tree::write(depth, table, block, tree, marks, root))
     },
     own: &[lent_bytes, blocks],
-    least: &[("end 0", 2000), ("3", 1000)],
+    least: &[("end 0", 2000), ("3", 1000), ("10", 500)],
     ..CALL
 };
 

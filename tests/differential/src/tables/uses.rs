@@ -1,0 +1,77 @@
+//! Equations that use a data symbol: more of them, or just so many.
+
+use crate::random::Random;
+use reference::cover::covered;
+use reference::stop::Stop;
+use reference::table::{data_symbols, Layers};
+
+/// The most members of an equation.
+const MOST: usize = 8;
+
+/// Puts data symbols into more equations, until each is in enough.
+pub fn cover(layers: &mut Layers, random: &mut Random) {
+    while let Err(Stop::Uncovered { layer, symbol }) = covered(layers) {
+        let equations = &mut layers[layer];
+        let without = |&e: &usize| !equations[e].contains(&symbol);
+        let others: Vec<usize> = with_room(equations, 1).into_iter().filter(without).collect();
+        let members = &mut equations[others[random.below(others.len())]];
+        members.push(symbol);
+        members.sort_unstable();
+    }
+}
+
+/// Puts a random data symbol into too few equations. It gives its layer and its
+/// number: of a table that was covered, the first that is not.
+pub fn uncover(layers: &mut Layers, random: &mut Random) -> (usize, usize) {
+    let layer = random.below(layers.len());
+    let symbol = random.below(data_symbols(layer));
+    let times = random.below(2);
+    use_times(&mut layers[layer], &[symbol], times, random);
+    (layer, symbol)
+}
+
+/// Makes data symbols of a layer members of just so many equations, or of all that
+/// have room for them.
+pub fn use_times(
+    equations: &mut [Vec<usize>],
+    symbols: &[usize],
+    times: usize,
+    random: &mut Random,
+) {
+    use_only_in(equations, symbols, &[], random);
+    let mut others = with_room(equations, symbols.len());
+    let times = times.min(others.len());
+    let chosen: Vec<usize> =
+        (0..times).map(|_| others.swap_remove(random.below(others.len()))).collect();
+    use_only_in(equations, symbols, &chosen, random);
+}
+
+/// Makes data symbols of a layer, but not all of them, members of these equations
+/// and of no others. No other symbol leaves an equation; where too few members
+/// would stay, or by chance, another comes in.
+pub fn use_only_in(
+    equations: &mut [Vec<usize>],
+    symbols: &[usize],
+    chosen: &[usize],
+    random: &mut Random,
+) {
+    for (e, members) in equations.iter_mut().enumerate() {
+        let before = members.len();
+        members.retain(|member| !symbols.contains(member));
+        let last = members[members.len() - 1];
+        let other = |other: &usize| !symbols.contains(other) && !members.contains(other);
+        let others: Vec<usize> = (0..last).filter(other).collect();
+        if chosen.contains(&e) {
+            members.extend(symbols);
+        } else if members.len() == 1 || members.len() < before && random.below(2) == 0 {
+            members.extend(others.get(random.below(others.len().max(1))));
+        }
+        members.sort_unstable();
+        assert!((2..=MOST).contains(&members.len()), "an equation by the rules");
+    }
+}
+
+/// The equations that so many more symbols can be members of.
+fn with_room(equations: &[Vec<usize>], more: usize) -> Vec<usize> {
+    (0..equations.len()).filter(|&e| equations[e].len() + more <= MOST).collect()
+}
