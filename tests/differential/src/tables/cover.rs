@@ -5,7 +5,7 @@
 mod mutants;
 
 use super::lists::some_equations;
-use super::uses::{uncover, use_only_in, use_times};
+use super::uses::{cover, uncover, use_only_in, use_times};
 use crate::call::Test;
 use crate::comparisons::Comparisons;
 use crate::difference::Compared;
@@ -27,7 +27,7 @@ pub const COVER: Test = Test {
         uncover(&mut layers, random);
         i["table"] = to_bytes(&write(&layers));
     },
-    own: &[few_equations, several_symbols, wrong_words, later_tests],
+    own: &[few_equations, long_equations, several_symbols, wrong_words, later_tests],
     #[cfg(test)]
     wrong: mutants::WRONG,
 };
@@ -76,6 +76,29 @@ fn few_equations(c: &mut Comparisons, depth: usize) -> Compared {
                 use_times(&mut layers[layer], &[symbol], times, &mut c.random);
                 let few = (times < 2).then_some((layer, symbol));
                 make_with(c, "a symbol in few equations", &mut input, &layers, few)?;
+            }
+        }
+    }
+    Ok(())
+}
+
+/// A data symbol in the last two equations of a layer alone, which have eight
+/// members, or in the last alone: it is each of their first seven in turn.
+fn long_equations(c: &mut Comparisons, depth: usize) -> Compared {
+    let mut input = c.good(depth);
+    for layer in 0..depth {
+        let k = data_symbols(layer);
+        for symbol in 0..k.min(7) {
+            for first in [3 * k - 2, 3 * k - 1] {
+                let chosen: Vec<usize> = (first..3 * k).collect();
+                let mut layers = some_equations(depth, &mut c.random);
+                for &e in &chosen {
+                    layers[layer][e] = (0..7).chain([k + e]).collect();
+                }
+                cover(&mut layers, &mut c.random);
+                use_only_in(&mut layers[layer], &[symbol], &chosen, &mut c.random);
+                let few = (chosen.len() < 2).then_some((layer, symbol));
+                make_with(c, "long equations", &mut input, &layers, few)?;
             }
         }
     }

@@ -128,3 +128,38 @@ pub fn random_damage(words: &[u32], damages: usize, random: &mut Random) -> Vec<
     }
     damaged
 }
+
+#[cfg(test)]
+mod tests {
+    use super::*;
+    use reference::stop::Stop;
+    use reference::table::{check_bytes, to_bytes};
+
+    fn taken(depth: usize, words: &[u32]) -> Result<(), Stop> {
+        check_bytes(depth as u64, &to_bytes(words))
+    }
+
+    #[test]
+    fn tables_are_taken() {
+        for depth in 1..=5 {
+            for size in 2..=8 {
+                assert_eq!(taken(depth, &table_of(depth, size)), Ok(()), "{size} members");
+            }
+            for seed in 0..=255 {
+                assert_eq!(taken(depth, &random_table(depth, &mut Random::new(seed))), Ok(()));
+            }
+        }
+    }
+
+    #[test]
+    fn one_table_in_eight_is_not_covered() {
+        let mut random = Random::new(6);
+        let uncovered = |depth: usize| {
+            let result = taken(depth, &any_table(depth, &mut random));
+            assert!(matches!(result, Ok(()) | Err(Stop::Uncovered { .. })));
+            result.is_err()
+        };
+        let uncovered = (1..=5).cycle().take(800).map(uncovered).filter(|&uncovered| uncovered);
+        assert!((70..130).contains(&uncovered.count()));
+    }
+}

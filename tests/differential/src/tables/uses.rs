@@ -75,3 +75,47 @@ pub fn use_only_in(
 fn with_room(equations: &[Vec<usize>], more: usize) -> Vec<usize> {
     (0..equations.len()).filter(|&e| equations[e].len() + more <= MOST).collect()
 }
+
+#[cfg(test)]
+mod tests {
+    use super::*;
+    use crate::tables::lists::some_equations;
+    use reference::table::{check_words, write};
+
+    /// How many equations each data symbol of a layer is in.
+    fn times(layer: usize, equations: &[Vec<usize>]) -> Vec<usize> {
+        let uses = |symbol| equations.iter().filter(|members| members.contains(&symbol)).count();
+        (0..data_symbols(layer)).map(uses).collect()
+    }
+
+    #[test]
+    fn just_so_many_equations() {
+        let mut random = Random::new(28);
+        for turn in 0..600 {
+            let mut layers = some_equations(3, &mut random);
+            let (layer, asked) = (turn % 3, turn % 4);
+            let symbols = [random.below(2), 2 + random.below(2)];
+            let before = times(layer, &layers[layer]);
+            use_times(&mut layers[layer], &symbols, asked, &mut random);
+            let after = times(layer, &layers[layer]);
+            assert_eq!(check_words(3, &write(&layers)), Ok(()));
+            for (symbol, (before, after)) in before.into_iter().zip(after).enumerate() {
+                let right =
+                    if symbols.contains(&symbol) { after == asked } else { after >= before };
+                assert!(right, "symbol {symbol}: {before}, then {after}, asked {asked}");
+            }
+        }
+    }
+
+    #[test]
+    fn what_is_named_is_the_only_one() {
+        let mut random = Random::new(496);
+        for depth in [1, 2, 3, 4, 5].into_iter().cycle().take(300) {
+            let mut layers = some_equations(depth, &mut random);
+            let (layer, symbol) = uncover(&mut layers, &mut random);
+            assert_eq!(covered(&layers), Err(Stop::Uncovered { layer, symbol }));
+            use_times(&mut layers[layer], &[symbol], 2, &mut random);
+            assert_eq!(covered(&layers), Ok(()));
+        }
+    }
+}

@@ -29,6 +29,8 @@ pub const WRONG: &[(&str, Ask)] = &[
     ("the first k equations counted", |i| first(&Rules { counted: |k| 0..k, ..RULES }, i)),
     ("the first equation not counted", |i| first(&Rules { counted: |k| 1..3 * k, ..RULES }, i)),
     ("the last equation not counted", |i| first(&Rules { counted: |k| 0..3 * k - 1, ..RULES }, i)),
+    ("two members counted", |i| first(&Rules { members: 2, ..RULES }, i)),
+    ("six members counted", |i| first(&Rules { members: 6, ..RULES }, i)),
     ("parity counted as data", |i| first(&Rules { number: |member, k| member % k, ..RULES }, i)),
     ("the highest symbol", |i| {
         let few = few(&RULES, i);
@@ -58,6 +60,8 @@ struct Rules {
     over: fn(usize, usize) -> Range<usize>,
     /// The equations of a layer that count.
     counted: fn(usize) -> Range<usize>,
+    /// How many members of an equation count.
+    members: usize,
     /// The symbol that a member counts for.
     number: fn(usize, usize) -> usize,
 }
@@ -68,6 +72,7 @@ const RULES: Rules = Rules {
     symbols: |k| 0..k,
     over: |layer, _| layer..layer + 1,
     counted: |k| 0..3 * k,
+    members: 8,
     number: |member, _| member,
 };
 
@@ -90,8 +95,9 @@ fn few(rules: &Rules, input: &Input) -> Vec<(usize, usize)> {
 /// The equations of a layer that count for a symbol.
 fn times(rules: &Rules, layers: &Layers, layer: usize, symbol: usize) -> usize {
     let k = data_symbols(layer);
-    let uses =
-        |members: &&Vec<usize>| members.iter().any(|&member| (rules.number)(member, k) == symbol);
+    let uses = |members: &&Vec<usize>| {
+        members.iter().take(rules.members).any(|&member| (rules.number)(member, k) == symbol)
+    };
     layers[layer][(rules.counted)(k)].iter().filter(uses).count()
 }
 
