@@ -58,17 +58,23 @@ pub fn use_only_in(
     for (e, members) in equations.iter_mut().enumerate() {
         let before = members.len();
         members.retain(|member| !symbols.contains(member));
-        let last = members[members.len() - 1];
-        let other = |other: &usize| !symbols.contains(other) && !members.contains(other);
-        let others: Vec<usize> = (0..last).filter(other).collect();
         if chosen.contains(&e) {
             members.extend(symbols);
         } else if members.len() == 1 || members.len() < before && random.below(2) == 0 {
-            members.extend(others.get(random.below(others.len().max(1))));
+            let other = another(members, symbols, random);
+            members.extend(other);
         }
         members.sort_unstable();
         assert!((2..=MOST).contains(&members.len()), "an equation by the rules");
     }
+}
+
+/// A symbol that an equation can have as one more member, but none of these.
+fn another(members: &[usize], symbols: &[usize], random: &mut Random) -> Option<usize> {
+    let last = members[members.len() - 1];
+    let other = |other: &usize| !symbols.contains(other) && !members.contains(other);
+    let others: Vec<usize> = (0..last).filter(other).collect();
+    others.get(random.below(others.len().max(1))).copied()
 }
 
 /// The equations that so many more symbols can be members of.
