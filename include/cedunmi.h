@@ -22,14 +22,18 @@
  *   8  stopped: the withheld hash fits: the proof shows no fault
  *   9  stopped: a needed page is absent; the value is the index in the sample
  *      of the first, or, reading a block, its base number
+ *  10  stopped: a data page stands in fewer than two equations of its layer; two
+ *      values, the first such layer and the lowest such page's number in it
  *
  * A call makes its tests in the order in which its numbers are listed below,
  * and stops at the first that fails. A call that stops changes no byte of any
- * buffer. The bits above the low eight are the value that goes with the number,
- * zero where there is none. Read them with cmt_number() and cmt_value(); of a
- * repair that ended, with cmt_repair_end() and the functions after it.
- * cmt_explain() and cmt_explain_end() have the words for numbers and ends. A
- * compiler that can warns where a result is dropped.
+ * buffer. The bits above the low eight are the values that go with the number:
+ * 24 for the first, or the only one, and 32 above these for the second, which 10
+ * alone has; zero where there is none. Read a result with cmt_number(),
+ * cmt_value() and cmt_second_value(); of a repair that ended, with
+ * cmt_repair_end() and the functions after it. cmt_explain() and
+ * cmt_explain_end() have the words for numbers and ends. A compiler that can
+ * warns where a result is dropped.
  *
  * Buffers. Every pointer is followed by its length in bytes. What the caller
  * must see to, since no call can test it, and without which nothing is promised:
@@ -97,7 +101,8 @@ enum {
     CMT_WRONG_HEAD = 6,
     CMT_WRONG_HASH = 7,
     CMT_NO_FAULT = 8,
-    CMT_ABSENT = 9
+    CMT_ABSENT = 9,
+    CMT_UNCOVERED = 10
 };
 
 /* What cmt_repair_end() gives: the end of a repair, or that it stopped and has none. */
@@ -147,10 +152,17 @@ static inline uint64_t cmt_number(uint64_t result)
     return result % 256;
 }
 
-/* The value that goes with the number, 0 where there is none; not of a repair that ended. */
+/* The value that goes with the number, the first where it has two, 0 where it has none; not of a repair
+ * that ended. */
 static inline uint64_t cmt_value(uint64_t result)
 {
-    return result / 256;
+    return result / 256 % 16777216;
+}
+
+/* The second value that goes with the number, 0 where it has none; not of a repair that ended. */
+static inline uint64_t cmt_second_value(uint64_t result)
+{
+    return result / 4294967296;
 }
 
 /* How a repair ended: one of the ends, CMT_NO_END where it stopped. */
@@ -159,25 +171,25 @@ static inline uint64_t cmt_repair_end(uint64_t result)
     if (cmt_number(result) != CMT_DONE) {
         return CMT_NO_END;
     }
-    return result / 256 % 16777216;
+    return cmt_value(result);
 }
 
 /* How many pages a repair has formed and stored; 0 where it stopped. */
 static inline uint64_t cmt_repair_stored(uint64_t result)
 {
-    return cmt_number(result) == CMT_DONE ? result / 4294967296 % 65536 : 0;
+    return cmt_number(result) == CMT_DONE ? cmt_second_value(result) % 65536 : 0;
 }
 
 /* The bytes of the proof that a repair wrote; 0 where its end is not CMT_FAULT. */
 static inline uint64_t cmt_repair_proof_bytes(uint64_t result)
 {
-    return cmt_repair_end(result) == CMT_FAULT ? result / 281474976710656 : 0;
+    return cmt_repair_end(result) == CMT_FAULT ? cmt_second_value(result) / 65536 : 0;
 }
 
 /* The layer that a repair left incomplete; 0 where its end is not CMT_UNAVAILABLE. */
 static inline uint64_t cmt_repair_layer(uint64_t result)
 {
-    return cmt_repair_end(result) == CMT_UNAVAILABLE ? result / 281474976710656 : 0;
+    return cmt_repair_end(result) == CMT_UNAVAILABLE ? cmt_second_value(result) / 65536 : 0;
 }
 
 /* What a number that cmt_number() gives means. */
@@ -204,6 +216,8 @@ static inline const char *cmt_explain(uint64_t number)
         return "the withheld hash fits: the proof shows no fault";
     case CMT_ABSENT:
         return "a needed page is absent";
+    case CMT_UNCOVERED:
+        return "a data page stands in fewer than two equations of its layer";
     default:
         return "a number that no call gives";
     }
@@ -242,7 +256,8 @@ uint64_t cmt_sha256(const uint8_t *message, size_t message_len,
                     uint8_t *digest, size_t digest_len);
 
 /*
- * Whether the bytes are a well-formed parity table of this depth.
+ * Whether the bytes are a parity table of this depth that calls take: a
+ * well-formed one, with each data page in at least two equations of its layer.
  *
  * CMT_DONE          they are.
  * CMT_WRONG_DEPTH   the depth is not 1 to CMT_DEPTH_MAX.
@@ -251,6 +266,10 @@ uint64_t cmt_sha256(const uint8_t *message, size_t message_len,
  *                   counted from 0: no well-formed table of this depth begins
  *                   with the words up to it. Of a table that is only short it
  *                   is the number of its words.
+ * CMT_UNCOVERED     the table is well-formed, but a data page is a member of
+ *                   fewer than two equations of its layer. cmt_value() is the
+ *                   first layer that has such a page, cmt_second_value() the
+ *                   lowest such page's number in that layer.
  */
 CMT_CHECKED
 uint64_t cmt_table_check(uint64_t depth, const uint8_t *table, size_t table_len);
@@ -273,6 +292,7 @@ uint64_t cmt_house_table(uint64_t depth, uint8_t *table, size_t table_len);
  * CMT_WRONG_LENGTH  a buffer has another length than this depth asks, or the
  *                   table's is over CMT_TABLE_BYTES_MAX or no multiple of 4.
  * CMT_WRONG_TABLE   the table breaks a rule, as for cmt_table_check().
+ * CMT_UNCOVERED     as for cmt_table_check().
  */
 CMT_CHECKED
 uint64_t cmt_tree_write(uint64_t depth, const uint8_t *table, size_t table_len,
@@ -340,9 +360,10 @@ uint64_t cmt_sample_check(uint64_t depth, uint64_t number,
  * CMT_WRONG_DEPTH   the depth is not 1 to CMT_DEPTH_MAX.
  * CMT_WRONG_LENGTH  root_len is not CMT_ROOT_BYTES, the table's is over
  *                   CMT_TABLE_BYTES_MAX or no multiple of 4, proof_len is under
- *                   CMT_PROOF_HEAD_BYTES; or, after the next two, proof_len is
+ *                   CMT_PROOF_HEAD_BYTES; or, after the next three, proof_len is
  *                   not the one that the head demands.
  * CMT_WRONG_TABLE   the table breaks a rule, as for cmt_table_check().
+ * CMT_UNCOVERED     as for cmt_table_check().
  * CMT_WRONG_HEAD    the head has a wrong kind, a layer or an equation that the
  *                   table has not, or withholds no member of the equation.
  * CMT_WRONG_HASH    a hash doesn't lead to the root, on a given member's path
@@ -357,8 +378,8 @@ uint64_t cmt_proof_check(uint64_t depth, const uint8_t *root, size_t root_len,
 /*
  * Repairs a tree, layer by layer from the top: makes a held page whose hash
  * is not the committed one absent, zeroes the absent places, and forms what the
- * equations give. Tree and marks are read and written. Stops with 1, 2, 3 or 4,
- * as cmt_tree_write() and cmt_block_read() do, and then cmt_repair_end() is
+ * equations give. Tree and marks are read and written. Stops with 1, 2, 3, 10
+ * or 4, as cmt_tree_write() and cmt_block_read() do, and then cmt_repair_end() is
  * CMT_NO_END. Otherwise the number is CMT_DONE, and cmt_repair_end() is one of:
  *
  * CMT_WHOLE         every page is marked held, and the tree is correctly

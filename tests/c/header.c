@@ -2,8 +2,9 @@
  * The header by itself, as C and as C++: it compiles without a warning, may be
  * included twice, and calls through it give the published digest of "abc", the
  * house table's first wrong word where one is put, and 01's cases of repair. Its
- * words for numbers and ends are as they should be, a repair that stopped has
- * no end, and the version's text is that of its numbers.
+ * words for numbers and ends are as they should be, both values of a result come
+ * out of it, a repair that stopped has no end, and the version's text is that of
+ * its numbers.
  */
 #include "cedunmi.h"
 #include "cedunmi.h"
@@ -29,6 +30,23 @@ static int tables_are_right(void)
     table[4 * 4 + 3] ^= 1;
     uint64_t result = cmt_table_check(1, table, sizeof table);
     return cmt_number(result) == CMT_WRONG_TABLE && cmt_value(result) == 4;
+}
+
+/* Whether a result has these three parts. */
+static int parts_are(uint64_t result, uint64_t number, uint64_t value, uint64_t second)
+{
+    return cmt_number(result) == number && cmt_value(result) == value && cmt_second_value(result) == second;
+}
+
+/* Each part of a result at its least and at its most, apart from the others. */
+static int values_are_apart(void)
+{
+    const uint64_t first = 256, second = first * 16777216;
+    return parts_are(0, 0, 0, 0) && parts_are(255, 255, 0, 0) && parts_are(first * 16777215, 0, 16777215, 0) &&
+           parts_are(second * UINT32_MAX, 0, 0, UINT32_MAX) &&
+           parts_are(UINT64_MAX, 255, 16777215, UINT32_MAX) &&
+           parts_are(CMT_UNCOVERED + first * 4 + second * 63, CMT_UNCOVERED, 4, 63) &&
+           parts_are(CMT_WRONG_TABLE + first * 4096, CMT_WRONG_TABLE, 4096, 0);
 }
 
 static struct volume volume;
@@ -143,9 +161,10 @@ static int texts_are_right(void)
         {CMT_WRONG_HASH, "a hash doesn't lead to the root"},
         {CMT_NO_FAULT, "the withheld hash fits: the proof shows no fault"},
         {CMT_ABSENT, "a needed page is absent"},
+        {CMT_UNCOVERED, "a data page stands in fewer than two equations of its layer"},
     };
     const uint64_t known = sizeof numbers / sizeof *numbers;
-    int right = known == 10 && strcmp(cmt_explain(UINT64_MAX), none) == 0;
+    int right = known == 11 && strcmp(cmt_explain(UINT64_MAX), none) == 0;
     for (uint64_t number = 0; number < 512; number++) {
         const char *text = number < known ? numbers[number].text : none;
         right &= (number >= known || numbers[number].of == number) && strcmp(cmt_explain(number), text) == 0;
@@ -199,6 +218,7 @@ int main(void)
     } parts[] = {
         {"digests", digests_are_right},
         {"tables", tables_are_right},
+        {"values", values_are_apart},
         {"repairs and proofs", repairs_are_right},
         {"repairs that stop", stops_have_no_end},
         {"ends", ends_have_room},
