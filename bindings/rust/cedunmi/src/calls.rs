@@ -25,7 +25,8 @@ pub fn sha256(message: &[u8]) -> Result<[u8; DIGEST_BYTES], Stop> {
     Ok(digest)
 }
 
-/// Whether the bytes are a well-formed parity table of this depth.
+/// Whether the bytes are a parity table of this depth that calls take: a well-formed one, with each data symbol in
+/// at least two equations of its layer.
 pub fn check_table(depth: u64, table: &[u8]) -> Result<(), Stop> {
     done(library::cmt_table_check(depth, table))
 }

@@ -13,6 +13,7 @@ pub fn explain(number: u64) -> &'static str {
         7 => "a hash doesn't lead to the root",
         8 => "the withheld hash fits: the proof shows no fault",
         9 => "a needed page is absent",
+        10 => "a data page stands in fewer than two equations of its layer",
         _ => "a number that no call gives",
     }
 }

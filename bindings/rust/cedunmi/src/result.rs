@@ -1,12 +1,18 @@
-//! The one place where a result is unpacked: a number in its low eight bits, a value above it; of a repair
-//! that ended, its end in 24 bits, the symbols stored in 16, and the end's value in 16.
+//! The one place where a result is unpacked: a number in its low eight bits, a value in the next 24, a second one in
+//! the 32 above. Of a repair that ended the first value is its end, and the second the symbols stored, in its low 16
+//! bits, with the end's value above.
 
 use crate::{End, Repaired, Stop, TWINS_BYTES};
 
+/// The number of a result, and its two values, each 0 where there is none.
+fn parts(result: u64) -> (u64, u64, u64) {
+    (result & 0xff, result >> 8 & 0xff_ffff, result >> 32)
+}
+
 /// Nothing where the call was done; else why it stopped.
 pub fn done(result: u64) -> Result<(), Stop> {
-    let value = result >> 8;
-    Err(match result & 0xff {
+    let (number, value, second) = parts(result);
+    Err(match number {
         0 => return Ok(()),
         1 => Stop::WrongDepth,
         2 => Stop::WrongLength,
@@ -17,6 +23,7 @@ pub fn done(result: u64) -> Result<(), Stop> {
         7 => Stop::WrongHash,
         8 => Stop::NoFault,
         9 => Stop::Absent { number: value },
+        10 => Stop::Uncovered { layer: value, symbol: second },
         _ => Stop::Unknown { result },
     })
 }
@@ -24,7 +31,8 @@ pub fn done(result: u64) -> Result<(), Stop> {
 /// The same of a repair, which has written this output.
 pub fn ended(result: u64, mut output: Vec<u8>) -> Result<Repaired, Stop> {
     done(result)?;
-    let (end, stored, value) = (result >> 8 & 0xff_ffff, result >> 32 & 0xffff, result >> 48);
+    let (_, end, second) = parts(result);
+    let (stored, value) = (second & 0xffff, second >> 16);
     let mut cut = |len: usize| {
         output.truncate(len);
         std::mem::take(&mut output)
@@ -43,24 +51,30 @@ pub fn ended(result: u64, mut output: Vec<u8>) -> Result<Repaired, Stop> {
 mod tests {
     use super::*;
 
-    /// Every number comes back, with its value where it has one.
+    /// The values of a stop, as many as it has.
+    fn values(stop: Stop) -> Vec<u64> {
+        match stop {
+            Stop::WrongTable { word: value }
+            | Stop::WrongMark { place: value }
+            | Stop::Absent { number: value } => vec![value],
+            Stop::Uncovered { layer, symbol } => vec![layer, symbol],
+            _ => Vec::new(),
+        }
+    }
+
+    /// Every number comes back, with as many values as it has, whatever stands in the place of the others.
     #[test]
     fn stops_keep_their_numbers_and_values() {
-        for number in 1..=9u64 {
-            for value in [0, 1, 255, 256, 495, (1 << 56) - 1] {
-                let stop = done(value << 8 | number).expect_err("a stop");
+        let most = ((1 << 24) - 1, u64::from(u32::MAX));
+        for (number, count) in (1..).zip([0, 0, 1, 1, 0, 0, 0, 0, 1, 2]) {
+            for (first, second) in [(0, 0), (1, 255), (256, 0), (0, 63), (495, 65536), most] {
+                let stop = done(second << 32 | first << 8 | number).expect_err("a stop");
                 assert_eq!(u64::from(stop.number()), number);
-                let kept = match stop {
-                    Stop::WrongTable { word: kept }
-                    | Stop::WrongMark { place: kept }
-                    | Stop::Absent { number: kept } => kept,
-                    _ => value,
-                };
-                assert_eq!(kept, value);
+                assert_eq!(values(stop), [first, second][..count]);
             }
         }
         assert_eq!(done(0), Ok(()));
-        assert_eq!(done(10), Err(Stop::Unknown { result: 10 }));
+        assert_eq!(done(11), Err(Stop::Unknown { result: 11 }));
         assert_eq!(done(255), Err(Stop::Unknown { result: 255 }));
     }
 

@@ -25,6 +25,11 @@ pub enum Stop {
     Absent {
         number: u64,
     },
+    /// The first layer that has a data symbol in fewer than two equations, and the lowest such symbol of it.
+    Uncovered {
+        layer: u64,
+        symbol: u64,
+    },
     /// A result that this crate does not know: the library is another version's.
     Unknown {
         result: u64,
@@ -44,11 +49,12 @@ impl Stop {
             Stop::WrongHash => 7,
             Stop::NoFault => 8,
             Stop::Absent { .. } => 9,
+            Stop::Uncovered { .. } => 10,
             Stop::Unknown { .. } => 0,
         }
     }
 
-    /// What it means, without its value.
+    /// What it means, without its values.
     pub fn meaning(self) -> &'static str {
         match self {
             Stop::Unknown { .. } => explain(u64::MAX),
@@ -66,6 +72,9 @@ impl fmt::Display for Stop {
             }
             Stop::WrongMark { place } => write!(f, ": that of page {place} is the lowest such"),
             Stop::Absent { number } => write!(f, ": number {number}"),
+            Stop::Uncovered { layer, symbol } => {
+                write!(f, ": page {symbol} of layer {layer} is the first such")
+            }
             Stop::Unknown { result } => write!(f, ": {result:#x}"),
             _ => Ok(()),
         }

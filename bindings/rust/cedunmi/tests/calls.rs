@@ -63,3 +63,25 @@ fn every_stop_comes() {
     let proof = [0; 780];
     assert_eq!(cedunmi::check_proof(1, &coded.root, &table, &proof), Err(Stop::WrongHead));
 }
+
+/// The house table of depth 1 with another member in the place of data symbol 2 in all its equations but the first.
+fn uncovered() -> Vec<u8> {
+    let mut table = cedunmi::house_table(1).expect("the house table");
+    for (word, member) in [(11, 1), (22, 1), (32, 3), (52, 3), (56, 1)] {
+        assert_eq!(std::mem::replace(&mut table[4 * word + 3], member), 2);
+    }
+    table
+}
+
+/// Each call that takes a table turns one down that leaves a data symbol in one equation; nothing is changed.
+#[test]
+fn uncovered_tables_are_not_taken() {
+    let (volume, _, coded) = coded(1);
+    let (table, stop) = (uncovered(), Stop::Uncovered { layer: 0, symbol: 2 });
+    let (mut tree, mut marks) = (coded.tree.clone(), vec![2; 16]);
+    assert_eq!(cedunmi::check_table(1, &table), Err(stop));
+    assert_eq!(cedunmi::code(1, &table, &volume), Err(stop));
+    assert_eq!(cedunmi::check_proof(1, &coded.root, &table, &[0; 780]), Err(stop));
+    assert_eq!(cedunmi::repair(1, &coded.root, &table, &mut tree, &mut marks), Err(stop));
+    assert_eq!((tree, marks), (coded.tree, vec![2; 16]));
+}
