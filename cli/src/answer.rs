@@ -195,6 +195,10 @@ mod tests {
             (Stop::WrongHash, "a hash doesn't lead to the root"),
             (Stop::NoFault, "the withheld hash fits: the proof shows no fault"),
             (Stop::Absent { number: 4 }, "a needed page is absent: number 4"),
+            (
+                Stop::Uncovered { layer: 2, symbol: 5 },
+                "a data page stands in fewer than two equations of its layer: page 5 of layer 2 is the first such",
+            ),
         ];
         for (number, (stop, line)) in (1..).zip(stops) {
             let failure = Failure::stopped(stop);

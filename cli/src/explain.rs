@@ -15,6 +15,7 @@ const TO_DO: &[(u8, &str)] = &[
     (7, "turn it down, unless depth and root are not the manual's: it is damaged, or of another volume"),
     (8, "turn the proof down: the volume stays in the catalogue"),
     (9, "bring that page, or repair the tree"),
+    (10, "put that page into more equations, or take the house table; a volume that this one has coded is read by cedunmi read --unverified, and coded again"),
     (DAMAGED, "mend the tree by cedunmi repair"),
     (31, "see that depth, root and table are the manual's; then send the proof to others, who strike the volume by it"),
     (32, "bring some of the missing pages from other shops, mark them, and repair again"),
@@ -54,7 +55,7 @@ mod tests {
     use super::*;
     use crate::help::MANUAL;
 
-    /// The statuses that the manual lists, its `1 to 9` being nine.
+    /// The statuses that the manual lists, its `1 to 10` being ten.
     fn listed() -> Vec<u64> {
         let lines = MANUAL
             .lines()

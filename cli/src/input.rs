@@ -1,5 +1,6 @@
 //! Files that are read.
 
+use crate::coverage::open_to_loss;
 use crate::failure::{Failure, NOT_MADE, UNREADABLE};
 use crate::kind::Kind;
 use crate::name::shown;
@@ -86,13 +87,20 @@ impl Input {
         Some(format!("{} has {len} bytes{more}; {wanted}{print}", self.name))
     }
 
-    /// Of a table that is one of another depth, which.
+    /// Of a table that is one of another depth, which; whether it covers every page or not.
     fn other_depth(&self) -> Option<String> {
+        let well_formed = |checked| matches!(checked, Ok(()) | Err(Stop::Uncovered { .. }));
         let is_table = |depth: &u64| {
-            self.kind == Kind::Table && cedunmi::check_table(*depth, &self.bytes).is_ok()
+            self.kind == Kind::Table && well_formed(cedunmi::check_table(*depth, &self.bytes))
         };
         let depth = (1..=Depth::MAX.layers() as u64).find(is_table)?;
         Some(format!("{} is a table of depth {depth}", self.name))
+    }
+
+    /// Of a table that leaves this page in fewer than two equations, what becomes of the page.
+    fn uncovered(&self, layer: u64, page: u64) -> Option<String> {
+        let table = Some(&self.bytes).filter(|_| self.kind == Kind::Table)?;
+        open_to_loss(&self.name, table, layer, page)
     }
 
     /// Of marks that were typed, what they should be.
@@ -112,6 +120,9 @@ pub fn stopped(stop: Stop, depth: u64, inputs: &[&Input]) -> Failure {
             Depth::new(depth).map_or(Vec::new(), |depth| wrong_lengths(depth, inputs))
         }
         Stop::WrongTable { .. } => inputs.iter().filter_map(|input| input.other_depth()).collect(),
+        Stop::Uncovered { layer, symbol } => {
+            inputs.iter().filter_map(|input| input.uncovered(layer, symbol)).collect()
+        }
         Stop::WrongMark { .. } => inputs.iter().filter_map(|input| input.characters()).collect(),
         Stop::WrongNumber => Depth::new(depth).map(base_numbers).into_iter().collect(),
         _ => Vec::new(),

@@ -7,6 +7,7 @@ mod answer;
 mod arguments;
 mod attempt;
 mod commands;
+mod coverage;
 mod explain;
 mod failure;
 mod help;

@@ -10,5 +10,8 @@ pub fn run(arguments: &Arguments) -> Done {
     let depth = decimal("DEPTH", depth)?;
     let table = Reader::new(arguments.options.quiet).read(table, Kind::Table)?;
     cedunmi::check_table(depth, &table.bytes).map_err(|stop| stopped(stop, depth, &[&table]))?;
-    told(arguments, "accepted: the table is well-formed")
+    told(
+        arguments,
+        "accepted: the table is well-formed, with each data page in two equations or more",
+    )
 }
