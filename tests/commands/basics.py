@@ -5,10 +5,10 @@ import shlex
 import struct
 
 import by_hand
-from room import Coded, contents, need, put, slurp, volume_of
+from room import Coded, contents, need, put, slurp, table_leaving, volume_of
 
 DEPTHS = (1, 2, 3, 4, 5)
-STATUSES = [0, 1, 2, 3, 4, 5, 6, 7, 8, 9, 30, 31, 32, 33, 64, 65, 66, 70, 73, 74]
+STATUSES = [0, 1, 2, 3, 4, 5, 6, 7, 8, 9, 10, 30, 31, 32, 33, 64, 65, 66, 70, 73, 74]
 COMMANDS = ["table", "check-table", "code", "root", "typed", "sample", "check-sample", "check",
             "repair", "check-proof", "read", "explain", "sha256", "help"]
 
@@ -21,7 +21,7 @@ def test_every_depth(room):
         room.works("table", depth, "t%d" % depth)
         need(slurp("t%d" % depth) == coded.table, "the house table of depth", depth)
         room.ends(0, "check-table", depth, "t%d" % depth).prints(
-            "accepted: the table is well-formed\n")
+            "accepted: the table is well-formed, with each data page in two equations or more\n")
         folder = "coded%d" % depth
         room.works("code", depth, "t%d" % depth, "volume", folder)
         need(contents(folder) == coded.files(), "what code wrote at depth", depth)
@@ -56,6 +56,52 @@ def test_other_tables(room):
     need(contents("coded") == coded.files(), "a volume coded by another table")
     room.works("read", 2, "root", "table", "tree", "marks", "back")
     need(slurp("back") == coded.volume, "a volume read by another table")
+
+
+def test_uncovered_tables(room):
+    """A table that has a data page in one equation, or in none, is refused; the first such layer,
+    its lowest such page, and what the page is left with are said."""
+    for depth in DEPTHS:
+        base = depth - 1
+        for pages in [((base, (4 << base) - 1, 1),), ((base, 3, 0),), ((0, 2, 1), (base, 0, 1)),
+                      ((base, 2, 0), (base, 1, 1)), ((0, 1, 2), (base, 3, 1))]:
+            put("thin", table_leaving(depth, *pages))
+            layer, page = by_hand.uncovered(slurp("thin"))
+            holds = [e for e, members in enumerate(by_hand.equations_of(slurp("thin"))[layer])
+                     if page in members]
+            said = room.refused(10, "check-table", depth, "thin")
+            said.says(": page %d of layer %d is the first such (number 10: " % (page, layer))
+            said.says("cedunmi: thin has it in equation %d alone: " % holds[0] if holds else
+                      "cedunmi: thin has it in no equation: ")
+            need(len(holds) < 2 and said.err.count(b"\n") == 2, str(said))
+        put("two", table_leaving(depth, (base, 1, 2), (0, 2, 2)))
+        need(by_hand.uncovered(slurp("two")) is None, "a table that covers every page")
+        room.ends(0, "check-table", depth, "two")
+
+
+def test_uncovered_everywhere(room):
+    """Each command that takes a table refuses one that leaves a page out: after 3, and before all
+    that follows 3."""
+    coded = Coded(2).lay()
+    thin = table_leaving(2, (1, 5, 1))
+    put("thin", thin)
+    put("short", thin[:-4])
+    put("marked", b"\2" + coded.marks[1:])
+    put("proof", bytes(12))
+    for words in (("check-table", 2, "thin"), ("code", 2, "thin", "volume", "none"),
+                  ("check", 2, "root", "thin", "tree", "marked"),
+                  ("repair", 2, "root", "thin", "tree", "marked", "none"),
+                  ("repair", "--in-place", 2, "root", "thin", "tree", "marked", "none"),
+                  ("read", 2, "root", "thin", "tree", "marked", "none"),
+                  ("check-proof", 2, "root", "thin", "proof")):
+        said = room.refused(10, *words).says(
+            "cedunmi: a data page stands in fewer than two equations of its layer: "
+            "page 5 of layer 1 is the first such (number 10: cedunmi explain 10)\n")
+        said.says("cedunmi: thin has it in equation 4 alone: ")
+        short = tuple("short" if word == "thin" else word for word in words)
+        room.refused(3, *short).says("word 180 ")
+    room.refused(3, "check-table", 3, "thin").says("thin is a table of depth 2\n")
+    room.refused(2, "code", 2, "thin", "thin", "none")
 
 
 def test_numbers(room):
@@ -214,7 +260,7 @@ def test_statuses(room):
     """Every status that the help lists is explained, each otherwise, and no other is."""
     text = room.ends(0, "help").out.decode()
     section = text[re.search(r"^Exit status", text, re.M).start():].split("\n\n")[0]
-    for status in STATUSES[10:] + [0]:
+    for status in STATUSES[10:] + [0, 1]:
         need(re.search(r"^ .*\b%d\b" % status, section, re.M), "not in the help:", status)
     said = set()
     for status in STATUSES:
@@ -222,7 +268,7 @@ def test_statuses(room):
         need(len(words) > 10 and words.endswith(b"\n"), "explain", status, "prints", words)
         said.add(words)
     need(len(said) == len(STATUSES), "two statuses are explained alike")
-    for status in (10, 23, 29, 34, 63, 67, 75, 256, -1):
+    for status in (11, 23, 29, 34, 63, 67, 75, 256, -1):
         room.refused(64, "explain", "--", status)
 
 

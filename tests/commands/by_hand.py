@@ -74,6 +74,17 @@ def equations_of(table):
     return layers
 
 
+def uncovered(table):
+    """The first layer that has a data page in fewer than two equations, and its lowest such page;
+    None where there is no such page."""
+    for layer, equations in enumerate(equations_of(table)):
+        members = [i for equation in equations for i in equation]
+        for page in range(4 << layer):
+            if members.count(page) < 2:
+                return layer, page
+    return None
+
+
 def xor(some):
     """The exclusive-or of pages."""
     value = 0

@@ -32,6 +32,9 @@ to() {
 TELLING_LATER = '"$real" "$@" >told; status=$?; cat told 2>/dev/null; exit $status'
 SCRIPTS = [
     ("careless", "basics.numbers", '"$real" "$@"; exit 0'),
+    ("miscounting", "basics.uncovered_tables",
+     'said=$("$real" "$@" 2>&1 >/dev/null); status=$?; printf "%s\\n" "$said" | '
+     'sed "s/in equation [0-9]* alone/in no equation/" >&2; exit $status'),
     ("overwriting", "files.existing",
      'case $command in table | typed | read) exec "$real" --force "$@" ;; esac'),
     ("mode-losing", "files.existing",

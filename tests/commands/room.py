@@ -253,6 +253,20 @@ class Coded:
         return by_hand.Repair(self.depth, self.root, self.table, self.tree, self.marks)
 
 
+def table_leaving(depth, *pages):
+    """The house table, but for pages, each by its layer, its number there, and how many equations
+    keep it: the first ones. In the others another data page stands for it."""
+    equations = by_hand.house_equations(depth)
+    for layer, page, kept in pages:
+        those = [members for members in equations[layer] if page in members]
+        for members in those[kept:]:
+            members.remove(page)
+            gone = [gone for at, gone, _ in pages if at == layer]
+            members.append(next(i for i in range(4 << layer) if i not in members + gone))
+            members.sort()
+    return by_hand.table_of(equations)
+
+
 def another_table(depth):
     """A table that differs from the house table in its last equation's second member."""
     equations = by_hand.house_equations(depth)
