@@ -22,8 +22,8 @@ static const char usage[] =
     "bench proof DEPTH ROOT TABLE PROOF       check a fault proof\n"
     "\n"
     "DEPTH 1 to 5; NUMBER a decimal number too; the others are files. DEPTH, ROOT and TABLE must come from where\n"
-    "they can be trusted. Exit status: 0 accepted; 1 to 8 not, and why not; 64 bad usage; 66 a file cannot\n"
-    "be read.\n";
+    "they can be trusted. Exit status: 0 accepted; 1 to 8 and 10 not, and why not; 64 bad usage; 66 a\n"
+    "file cannot be read.\n";
 
 struct file {
     uint8_t *bytes;
@@ -124,6 +124,10 @@ static int explain(uint64_t result, const char *accepted)
     fprintf(stderr, "bench: %s", status == CMT_DONE ? accepted : cmt_explain(status));
     if (status == CMT_WRONG_TABLE) {
         fprintf(stderr, ", first wrong word %llu", (unsigned long long)cmt_value(result));
+    }
+    if (status == CMT_UNCOVERED) {
+        fprintf(stderr, ": page %llu of layer %llu is the first such", (unsigned long long)cmt_second_value(result),
+                (unsigned long long)cmt_value(result));
     }
     fputc('\n', stderr);
     return (int)status;

@@ -25,7 +25,7 @@ _cedunmi_argument() {
     local commands='table check-table code root typed sample check-sample check repair check-proof read explain sha256 help'
     case $1:$2 in
     :* | help:0) _cedunmi_words "$commands" ;;
-    explain:0) _cedunmi_words '0 1 2 3 4 5 6 7 8 9 30 31 32 33 64 65 66 70 73 74' ;;
+    explain:0) _cedunmi_words '0 1 2 3 4 5 6 7 8 9 10 30 31 32 33 64 65 66 70 73 74' ;;
     root:* | typed:* | sha256:*) ;;
     help:* | explain:* | sample:1 | check-sample:1) _cedunmi_words '' ;;
     *:0) _cedunmi_words '1 2 3 4 5' ;;

@@ -1,0 +1,147 @@
+/*
+ * Tables that leave a data page in fewer than two equations of its layer, lent to
+ * the four calls that take a table: each stops with 10 and its two values, after 3
+ * and before all that follows 3, and leaves every buffer as it was.
+ */
+#include "volume.h"
+
+#include <stdio.h>
+#include <string.h>
+
+static struct volume volume, before;
+
+/* The result of a call that stops with 10. */
+static uint64_t uncovered(uint64_t layer, uint64_t page)
+{
+    return CMT_UNCOVERED + 256 * (layer + 16777216 * page);
+}
+
+/* The last byte of an equation's first data member in the house table; that of the second is four further on. */
+static uint8_t *data_members(uint64_t layer, size_t equation)
+{
+    size_t word = 60 * (((size_t)1 << layer) - 1) + (equation == 0 ? 2 : 5 * equation + 1);
+    return volume.table + 4 * word + 3;
+}
+
+/* Leaves a page in so many equations, its first ones: in the others data page 0, 1 or 2 stands for it. */
+static void leave(uint64_t layer, uint8_t page, size_t kept)
+{
+    size_t met = 0;
+    for (size_t equation = 0; equation < (size_t)12 << layer; equation++) {
+        uint8_t *first = data_members(layer, equation), *second = first + 4;
+        if ((*first != page && *second != page) || met++ < kept) {
+            continue;
+        }
+        uint8_t other = *first == page ? *second : *first, another = 0;
+        while (another == page || another == other) {
+            another++;
+        }
+        *first = another < other ? another : other;
+        *second = another < other ? other : another;
+    }
+}
+
+static uint64_t table_check(void)
+{
+    return cmt_table_check(volume.depth, volume.table, CMT_HOUSE_TABLE_BYTES(volume.depth));
+}
+
+/* A page in two equations is enough; in one, or in none, it is not: in each layer at every depth. */
+static int two_are_needed(void)
+{
+    int right = 1;
+    for (uint64_t depth = 1; depth <= CMT_DEPTH_MAX; depth++) {
+        for (uint64_t layer = 0; layer < depth; layer++) {
+            const uint8_t last = (uint8_t)((4 << layer) - 1), pages[] = {0, 1, 2, (uint8_t)(last / 2), last};
+            for (size_t i = 0; i < 3 * sizeof pages; i++) {
+                size_t kept = i % 3;
+                right &= volume_begin(&volume, depth) == CMT_DONE && table_check() == CMT_DONE;
+                leave(layer, pages[i / 3], kept);
+                right &= table_check() == (kept < 2 ? uncovered(layer, pages[i / 3]) : CMT_DONE);
+            }
+        }
+    }
+    return right;
+}
+
+/* Of several such pages the one in the first layer, and there the lowest, is named. */
+static int first_is_named(void)
+{
+    int right = volume_begin(&volume, 4) == CMT_DONE;
+    leave(3, 3, 0);
+    right &= table_check() == uncovered(3, 3);
+    leave(1, 7, 0);
+    right &= table_check() == uncovered(1, 7);
+    leave(1, 4, 1);
+    right &= table_check() == uncovered(1, 4);
+    leave(2, 3, 0);
+    return right && table_check() == uncovered(1, 4);
+}
+
+/* Whether all four calls stop so, and change nothing. The proof is a head with no right kind. */
+static int all_stop(uint64_t result)
+{
+    memcpy(&before, &volume, sizeof before);
+    return table_check() == result && volume_write(&volume) == result &&
+           volume_check(&volume, CMT_PROOF_HEAD_BYTES) == result && volume_repair(&volume) == result &&
+           memcmp(&before, &volume, sizeof before) == 0;
+}
+
+/* A coded volume with a mark and a proof's head that are wrong too, and this page in one equation. */
+static int lent(uint64_t depth, uint64_t layer, uint8_t page)
+{
+    int written = volume_begin(&volume, depth) == CMT_DONE && volume_write(&volume) == CMT_DONE;
+    volume.marks[0] = 2;
+    memset(volume.output, 0x5a, sizeof volume.output);
+    leave(layer, page, 1);
+    return written;
+}
+
+/* 10 comes before 4 and before 6, and a repair that stops so has no end. */
+static int every_call_stops(void)
+{
+    int right = 1;
+    for (uint64_t depth = 1; depth <= CMT_DEPTH_MAX; depth++) {
+        right &= lent(depth, depth - 1, 3) && all_stop(uncovered(depth - 1, 3));
+    }
+    uint64_t result = volume_repair(&volume);
+    return right && cmt_number(result) == CMT_UNCOVERED && cmt_value(result) == CMT_DEPTH_MAX - 1 &&
+           cmt_second_value(result) == 3 && cmt_repair_end(result) == CMT_NO_END && cmt_repair_stored(result) == 0;
+}
+
+/* A table that is not well-formed either is 3, at its first word and at its last; depth and length come before both. */
+static int others_come_first(void)
+{
+    int right = lent(2, 0, 2);
+    const size_t bytes = CMT_HOUSE_TABLE_BYTES(2), end = bytes / 4 - 1;
+    volume.table[bytes - 1] ^= 1;
+    right &= all_stop(CMT_WRONG_TABLE + 256 * end);
+    volume.table[0] ^= 0x80;
+    right &= all_stop(CMT_WRONG_TABLE);
+    right &= lent(2, 1, 2) && cmt_table_check(2, volume.table, bytes - 1) == CMT_WRONG_LENGTH;
+    right &= volume_check(&volume, CMT_PROOF_HEAD_BYTES - 1) == CMT_WRONG_LENGTH;
+    volume.depth = 0;
+    return right && cmt_table_check(0, volume.table, bytes) == CMT_WRONG_DEPTH &&
+           volume_repair(&volume) == CMT_WRONG_DEPTH;
+}
+
+int main(void)
+{
+    static const struct {
+        const char *name;
+        int (*right)(void);
+    } parts[] = {
+        {"how many equations are needed", two_are_needed},
+        {"the page that is named", first_is_named},
+        {"the calls that take a table", every_call_stops},
+        {"the tests that come first", others_come_first},
+    };
+    for (size_t i = 0; i < sizeof parts / sizeof *parts; i++) {
+        if (!parts[i].right()) {
+            printf("coverage: %s: not as it should be\n", parts[i].name);
+            return 1;
+        }
+    }
+    printf("coverage: ok\n");
+    return 0;
+}
