@@ -2,7 +2,7 @@
 use mathlib.Core.Path.{_≡_, refl, sym, ap, ap₂, _∙_, subst}
 use mathlib.Core.Bool.{Bool, true, false, _&&_}
 use mathlib.Core.List.{List}
-use Prim.Native.Nat.{ℕ, _/_, _≤_, _<_, _^_}
+use Prim.Native.Nat.{ℕ, _*_, _/_, _≤_, _<_, _^_}
 use native.Mathlib.Omega.{arith}
 use lib.ListN.{length, take, drop, length-take, length-drop, length-append}
 use lib.Seq.{take-at}
@@ -12,16 +12,24 @@ use Rattle.octets.proofs.Choice.{by-test, pick-ind, and-yes, yes-and}
 use Rattle.parity_table.specs.Shape.{maxDepth, depthFits}
 use Rattle.parity_table.specs.declared.Answer.{Answer as Read}
 use Rattle.parity_table.specs.declared.Answer.the-variants as read
-use Rattle.table_bytes.specs.Bytes.{wordsOf, lengthFits}
+use Rattle.table_bytes.specs.Bytes.{maxBytes, wordsOf, lengthFits}
+use Rattle.table_bytes.proofs.RoundTrip.{table-bytes-fit, table-bytes-accepted, table-bytes-say}
+use Rattle.house_table.specs.House.{houseTable, houseWords}
+use Rattle.house_table.proofs.HouseRules.{house-rules, house-words-of}
+use Rattle.house_table.proofs.HouseBytes.{house-short}
+use Rattle.house_table.proofs.HouseCovered.{house-covered}
+use Rattle.octets.specs.BigEndian.{bytesOf}
+use Rattle.parity_table.specs.Table.{TableOk, tableWords}
+use Rattle.parity_table.specs.Coverage.{Covered}
 use Rattle.parity_table.specs.Parse.{Indexed, indexOf, over, tableOf, equationsAbove}
 use Rattle.parity_table.specs.Reader.{readOf}
 use Rattle.table_bytes.proofs.ByteForm.{words-front, wordsOf-length, quarter-most}
 use Rattle.parity_table.proofs.Accepts.{index-room, accepted-depth, accepted-table, refused-wrong}
-use Rattle.parity_table.proofs.Shape.{k-small}
+use Rattle.parity_table.proofs.Shape.{depth-is, k-small}
 use Rattle.coverage.specs.declared.Coverage.{Coverage}
 use Rattle.coverage.specs.declared.Coverage.the-variants as coverage
 use Rattle.coverage.specs.Coverage.{firstThin, coverageOf}
-use Rattle.coverage.proofs.Right.{lowest-low}
+use Rattle.coverage.proofs.Right.{lowest-low, covered-found}
 use Rattle.model.specs.Shape.{tree}
 use Rattle.model.proofs.Tables.{TableLaws, table-laws}
 use Rattle.calls.specs.declared.Stop.{Stop}
@@ -41,6 +49,13 @@ read-whole read.Whole e = refl
 cover-done : (c : Coverage) → coverAnswer c ≡ Done → c ≡ coverage.Covered
 cover-done coverage.Covered e = refl
 cover-done (coverage.Uncovered j i) e = absurd (stopped-not _ e)
+
+-- a table that calls take at this depth
+pub record TableTaken (d : ℕ) (table : List ℕ) : Type 0 where
+  pub deep : depthFits d ≡ true
+  pub length-fits : lengthFits (length table) ≡ true
+  pub accepted : readOf d (wordsOf table) ≡ read.Whole
+  pub covered : coverageOf d (tableOf (wordsOf table)) ≡ coverage.Covered
 
 module _ (d : ℕ) (sized : Bool) (table : List ℕ) where
   abbrev long : Bool
@@ -82,11 +97,8 @@ module _ (d : ℕ) (sized : Bool) (table : List ℕ) where
   -- ---- an admitted table
 
   pub record Admitted : Type 0 where
-    pub deep : depthFits d ≡ true
     pub lengths : sized ≡ true
-    pub length-fits : long ≡ true
-    pub accepted : readOf d (wordsOf table) ≡ read.Whole
-    pub covered : coverageOf d (tableOf (wordsOf table)) ≡ coverage.Covered
+    pub taken : TableTaken d table
 
   pub admission : admitted d sized table ≡ Done → Admitted
   admission e =
@@ -94,7 +106,15 @@ module _ (d : ℕ) (sized : Bool) (table : List ℕ) where
       let (r, c) = then-done (readAnswer (readOf d (wordsOf table))) (coverAnswer (coverageOf d (tableOf (wordsOf table)))) t in
       let k = opened-by d (sized && long) o in
       let (s, l) = and-yes sized long (k .lengths) in
-      record { deep = k .deep; lengths = s; length-fits = l; accepted = read-whole (readOf d (wordsOf table)) r; covered = cover-done (coverageOf d (tableOf (wordsOf table))) c }
+      record {
+        lengths = s;
+        taken = record {
+          deep = k .deep;
+          length-fits = l;
+          accepted = read-whole (readOf d (wordsOf table)) r;
+          covered = cover-done (coverageOf d (tableOf (wordsOf table))) c;
+        };
+      }
 
   -- its words stand in front of the call's buffer
   module _ (e : Done ≡ admitted d sized table) (w lent : List ℕ) (ew : w ≡ wordsLeft d sized table lent) where
@@ -112,7 +132,7 @@ module _ (d : ℕ) (sized : Bool) (table : List ℕ) where
 
     -- and their index has room in a buffer for the largest depth
     pub starts-room : (n : ℕ) → equationsAbove maxDepth ≤ n → length (indexOf (take (length table / 4) w)) ≤ n
-    starts-room n h = subst (λ (l : List ℕ). length (indexOf l) ≤ n) (sym words-there) (index-room d (wordsOf table) n h (admission (sym e) .accepted))
+    starts-room n h = subst (λ (l : List ℕ). length (indexOf l) ≤ n) (sym words-there) (index-room d (wordsOf table) n h (admission (sym e) .taken .accepted))
 
   -- its words and its index are in the call's buffers
   pub record Ready (w s lents : List ℕ) : Type 0 where
@@ -130,13 +150,13 @@ module _ (d : ℕ) (sized : Bool) (table : List ℕ) where
       let ix = indexOf (wordsOf table) in
       let front = words-there e w lentw ew in
       let is : s ≡ over ix lents = es ∙ sym (starts-by Done e lents) in
-      let room : length ix ≤ length lents = index-room d (wordsOf table) (length lents) h (admission (sym e) .accepted) in
+      let room : length ix ≤ length lents = index-room d (wordsOf table) (length lents) h (admission (sym e) .taken .accepted) in
       record {
         admits = admission (sym e);
         words-there = front;
         indexed = subst (λ q. Indexed d q s) (sym front)
             (record {
-              accepted = admission (sym e) .accepted;
+              accepted = admission (sym e) .taken .accepted;
               index = ap (take (length ix)) is ∙ take-at ix (drop (length ix) lents) (length ix) refl;
             });
         words-count = words-count e w lentw ew;
@@ -145,11 +165,27 @@ module _ (d : ℕ) (sized : Bool) (table : List ℕ) where
       }
 
 -- what is admitted
-pub admits : (d : ℕ) (sized : Bool) (table : List ℕ) → depthFits d ≡ true → sized ≡ true → lengthFits (length table) ≡ true
-    → readOf d (wordsOf table) ≡ read.Whole → coverageOf d (tableOf (wordsOf table)) ≡ coverage.Covered → Done ≡ admitted d sized table
-admits d sized table f q l w c =
-    ap₂ (λ (a b : Answer). a then b) (opens d (sized && lengthFits (length table)) f (yes-and q l))
-    (ap₂ (λ (r : Read) (x : Coverage). readAnswer r then coverAnswer x) (sym w) (sym c))
+pub admits : (d : ℕ) (sized : Bool) (table : List ℕ) → TableTaken d table → sized ≡ true → Done ≡ admitted d sized table
+admits d sized table k q =
+    ap₂ (λ (a b : Answer). a then b) (opens d (sized && lengthFits (length table)) (k .deep) (yes-and q (k .length-fits)))
+    (ap₂ (λ (r : Read) (x : Coverage). readAnswer r then coverAnswer x) (sym (k .accepted)) (sym (k .covered)))
+
+-- a table by the rules that is covered and not too long is taken, as bytes
+pub taken-table : (d : ℕ) (tbl : List (List (List ℕ))) → depthFits d ≡ true → TableOk d tbl → Covered d tbl → length (tableWords tbl) * 4 ≤ maxBytes
+    → TableTaken d (bytesOf (tableWords tbl))
+taken-table d tbl t o c short =
+    record {
+      deep = t;
+      length-fits = table-bytes-fit d tbl o t short;
+      accepted = table-bytes-accepted d tbl o t short;
+      covered = ap (coverageOf d) (table-bytes-say d tbl o t short) ∙ covered-found d tbl o c;
+    }
+
+-- .. and so is the house table
+pub house-taken : (d : ℕ) → depthFits d ≡ true → TableTaken d (bytesOf (houseWords d))
+house-taken d t =
+    subst (λ (ws : List ℕ). TableTaken d (bytesOf ws)) (sym (house-words-of d))
+    (taken-table d (houseTable d) t (house-rules d) (house-covered d) (house-short d (depth-is d t .1)))
 
 -- a test of lengths that looks at the depth too
 pub admitted-sized : (d : ℕ) (s w : Bool) (table : List ℕ) → s ≡ (depthFits d && w) → admitted d s table ≡ admitted d w table

@@ -131,3 +131,12 @@ module _ (d : ℕ) (tbl : List (List (List ℕ))) where
   right-unique found.Covered (found.Uncovered j i) p q = absurd (not-covered j i q p)
   right-unique (found.Uncovered j i) found.Covered p q = absurd (not-covered j i p q)
   right-unique (found.Uncovered j i) (found.Uncovered l x) p q = let (e, f) = first-unique j i l x p q in ap₂ found.Uncovered e f
+
+-- ---- so a table that keeps the rules is found covered just when it is
+
+module _ (d : ℕ) (tbl : List (List (List ℕ))) (o : TableOk d tbl) where
+  pub covered-found : Covered d tbl → coverageOf d tbl ≡ found.Covered
+  covered-found c = right-unique d tbl (coverageOf d tbl) found.Covered (coverage-right d tbl o) c
+
+  pub found-covered : coverageOf d tbl ≡ found.Covered → Covered d tbl
+  found-covered e = subst (Right d tbl) e (coverage-right d tbl o)

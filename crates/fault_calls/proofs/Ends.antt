@@ -38,14 +38,14 @@ use Rattle.fault_calls.proofs.Sound.{checker-sound}
 
 module _ (d : ℕ) (root table t m o : List ℕ) (k : Formed d root table t m o) where
   pub deep : length (tableOf (wordsOf table)) ≡ d
-  deep = accepted-table d (wordsOf table) (k .admits .accepted) .depth
+  deep = accepted-table d (wordsOf table) (k .admits .taken .accepted) .depth
 
   ended-so : Ended tree (symbolHash Plain) root (tableOf (wordsOf table)) t m o (repairOf root table t m o)
   unfolding repairOf
   ended-so =
-      four-ends tree (tree-ok .shape) (symbolHash Plain) root (tableOf (wordsOf table)) (table-laws-of d table (k .admits .accepted)) (length-symbolHash Plain) t m o
+      four-ends tree (tree-ok .shape) (symbolHash Plain) root (tableOf (wordsOf table)) (table-laws-of d table (k .admits .taken .accepted)) (length-symbolHash Plain) t m o
       (record { tree-length = k .tree-full ∙ ap (λ (q : ℕ). 256 * places tree q) (sym deep); marks-length = k .marks-full ∙ ap (places tree) (sym deep) })
-      (table-roomy tree (tableOf (wordsOf table)) (table-laws-of d table (k .admits .accepted)) o (k .out-full ∙ ap (λ (q : ℕ). 12 + 256 * (8 * q - 1)) (sym deep)))
+      (table-roomy tree (tableOf (wordsOf table)) (table-laws-of d table (k .admits .taken .accepted)) o (k .out-full ∙ ap (λ (q : ℕ). 12 + 256 * (8 * q - 1)) (sym deep)))
       (k .root-full ∙ sym tree-root)
 
 pub four-ways : (d : ℕ) (root table t m o : List ℕ) → FourWays d root table t m o
@@ -57,8 +57,7 @@ four-ways d root table t m o e = ended-so d root table t m o (formed d root tabl
 proof-admitted : (d : ℕ) (root table t m o : List ℕ) → Formed d root table t m o → (b : List ℕ) → 12 ≤ length b
     → Done ≡ admitted d (proofSized (length root) (length b)) table
 proof-admitted d root table t m o k b l =
-    admits d (proofSized (length root) (length b)) table (k .admits .deep) (yes-and (eq-eqb (length root) 512 (k .root-full)) (le-leb 12 (length b) l))
-    (k .admits .length-fits) (k .admits .accepted) (k .admits .covered)
+    admits d (proofSized (length root) (length b)) table (k .admits .taken) (yes-and (eq-eqb (length root) 512 (k .root-full)) (le-leb 12 (length b) l))
 
 long : (tbl : List (List (List ℕ))) (root b : List ℕ) → verdict tree (symbolHash Plain) root tbl b ≡ accepted → 12 ≤ length b
 unfolding proofLength

@@ -88,8 +88,8 @@ module _ (d : ℕ) (root table t m o : List ℕ) where
       let (r, v, w, x) = sizes d (length root) (length t) (length m) (length o) (a .lengths) in
       record {
         admits = a;
-        some = depth-is d (a .deep) .0;
-        shallow = depth-is d (a .deep) .1;
+        some = depth-is d (a .taken .deep) .0;
+        shallow = depth-is d (a .taken .deep) .1;
         root-full = r;
         tree-full = v;
         marks-full = w;

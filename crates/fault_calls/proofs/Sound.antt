@@ -20,7 +20,7 @@ unfolding symbolHash
 checker-sound d root table b e f agr =
     let p = passed d root table b e in
     let tbl : List (List (List ℕ)) = tableOf (wordsOf table) in
-    let laws : TableLaws tree tbl = table-laws-of d table (p .admits .accepted) in
+    let laws : TableLaws tree tbl = table-laws-of d table (p .admits .taken .accepted) in
     let c = sound tree (tree-ok .shape) (symbolHash Plain) (length-symbolHash Plain) tbl root f agr laws b (p .accepts) in
     record {
       collision = c;

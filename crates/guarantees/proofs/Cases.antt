@@ -14,19 +14,19 @@ use Rattle.parity_table.specs.Table.{layerOf, equationOf, equationsWords, layer
 use Rattle.table_bytes.specs.Bytes.{wordsOf}
 use Rattle.house_table.specs.House.{houseEquation, houseEquations, houseLayers, houseTable, houseWords}
 use Rattle.parity_table.proofs.Accepts.{accepted-table}
-use Rattle.house_table.proofs.HouseBytes.{house-bytes-accepted}
 use Rattle.symbol_hash.specs.SymbolHash.{symbolHash}
 use Rattle.symbol_hash.specs.declared.Kind.the-variants.{Plain}
 use Rattle.model.specs.Shape.{tree, place, places}
 use Rattle.model.specs.Symbols.{symbolIn, symAt}
 use Rattle.model.specs.Fault.{proofLength, proofLayer, proofEquation, proofMembers}
 use Rattle.model.proofs.Sound.{accepted-is}
-use Rattle.calls.proofs.AdmissionLaws.{table-laws-of}
+use Rattle.calls.proofs.AdmissionLaws.{house-taken, table-laws-of}
 use Rattle.fault_calls.proofs.CheckingLaws.{passed}
 use Rattle.guarantees.specs.Terms.{equationsOf}
 use Rattle.guarantees.specs.Cases.{coded, EveryCall, Depths, Has, Longest, Stands, none, _also_, CasesHold}
 use Rattle.guarantees.specs.Layouts.{bytesFrom, symbolAt, hashFor, kindValue}
-use Rattle.guarantees.specs.Answers.{done, test, fails, holds, unless, JustWhen}
+use Rattle.guarantees.specs.Answers.{test, fails, holds, unless, JustWhen}
+use Rattle.guarantees.proofs.Answers.{never, done-never}
 use Rattle.guarantees.proofs.Layouts.{symbol-at}
 use Rattle.guarantees.proofs.Demand1.{demand-1}
 use Rattle.guarantees.proofs.Demand2.{coding, written-when}
@@ -35,21 +35,13 @@ use Rattle.guarantees.proofs.LongestProof.{longest-accepted}
 
 -- ---- case 8
 
--- a later test doesn't give 1
-not-one : {k : ℕ} {wrong : ℕ → Type 0} {later : ℕ → ℕ → Type 0} → (k ≡ 1 → ⊥) → ((v : ℕ) → later 1 v → ⊥) → (v : ℕ) → test k wrong later 1 v → ⊥
-not-one n l v (fails e x) = n (sym e)
-not-one n l v (holds x y) = l v y
-
-nor-done : (v : ℕ) → done 1 v → ⊥
-nor-done v (e, q) = omega arith
-
 -- the test of the depth comes first
-at-depth : {number value : ℕ} {right : Type 0} {later : ℕ → ℕ → Type 0} → JustWhen number value (test 1 (unless right) later) → ((v : ℕ) → later 1 v → ⊥)
+at-depth : {number : ℕ} {values : ℕ × ℕ} {right : Type 0} {later : ℕ → ℕ × ℕ → Type 0} → JustWhen number values (test 1 (unless right) later) → ((v : ℕ × ℕ) → later 1 v → ⊥)
     → (number ≡ 1) ↔ (right → ⊥)
-at-depth {number} {value} {right} {later} j l =
-    (λ e. found value (j .answers 1 value .0 (e, refl)), λ n. j .answers 1 0 .1 (fails refl (record { is-not = n; alone = refl })) .0)
+at-depth {number} {values} {right} {later} j l =
+    (λ e. found values (j .answers 1 values .0 (e, refl)), λ n. j .answers 1 (0, 0) .1 (fails refl (record { is-not = n; alone = refl })) .0)
   where
-    found : (v : ℕ) → test 1 (unless right) later 1 v → right → ⊥
+    found : (v : ℕ × ℕ) → test 1 (unless right) later 1 v → right → ⊥
     found v (fails e x) = x .is-not
     found v (holds x y) = absurd (l v y)
 
@@ -57,25 +49,16 @@ depths : Depths 1 5
 depths d =
     let r = demand-1 .refusals in
     record {
-      table-words = λ ws. at-depth (r .table-words d ws) (not-one (λ e. omega arith) nor-done);
-      table-bytes = λ b. at-depth (r .table-bytes d b) (not-one (λ e. omega arith) (not-one (λ e. omega arith) nor-done));
-      house-words = λ n. at-depth (r .house-words d n) (not-one (λ e. omega arith) nor-done);
-      house-bytes = λ n. at-depth (r .house-bytes d n) (not-one (λ e. omega arith) nor-done);
-      tree-writer = λ table b t m root. at-depth (r .tree-writer d table b t m root) (not-one (λ e. omega arith) (not-one (λ e. omega arith) nor-done));
-      block-reader = λ t m b.
-          at-depth (r .block-reader d t m b) (not-one (λ e. omega arith) (not-one (λ e. omega arith) (not-one (λ e. omega arith) nor-done)));
-      sampler = λ i t m s.
-          at-depth (r .sampler d i t m s)
-          (not-one (λ e. omega arith) (not-one (λ e. omega arith) (not-one (λ e. omega arith) (not-one (λ e. omega arith) nor-done))));
-      sample-checker = λ i root s.
-          at-depth (r .sample-checker d i root s) (not-one (λ e. omega arith) (not-one (λ e. omega arith) (not-one (λ e. omega arith) nor-done)));
-      proof-checker = λ root table b.
-          at-depth (demand-1 .proof-checker d root table b)
-          (not-one (λ e. omega arith)
-          (not-one (λ e. omega arith)
-          (not-one (λ e. omega arith) (not-one (λ e. omega arith) (not-one (λ e. omega arith) (not-one (λ e. omega arith) nor-done))))));
-      repairer = λ root table t m o.
-          at-depth (r .repairer d root table t m o) (not-one (λ e. omega arith) (not-one (λ e. omega arith) (not-one (λ e. omega arith) nor-done)));
+      table-words = λ ws. at-depth (r .table-words d ws) (never (λ e. omega arith) (never (λ e. omega arith) (done-never (λ e. omega arith))));
+      table-bytes = λ b. at-depth (r .table-bytes d b) (never (λ e. omega arith) (never (λ e. omega arith) (never (λ e. omega arith) (done-never (λ e. omega arith)))));
+      house-words = λ n. at-depth (r .house-words d n) (never (λ e. omega arith) (done-never (λ e. omega arith)));
+      house-bytes = λ n. at-depth (r .house-bytes d n) (never (λ e. omega arith) (done-never (λ e. omega arith)));
+      tree-writer = λ table b t m root. at-depth (r .tree-writer d table b t m root) (never (λ e. omega arith) (never (λ e. omega arith) (never (λ e. omega arith) (done-never (λ e. omega arith)))));
+      block-reader = λ t m b. at-depth (r .block-reader d t m b) (never (λ e. omega arith) (never (λ e. omega arith) (never (λ e. omega arith) (done-never (λ e. omega arith)))));
+      sampler = λ i t m s. at-depth (r .sampler d i t m s) (never (λ e. omega arith) (never (λ e. omega arith) (never (λ e. omega arith) (never (λ e. omega arith) (done-never (λ e. omega arith))))));
+      sample-checker = λ i root s. at-depth (r .sample-checker d i root s) (never (λ e. omega arith) (never (λ e. omega arith) (never (λ e. omega arith) (done-never (λ e. omega arith)))));
+      proof-checker = λ root table b. at-depth (demand-1 .proof-checker d root table b) (never (λ e. omega arith) (never (λ e. omega arith) (never (λ e. omega arith) (never (λ e. omega arith) (never (λ e. omega arith) (never (λ e. omega arith) (never (λ e. omega arith) (done-never (λ e. omega arith)))))))));
+      repairer = λ root table t m o. at-depth (r .repairer d root table t m o) (never (λ e. omega arith) (never (λ e. omega arith) (never (λ e. omega arith) (never (λ e. omega arith) (done-never (λ e. omega arith))))));
     }
 
 -- so every call stops at a depth that is none of these
@@ -104,8 +87,7 @@ has d n f p =
         λ e. let c = coding d (bytesOf (houseWords d)) b t m root e in (c .tree-full ∙ ap (λ (x : ℕ). 256 * x) p, c .marks-full ∙ p, c .root-full),
         λ s.
             written-when d (bytesOf (houseWords d)) b t m root (record {
-              fit-depth = f;
-              whole-table = house-bytes-accepted d f;
+              taken = house-taken d f;
               block-full = l;
               tree-full = s .0 ∙ ap (λ (x : ℕ). 256 * x) (sym p);
               marks-full = s .1 ∙ sym p;
@@ -133,8 +115,8 @@ longest =
           let a = accepted-is tree (symbolHash Plain) root tbl b (p .accepts) in
           let j : ℕ = proofLayer b in
           let ms : List ℕ = equationOf tbl j (proofEquation b) in
-          let deep : length tbl ≡ 5 = accepted-table 5 (wordsOf table) (p .admits .accepted) .depth in
-          let few : length ms ≤ 8 = table-laws-of 5 table (p .admits .accepted) .few-members j (proofEquation b) (a .named .layer-ok) (a .named .equation-ok) in
+          let deep : length tbl ≡ 5 = accepted-table 5 (wordsOf table) (p .admits .taken .accepted) .depth in
+          let few : length ms ≤ 8 = table-laws-of 5 table (p .admits .taken .accepted) .few-members j (proofEquation b) (a .named .layer-ok) (a .named .equation-ok) in
           omega (arith, a .exact, longer j (length ms) (omega (arith, deep, a .named .layer-ok)) few);
     }
 

@@ -11,13 +11,11 @@ use borrow.Author.Tests.{eq-eqb}
 use Rattle.octets.proofs.Choice.{yes-and}
 use Rattle.parity_table.specs.Shape.{depthFits, kOf, nOf}
 use Rattle.parity_table.specs.Table.{TableOk}
-use Rattle.table_bytes.specs.Bytes.{wordsOf, readBytesOf}
-use Rattle.parity_table.specs.declared.Answer.the-variants.{Whole}
+use Rattle.table_bytes.specs.Bytes.{wordsOf}
 use Rattle.sha256.specs.Hash.{sha256}
 use Rattle.parity_table.proofs.Shape.{depth-is}
 use Rattle.parity_table.proofs.Accepts.{accepted-formed, accepted-depth, accepted-table}
 use Rattle.parity_table.proofs.Parse.{formed-words}
-use Rattle.table_bytes.proofs.ByteForm.{bytes-accepted}
 use Rattle.symbol_hash.specs.SymbolHash.{symbolHash}
 use Rattle.symbol_hash.specs.declared.Kind.the-variants.{Plain}
 use Rattle.symbol_hash.proofs.Laws.{length-symbolHash}
@@ -49,7 +47,7 @@ use Rattle.sample_calls.specs.Checking.{checkTested, led, sampleChecked}
 use Rattle.sample_calls.specs.Taking.{SampleLeft, needed, sampleTaken}
 use Rattle.calls.specs.Tests.{_then_, opened, testMarks}
 use Rattle.calls.proofs.TestLaws.{then-done}
-use Rattle.calls.proofs.AdmissionLaws.{admission, admits}
+use Rattle.calls.proofs.AdmissionLaws.{TableTaken, admission, admits}
 use Rattle.volume_calls.proofs.WritingLaws.{answer-is as write-answer, tests-passed as write-passed, when-done as write-done, sizes as write-sizes}
 use Rattle.volume_calls.proofs.ReadingLaws.{base-room, base-passed, passed as read-passed, sizes as read-sizes, tests-passed as read-tests, when-done as read-left, done-when as read-when}
 use Rattle.sample_calls.proofs.CheckingLaws.{passed as check-passed, sizes as check-sizes, at-end}
@@ -66,24 +64,23 @@ use Rattle.guarantees.proofs.Tables.{rules-ok, ok-rules, listed-words}
 use Rattle.guarantees.proofs.Trees.{symbols-are, right-coded, agrees-with, with-agrees, block-base, base-block, twins-of}
 use Rattle.guarantees.proofs.Refusals.{depth-fits, size-tests, sampled-layer, sampled-number, leads-so, so-leads}
 
--- ---- a table that was read whole
+-- ---- a table that was taken
 
-module _ (depth : ℕ) (table : List ℕ) (w : readBytesOf depth table ≡ Whole) where
+module _ (depth : ℕ) (table : List ℕ) (k : TableTaken depth table) where
   pub rules : TableOk depth (equationsOf table)
-  rules = accepted-table depth (wordsOf table) (bytes-accepted depth table w)
+  rules = accepted-table depth (wordsOf table) (k .accepted)
 
   -- its words are those of its equations
   pub words-listed : wordsOf table ≡ listed (equationsOf table)
   words-listed =
-      let r = bytes-accepted depth table w in
+      let r = k .accepted in
       formed-words depth (wordsOf table) (accepted-formed depth (wordsOf table) r .1) (accepted-depth depth (wordsOf table) r .1) ∙ sym (listed-words (equationsOf table))
 
 -- ---- writing
 
 -- the tests that a tree that was written has passed
 pub record WriterInput (depth : ℕ) (table block t m root : List ℕ) : Type 0 where
-  pub fit-depth : depthFits depth ≡ true
-  pub whole-table : readBytesOf depth table ≡ Whole
+  pub taken : TableTaken depth table
   pub block-full : length block ≡ 256 * kOf (depth - 1)
   pub tree-full : length t ≡ 256 * places tree depth
   pub marks-full : length m ≡ places tree depth
@@ -93,14 +90,14 @@ pub coding : (d : ℕ) (table block t m root : List ℕ) → treeWritten d table
 coding d table block t m root e =
     let a = admission d (writeSized d (length block) (length t) (length m) (length root)) table (write-passed d table block t m root e) in
     let (b, v, w, r) = write-sizes d (length block) (length t) (length m) (length root) (a .lengths) in
-    record { fit-depth = a .deep; whole-table = a .whole; block-full = b; tree-full = v; marks-full = w; root-full = r }
+    record { taken = a .taken; block-full = b; tree-full = v; marks-full = w; root-full = r }
 
 pub written-when : (d : ℕ) (table block t m root : List ℕ) → WriterInput d table block t m root → treeWritten d table block t m root .answer ≡ Done
 written-when d table block t m root k =
     write-answer d table block t m root
-    ∙ sym (admits d (writeSized d (length block) (length t) (length m) (length root)) table (k .fit-depth)
+    ∙ sym (admits d (writeSized d (length block) (length t) (length m) (length root)) table (k .taken)
     (yes-and (yes-and (eq-eqb (length t) (256 * places tree d) (k .tree-full)) (eq-eqb (length m) (places tree d) (k .marks-full)))
-    (yes-and (eq-eqb (length block) (256 * kOf (d - 1)) (k .block-full)) (eq-eqb (length root) 512 (k .root-full)))) (k .whole-table))
+    (yes-and (eq-eqb (length block) (256 * kOf (d - 1)) (k .block-full)) (eq-eqb (length root) 512 (k .root-full)))))
 
 module _ (depth : ℕ) (table block : List ℕ) where
   abbrev tbl : List (List (List ℕ))
@@ -126,10 +123,10 @@ module _ (depth : ℕ) (table block : List ℕ) where
     root-left = ap (λ (w : TreeLeft Answer). w .root) left
 
     deep : length tbl ≡ depth
-    deep = rules depth table (c .whole-table) .depth
+    deep = rules depth table (c .taken) .depth
 
     pub fits : TableFits tree tbl
-    fits = table-fits depth tbl (depth-is depth (c .fit-depth) .0) (rules depth table (c .whole-table))
+    fits = table-fits depth tbl (depth-is depth (c .taken .deep) .0) (rules depth table (c .taken))
 
     pub block-length : length block ≡ 256 * kOf (length tbl - 1)
     block-length = c .block-full ∙ ap (λ (d : ℕ). 256 * kOf (d - 1)) (sym deep)
@@ -147,7 +144,7 @@ module _ (depth : ℕ) (table block : List ℕ) where
     back = ap (λ (d : ℕ). blockOf tree d new) (sym deep) ∙ so .block-back
 
     ok : TableOk depth tbl
-    ok = rules depth table (c .whole-table)
+    ok = rules depth table (c .taken)
 
     agrees-so : AgreesWith depth tbl (writtenRoot tree (symbolHash Plain) new) (symbolAt new)
     agrees-so = rw (symbols-are new) (agrees-with depth tbl ok (writtenRoot tree (symbolHash Plain) new) (symAt tree new) (so .agrees))
@@ -167,14 +164,14 @@ module _ (depth : ℕ) (table block : List ℕ) where
     root-so f k b =
         record {
           full = agrees-so .root-of .full;
-          hashes = λ i h. agrees-so .root-of .hashes i h ∙ ap sha256 (only-so f k b 0 i (depth-is depth (c .fit-depth) .0) (omega arith));
+          hashes = λ i h. agrees-so .root-of .hashes i h ∙ ap sha256 (only-so f k b 0 i (depth-is depth (c .taken .deep) .0) (omega arith));
         }
 
     exactly : Exactly depth table block t m root
     exactly =
         record {
           by-rules = ok-rules depth tbl ok;
-          table-words = words-listed depth table (c .whole-table);
+          table-words = words-listed depth table (c .taken);
           agrees = rw (tree-left, root-left) agrees-so;
           has-block = rw tree-left block-so;
           only = rw tree-left only-so;
@@ -267,7 +264,7 @@ reads-written depth table block t m root b e l =
     let done : blockRead depth (new depth table block t m root e) (writtenMarks tree depth) b .answer ≡ Done =
     complete-read depth (new depth table block t m root e) (writtenMarks tree depth)
     (record {
-      depth-right = depth-is depth (c depth table block t m root e .fit-depth);
+      depth-right = depth-is depth (c depth table block t m root e .taken .deep);
       lengths = rw (tl, ml) at (x .lengths);
       all-held = rw ml at (x .marked);
     })

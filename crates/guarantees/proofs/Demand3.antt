@@ -12,11 +12,10 @@ use Rattle.octets.specs.Choice.{pick}
 use Rattle.octets.specs.ByteLists.{same}
 use Rattle.octets.proofs.Choice.{by-test, and-yes, yes-and, both, not-yes}
 use Rattle.sha256.specs.Hash.{sha256}
-use Rattle.parity_table.specs.Shape.{depthFits, kOf, nOf}
+use Rattle.parity_table.specs.Shape.{kOf, nOf}
 use Rattle.parity_table.specs.Members.{every, lastOf}
 use Rattle.parity_table.specs.Table.{layerOf, equationOf, TableOk}
-use Rattle.table_bytes.specs.Bytes.{wordsOf, readBytesOf}
-use Rattle.parity_table.specs.declared.Answer.the-variants.{Whole}
+use Rattle.table_bytes.specs.Bytes.{wordsOf}
 use Rattle.parity_table.proofs.Shape.{depth-is}
 use Rattle.parity_table.proofs.Accepts.{accepted-depth}
 use Rattle.parity_table.proofs.Rules.{members-below}
@@ -29,7 +28,7 @@ use Rattle.model.specs.Ends as model
 use Rattle.model.specs.Ends.{Stopping, tally, gapAt, filledIn, filled, Passed, Peels, Taken, WholeEnd, FaultEnd, UnavailableEnd, TwinsEnd, EndOk, Ended}
 use Rattle.model.proofs.Bytes.{yes-same, no-same}
 use Rattle.model.proofs.Members.{every-below}
-use Rattle.model.proofs.Counts.{isIt, firstOf-passes, every-others, ascending-once, none-absent, others-held, last-member, first-member}
+use Rattle.model.proofs.Counts.{isIt, firstOf-passes, every-others, ascending-once, none-absent, others-held, last-member, first-member, counted-member}
 use Rattle.model.proofs.Shapes.{place-lt}
 use Rattle.model.proofs.Flat.{symAt-length}
 use Rattle.calls.specs.declared.Answer.{Answer}
@@ -48,7 +47,8 @@ use Rattle.guarantees.specs.Trees.{members, EquationHolds}
 use Rattle.guarantees.specs.Terms.{equationsOf}
 use Rattle.guarantees.specs.Demand3.{howMany, meets, inLayers, NotTaken, Peeled, none-stored, stores, Gap, Tells, Took, LastOfFailing, Checker, AsTheSteps, EveryEnd, EndsWhole, EndsFault, EndsUnavailable, EndsTwins, Repair, Demand3}
 use Rattle.guarantees.proofs.Layouts.{tree-symbols, symbol-at, mark-at, hash-for, xor-one, xor-of}
-use Rattle.guarantees.proofs.Membership.{every-member-of, counted-member, member-other, two-passing, member-apart, last-apart, others-apart}
+use Rattle.calls.proofs.AdmissionLaws.{TableTaken}
+use Rattle.guarantees.proofs.Membership.{every-member-of, member-other, two-passing, member-apart, last-apart, others-apart}
 use Rattle.guarantees.proofs.Marks.{held-marked, all-right}
 use Rattle.guarantees.proofs.Tables.{ok-rules}
 use Rattle.guarantees.proofs.Trees.{symbols-are, agrees-with, with-agrees, twins-of}
@@ -63,11 +63,11 @@ unfolding kOf nOf
 checker depth root table f agr b e =
     let tbl : List (List (List ℕ)) = equationsOf table in
     let p = passed depth root table b e in
-    let ok = rules depth table (p .admits .whole) in
+    let ok = rules depth table (p .admits .taken) in
     let x = checker-sound depth root table b e f (with-agrees depth tbl ok root f agr) in
     let y = x .collision in
     let n = fault-proofs .accepts-just-when depth root table b .0 e .named in
-    let shallow = accepted-depth depth (wordsOf table) (p .admits .accepted) .1 in
+    let shallow = accepted-depth depth (wordsOf table) (p .admits .taken .accepted) .1 in
     let hj : y .layer < depth = omega (arith, y .inside .0, ok .depth) in
     record {
       named = n;
@@ -89,8 +89,7 @@ marks-tested d root table t m o e =
 
 -- depth, lengths and table are right, and every mark is 0 or 1
 record RepairInput (depth : ℕ) (root table t m o : List ℕ) : Type 0 where
-  fit-depth : depthFits depth ≡ true
-  whole-table : readBytesOf depth table ≡ Whole
+  taken : TableTaken depth table
   marks-right : (p : ℕ) → p < places tree depth → getD m p 0 ≤ 1
 
 module _ (d : ℕ) (root table t m o : List ℕ) where
@@ -98,8 +97,7 @@ module _ (d : ℕ) (root table t m o : List ℕ) where
   input-of e =
       let k = formed d root table t m o e in
       record {
-        fit-depth = k .admits .deep;
-        whole-table = k .admits .whole;
+        taken = k .admits .taken;
         marks-right = λ p h. all-right m (marks-tested d root table t m o e) p (omega (arith, k .marks-full));
       }
 
@@ -172,7 +170,7 @@ module _ (depth : ℕ) (root table t m o : List ℕ) (e : repairTested depth roo
   input = input-of depth root table t m o e
 
   ok : TableOk depth tbl
-  ok = rules depth table (input .whole-table)
+  ok = rules depth table (input .taken)
 
   abbrev absent : ℕ → ℕ → Bool
   absent = absentAt tree (st .marks)
@@ -375,7 +373,7 @@ module _ (depth : ℕ) (root table t m o : List ℕ) (e : repairTested depth roo
   -- ---- the ends
 
   shallow : depth ≤ 5
-  shallow = depth-is depth (input .fit-depth) .1
+  shallow = depth-is depth (input .taken .deep) .1
 
   ends-whole : st .end ≡ whole → WholeEnd tree (symbolHash Plain) root tbl t m o st → EndsWhole depth root table t m o
   unfolding kOf nOf

@@ -14,12 +14,13 @@ use Rattle.octets.proofs.Choice.{by-test, pick-no, pick-ind, yes-and, both, not
 use Rattle.sha256.specs.Hash.{sha256}
 use Rattle.parity_table.specs.Shape.{depthFits}
 use Rattle.parity_table.specs.Table.{layerOf, equationOf, TableOk, WellFormed}
-use Rattle.table_bytes.specs.Bytes.{wordsOf, readBytesOf}
+use Rattle.table_bytes.specs.Bytes.{wordsOf}
+use Rattle.parity_table.specs.Reader.{readOf}
 use Rattle.parity_table.specs.declared.Answer.the-variants.{Whole}
 use Rattle.parity_table.proofs.Shape.{depth-is}
-use Rattle.parity_table.proofs.Accepts.{accepted-formed, formed-accepted}
+use Rattle.parity_table.proofs.Accepts.{accepted-formed, formed-accepted, accepted-table}
+use Rattle.coverage.proofs.Right.{covered-found, found-covered}
 use Rattle.parity_table.proofs.Parse.{formed-rules}
-use Rattle.table_bytes.proofs.ByteForm.{bytes-words}
 use Rattle.symbol_hash.specs.SymbolHash.{symbolHash}
 use Rattle.symbol_hash.specs.declared.Kind.the-variants.{Plain}
 use Rattle.model.specs.Shape.{tree}
@@ -32,18 +33,19 @@ use Rattle.calls.specs.declared.Stop.{Stop}
 use Rattle.calls.specs.declared.Stop.the-variants.{Length, Head, Hash, NoFault}
 use Rattle.calls.specs.declared.Answer.{Answer}
 use Rattle.calls.specs.declared.Answer.the-variants.{Done, Stopped}
-use Rattle.calls.specs.Stops.{numberOf, valueOf}
+use Rattle.calls.specs.Stops.{numberOf, valuesOf}
 use Rattle.fault_calls.specs.Checking.{proofSized, judged, proofChecked}
-use Rattle.calls.proofs.AdmissionLaws.{admits}
+use Rattle.calls.proofs.AdmissionLaws.{TableTaken, admits}
 use Rattle.fault_calls.proofs.CheckingLaws.{sizes, judged-so, passed}
 use Rattle.guarantees.specs.Layouts.{bytesFrom, hashFor, XorOf}
 use Rattle.guarantees.specs.Refusals.{TableLength}
-use Rattle.guarantees.specs.Answers.{Answered, done, test, unless, JustWhen}
+use Rattle.guarantees.specs.Answers.{Answered, done, test, unless, Just}
 use Rattle.guarantees.specs.Terms.{equationsOf}
 use Rattle.guarantees.specs.FaultProofs.{givenSymbol, Named, given, Exact, path, AllLead, Fits, ProofLengths, ProofRight, AcceptsProofJustWhen, proofTests, ProofCheckerAnswers, Holds, HoldsExactly, HoldsItsSymbols, FaultProofs}
 use Rattle.guarantees.proofs.Answers.{all-done, stops-unless, passes-unless}
-use Rattle.guarantees.proofs.Tables.{rules-ok, right-formed, formed-right}
-use Rattle.guarantees.proofs.Refusals.{depth-fits, Just, table-long, long-table, by-admitted}
+use Rattle.guarantees.specs.Tables.{AllInTwo}
+use Rattle.guarantees.proofs.Tables.{rules-ok, right-formed, formed-right, covered-all, all-covered}
+use Rattle.guarantees.proofs.Refusals.{depth-fits, table-long, long-table, by-admitted}
 use Rattle.guarantees.proofs.Layouts.{xor-one}
 use Rattle.guarantees.proofs.ProofPlaces.{fromMember, given-xor-of, given-held, held-given, given-lead, lead-given, way-leads, leads-way, way-held, held-way, path-leads, leads-path, path-hash, path-held, held-path}
 use Rattle.guarantees.proofs.ProofHeads.{named-fitting, as-named, as-read, length-named, named-ok, ok-named}
@@ -156,10 +158,10 @@ module _ (depth : ℕ) (root table b : List ℕ) where
 
   -- an answer by these tests, which is Done of a right proof only
   record By (tests : Answered) (a : Answer) : Type 0 where
-    just : JustWhen (numberOf a) (valueOf a) tests
+    just : Just a tests
     only : a ≡ Done → ProofRight depth root table b
 
-  stop : (z : Stop) (k : ℕ) (right : Type 0) (later : Answered) → numberOf (Stopped z) ≡ suc k → valueOf (Stopped z) ≡ 0 → (right → ⊥)
+  stop : (z : Stop) (k : ℕ) (right : Type 0) (later : Answered) → numberOf (Stopped z) ≡ suc k → valuesOf (Stopped z) ≡ (0, 0) → (right → ⊥)
       → By (test (suc k) (unless right) later) (Stopped z)
   stop z k right later n v x =
       record { just = rw (n, v) (stops-unless x); only = λ e. absurd (omega (arith, ap numberOf e)) }
@@ -170,7 +172,7 @@ module _ (depth : ℕ) (root table b : List ℕ) where
   abbrev Judged : Answered → Verdict → Type 0
   Judged tests v = By tests (judged v)
 
-  module _ (dr : (1 ≤ depth) × (depth ≤ 5)) (lr : ProofLengths root table b) (f : WellFormed depth ws) where
+  module _ (dr : (1 ≤ depth) × (depth ≤ 5)) (lr : ProofLengths root table b) (f : WellFormed depth ws) (covers : AllInTwo depth tbl) where
     rules : TableOk depth tbl
     rules = formed-rules depth ws f (dr .1)
 
@@ -188,7 +190,7 @@ module _ (depth : ℕ) (root table b : List ℕ) where
           pass Done 8 _ done (h, n)
           (record {
             just = all-done;
-            only = λ e. record { depth-right = dr; lengths-right = lr; table-right = formed-right depth ws f; named = h; exact = exact-of h; all-lead = a; differs = n };
+            only = λ e. record { depth-right = dr; lengths-right = lr; table-right = formed-right depth ws f; table-covered = covers; named = h; exact = exact-of h; all-lead = a; differs = n };
           }))
 
       at-7 : (c : Climb) → proofCheck tree (symbolHash Plain) root tbl b ≡ c → Judged from7 (ruling c (withheldFits tree (symbolHash Plain) root tbl b))
@@ -220,25 +222,27 @@ module _ (depth : ℕ) (root table b : List ℕ) where
   ruled = judged (verdict tree (symbolHash Plain) root tbl b)
 
   -- the lengths of root, proof and table
-  lengths-own : proofSized (length root) (length b) ≡ true → TableLength table → ProofLengths root table b
+  pub lengths-own : proofSized (length root) (length b) ≡ true → TableLength table → ProofLengths root table b
   lengths-own l t =
       let (r, s) = sizes (length root) (length b) l in
       record { root-full = r; table-length = t; head-there = s }
 
-  own-lengths : ProofLengths root table b → (proofSized (length root) (length b) ≡ true) × TableLength table
+  pub own-lengths : ProofLengths root table b → (proofSized (length root) (length b) ≡ true) × TableLength table
   own-lengths lr = (yes-and (eq-eqb (length root) 512 (lr .root-full)) (le-leb 12 (length b) (lr .head-there)), lr .table-length)
 
   checked : Just (proofChecked depth root table b) (proofTests depth root table b)
   unfolding proofChecked
   checked =
       by-admitted depth (ProofLengths root table b) (proofSized (length root) (length b)) table ruled lengths-own own-lengths
-      (λ f lr w. at-6 (depth-is depth f) lr (right-formed depth ws w) .just)
+      (λ f lr w c. at-6 (depth-is depth f) lr (right-formed depth ws w) c .just)
 
   accepted-right : proofChecked depth root table b ≡ Done → ProofRight depth root table b
   accepted-right e =
       let p = passed depth root table b e in
       let k = p .admits in
-      at-6 (depth-is depth (k .deep)) (lengths-own (k .lengths) (table-long table (k .length-fits))) (accepted-formed depth ws (k .accepted) .1) .only
+      let t = k .taken in
+      at-6 (depth-is depth (t .deep)) (lengths-own (k .lengths) (table-long table (t .length-fits))) (accepted-formed depth ws (t .accepted) .1)
+      (covered-all depth tbl (found-covered depth tbl (accepted-table depth ws (t .accepted)) (t .covered))) .only
       (ap judged (p .accepts))
 
   -- a right proof is accepted
@@ -247,13 +251,18 @@ module _ (depth : ℕ) (root table b : List ℕ) where
   right-done r =
       let t : depthFits depth ≡ true = depth-fits depth (r .depth-right) in
       let lr = r .lengths-right in
-      let whole : readBytesOf depth table ≡ Whole =
-      sym (bytes-words depth table t (long-table table (lr .table-length))) ∙ formed-accepted depth ws t (right-formed depth ws (r .table-right)) in
+      let whole : readOf depth ws ≡ Whole = formed-accepted depth ws t (right-formed depth ws (r .table-right)) in
       let o : TableOk depth tbl = formed-rules depth ws (right-formed depth ws (r .table-right)) (r .depth-right .1) in
       let h = r .named in
       let unfit : withheldFits tree (symbolHash Plain) root tbl b ≡ false =
       by-test (withheldFits tree (symbolHash Plain) root tbl b) (λ u. absurd (r .differs (fits-named depth tbl b (r .depth-right .1) o h root (r .exact) u))) (λ u. u) in
-      sym (judged-so depth root table b (admits depth (proofSized (length root) (length b)) table t (own-lengths lr .0) whole))
+      let k : TableTaken depth table = record {
+        deep = t;
+        length-fits = long-table table (lr .table-length);
+        accepted = whole;
+        covered = covered-found depth tbl o (all-covered depth tbl (r .table-covered));
+      } in
+      sym (judged-so depth root table b (admits depth (proofSized (length root) (length b)) table k (own-lengths lr .0)))
       ∙ ap judged
       (pick-no _ _ _ (ap not (named-ok depth tbl b (r .depth-right .1) o h))
       ∙ pick-no _ _ _ (ap not (eq-eqb (length b) _ (r .exact ∙ sym (length-named depth tbl b (r .depth-right .1) o h))))

@@ -18,3 +18,4 @@ pub mod Demand3
 pub mod RepairCases
 pub mod LongestProof
 pub mod Cases
+pub mod Change1

@@ -4,7 +4,7 @@ use mathlib.Core.Path.{_≡_, refl, sym, ap, ap₂, _∙_, subst}
 use mathlib.Core.Logic.{_≢_}
 use mathlib.Core.Bool.{true}
 use mathlib.Core.List.{List, [], _∷_, _++_}
-use Prim.Native.Nat.{ℕ, zero, suc, _+_, _-_, _*_, _/_, _%_, _^_, _<_}
+use Prim.Native.Nat.{ℕ, zero, suc, _+_, _-_, _*_, _/_, _%_, _^_, _≤_, _<_}
 use native.Mathlib.Nat.{zero-add, mod-lt}
 use native.Mathlib.Omega.{arith}
 use native.Mathlib.Decide.{ℕ-discrete}
@@ -19,13 +19,14 @@ use Rattle.octets.proofs.Choice.{yes-and}
 use Rattle.sha256.specs.Hash.{sha256}
 use Rattle.sha256.proofs.DigestLaws.{length-sha256}
 use Rattle.parity_table.specs.Shape.{depthFits, kOf, nOf}
-use Rattle.parity_table.specs.Members.{every, ascending, lastOf}
+use Rattle.parity_table.specs.Members.{every, ascending, lastOf, IsMember}
 use Rattle.parity_table.specs.Table.{word, layerOf, equationOf, EquationOk, TableOk, equationsWords, layersWords, tableWords}
-use Rattle.table_bytes.specs.Bytes.{readBytesOf}
+use Rattle.parity_table.specs.Coverage.{Mentions, Covered}
+use Rattle.parity_table.proofs.Shape.{k-pos}
 use Rattle.house_table.specs.House.{houseEquation, houseEquations, houseLayers, houseTable}
-use Rattle.parity_table.specs.declared.Answer.the-variants.{Whole}
 use Rattle.house_table.proofs.HouseRules.{house-rules}
-use Rattle.table_bytes.proofs.RoundTrip.{every-append, table-bytes-accepted, table-bytes-say}
+use Rattle.house_table.proofs.HouseCovered.{house-mentions}
+use Rattle.table_bytes.proofs.RoundTrip.{every-append, table-bytes-say}
 use Rattle.symbol_hash.specs.SymbolHash.{symbolHash}
 use Rattle.symbol_hash.specs.declared.Kind.the-variants.{Plain}
 use Rattle.model.specs.Shape.{tree}
@@ -39,7 +40,7 @@ use Rattle.model.proofs.FaultWriter.{GoodProof, proof-good}
 use Rattle.model.proofs.Sound.{accepted-is}
 use Rattle.calls.specs.declared.Answer.the-variants.{Done}
 use Rattle.fault_calls.specs.Checking.{proofSized, judged, proofChecked}
-use Rattle.calls.proofs.AdmissionLaws.{admits}
+use Rattle.calls.proofs.AdmissionLaws.{TableTaken, admits, taken-table}
 use Rattle.fault_calls.proofs.CheckingLaws.{judged-so}
 use Rattle.guarantees.specs.Terms.{equationsOf}
 use Rattle.guarantees.specs.Cases.{AreBytes, AcceptedOf}
@@ -67,15 +68,29 @@ module _ (d : ℕ) (tbl : List (List (List ℕ))) (ok : TableOk d tbl) (j e : �
   equation-here =
       ap (λ (es : List (List ℕ)). getD es e []) layer-here ∙ getD-set-same (layerOf tbl j) e ms [] (omega (arith, ok .equations j hj))
 
-  -- the equations of layer j
-  rules-here : (i : ℕ) → i < 3 * kOf j → EquationOk j i (equationOf new j i)
+  -- any other equation is what it was
+  equation-there : (l i : ℕ) → (l ≡ j → i ≢ e) → equationOf new l i ≡ equationOf tbl l i
   unfolding equationOf
-  rules-here i h =
-      elim (ℕ-discrete i e) [
-        | yes q ↦ subst (λ (x : ℕ). EquationOk j x (equationOf new j x)) (sym q) (subst (EquationOk j e) (sym equation-here) one)
-        | no q ↦
-            subst (EquationOk j i) (sym (ap (λ (es : List (List ℕ)). getD es i []) layer-here ∙ getD-set-other (layerOf tbl j) e i ms [] q))
-            (ok .members j i hj h)
+  equation-there l i n =
+      elim (ℕ-discrete l j) [
+        | yes q ↦
+            ap (λ (es : List (List ℕ)). getD es i []) (ap (layerOf new) q ∙ layer-here)
+            ∙ getD-set-other (layerOf tbl j) e i ms [] (n q)
+            ∙ ap (λ (x : ℕ). getD (layerOf tbl x) i []) (sym q)
+        | no q ↦ ap (λ (es : List (List ℕ)). getD es i []) (layer-there l q)
+      ]
+
+  rules-there : (l i : ℕ) → l < d → i < 3 * kOf l → EquationOk l i (equationOf new l i)
+  rules-there l i hl hi =
+      let other : (l ≡ j → i ≢ e) → EquationOk l i (equationOf new l i) =
+      λ n. subst (EquationOk l i) (sym (equation-there l i n)) (ok .members l i hl hi) in
+      elim (ℕ-discrete l j) [
+        | yes p ↦ elim (ℕ-discrete i e) [
+          | yes q ↦ subst (λ (x : ℕ). EquationOk x i (equationOf new x i)) (sym p)
+              (subst (λ (x : ℕ). EquationOk j x (equationOf new j x)) (sym q) (subst (EquationOk j e) (sym equation-here) one))
+          | no q ↦ other (λ x. q)
+        ]
+        | no p ↦ other (λ x. absurd (p x))
       ]
 
   changed-rules : TableOk d new
@@ -89,10 +104,7 @@ module _ (d : ℕ) (tbl : List (List (List ℕ))) (ok : TableOk d tbl) (j e : �
               (ap length layer-here ∙ length-set (layerOf tbl j) e ms ∙ ok .equations j hj)
           | no q ↦ ap length (layer-there l q) ∙ ok .equations l h
         ];
-        members = λ l i h k. elim (ℕ-discrete l j) [
-          | yes q ↦ subst (λ (x : ℕ). i < 3 * kOf x → EquationOk x i (equationOf new x i)) (sym q) (rules-here i) k
-          | no q ↦ subst (EquationOk l i) (sym (ap (λ (es : List (List ℕ)). getD es i []) (layer-there l q))) (ok .members l i h k)
-        ];
+        members = rules-there;
       }
 
 -- ---- the table of the proof: the house table, but with eight members in equation 0 of the base
@@ -123,9 +135,29 @@ wide-words = refl
 table : List ℕ
 table = bytesOf (tableWords wide)
 
-whole : readBytesOf 5 table ≡ Whole
+-- data symbol i is in the equations k+i and 2k+i, as in the house table
+wide-covered : Covered 5 wide
+unfolding wide
+wide-covered j i hj hi =
+    let k = k-pos j in
+    let mentions : (c : ℕ) → 1 ≤ c * kOf j → c < 3 → Mentions (changed (houseTable 5) 4 0 eight) j (c * kOf j + i) i =
+    λ c some few.
+    subst (IsMember i)
+    (sym (equation-there 5 (houseTable 5) (house-rules 5) 4 0 eight (omega arith) (omega (arith, k-pos 4)) eight-ok j (c * kOf j + i) (λ q n. omega arith)))
+    (house-mentions 5 j i c hj hi few) in
+    record {
+      one = 1 * kOf j + i;
+      other = 2 * kOf j + i;
+      different = λ e. omega arith;
+      one-there = omega arith;
+      other-there = omega arith;
+      in-one = mentions 1 (omega arith) (omega arith);
+      in-other = mentions 2 (omega arith) (omega arith);
+    }
+
+taken : TableTaken 5 table
 unfolding table depthFits
-whole = table-bytes-accepted 5 wide wide-rules refl (omega (arith, wide-words))
+taken = taken-table 5 wide refl wide-rules wide-covered (omega (arith, wide-words))
 
 says : equationsOf table ≡ wide
 unfolding table depthFits
@@ -248,8 +280,8 @@ checked : proofChecked 5 root table proof ≡ Done
 unfolding depthFits
 checked =
     sym (judged-so 5 root table proof
-    (admits 5 (proofSized (length root) (length proof)) table refl
-    (yes-and (eq-eqb (length root) 512 root-length) (le-leb 12 (length proof) (omega (arith, proof-length)))) whole))
+    (admits 5 (proofSized (length root) (length proof)) table taken
+    (yes-and (eq-eqb (length root) 512 root-length) (le-leb 12 (length proof) (omega (arith, proof-length))))))
     ∙ ap (λ (tbl : List (List (List ℕ))). judged (verdict tree (symbolHash Plain) root tbl proof)) says
     ∙ ap judged (good .accepts)
 

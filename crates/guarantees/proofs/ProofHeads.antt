@@ -16,14 +16,14 @@ use Rattle.parity_table.specs.Table.{layerOf, equationOf, TableOk}
 use Rattle.model.specs.Shape.{tree}
 use Rattle.model.specs.Symbols.{others, count}
 use Rattle.model.specs.Fault.{kindAt, valueAt, proofLayer, proofEquation, proofWithheld, proofLength, proofMembers, proofGiven, layerOk, equationOk, memberOk, headOk}
-use Rattle.model.proofs.Counts.{isIt, ascending-once, every-member, every-others}
+use Rattle.model.proofs.Counts.{isIt, ascending-once, every-member, every-others, counted-member}
 use Rattle.model.proofs.Tables.{TableLaws, table-laws}
 use Rattle.model.proofs.Sound.{head-names}
 use Rattle.guarantees.specs.Layouts.{dataSymbols, wordNo, kindValue}
 use Rattle.guarantees.specs.Trees.{members}
 use Rattle.guarantees.specs.FaultProofs.{Named, given}
 use Rattle.guarantees.proofs.Layouts.{word-at, data-symbols}
-use Rattle.guarantees.proofs.Membership.{counted-member, member-apart, count-apart, others-apart}
+use Rattle.guarantees.proofs.Membership.{member-apart, count-apart, others-apart}
 
 -- ---- words of the head
 

@@ -19,7 +19,14 @@ use Rattle.parity_table.specs.declared.Answer.{Answer as Read}
 use Rattle.parity_table.specs.declared.Answer.the-variants as read
 use Rattle.parity_table.specs.Right.{Right}
 use Rattle.parity_table.specs.Reader.{readOf}
-use Rattle.table_bytes.specs.Bytes.{lengthFits, wordsOf, readBytesOf}
+use Rattle.table_bytes.specs.Bytes.{lengthFits, wordsOf}
+use Rattle.parity_table.specs.Table.{TableOk}
+use Rattle.parity_table.specs.Parse.{tableOf}
+use Rattle.parity_table.proofs.Parse.{formed-rules}
+use Rattle.coverage.specs.declared.Coverage.{Coverage}
+use Rattle.coverage.specs.declared.Coverage.the-variants as coverage
+use Rattle.coverage.specs.Coverage.{coverageOf, Right as Covers}
+use Rattle.coverage.proofs.Right.{coverage-right, not-covered, first-unique as thin-unique}
 use Rattle.house_table.specs.House.{houseWords, houseAnswer}
 use Rattle.parity_table.proofs.Shape.{depth-is}
 use Rattle.parity_table.proofs.Accepts.{read-right, read-depth, first-unique}
@@ -40,13 +47,13 @@ use Rattle.sampling.specs.Absent.{absent, foundBelow, firstAbsent}
 use Rattle.sampling.specs.Lent.{BaseSymbol}
 use Rattle.sampling.proofs.SymbolLaws.{sample-place-lt}
 use Rattle.calls.specs.declared.Stop.{Stop}
-use Rattle.calls.specs.declared.Stop.the-variants.{Depth, Length, Table, Mark, Number, Head, Hash, NoFault, Absent}
+use Rattle.calls.specs.declared.Stop.the-variants.{Depth, Length, Table, Mark, Number, Head, Hash, NoFault, Absent, Uncovered}
 use Rattle.calls.specs.declared.Answer.{Answer}
 use Rattle.calls.specs.declared.Answer.the-variants.{Done, Stopped}
-use Rattle.calls.specs.Stops.{numberOf, valueOf}
+use Rattle.calls.specs.Stops.{numberOf, valuesOf}
 use Rattle.calls.specs.Marks.{isBad}
 use Rattle.calls.specs.Lengths.{treeSized, blockSized, rootSized, sampleSized}
-use Rattle.calls.specs.Tests.{_then_, testDepth, testLengths, readAnswer, testMarks, testNumber, opened, admitted}
+use Rattle.calls.specs.Tests.{_then_, testDepth, testLengths, readAnswer, coverAnswer, testMarks, testNumber, opened, wordsTested, admitted}
 use Rattle.volume_calls.specs.Reading.{readSized, testBase, blockRead}
 use Rattle.volume_calls.specs.Writing.{writeSized, treeWritten}
 use Rattle.sample_calls.specs.Checking.{checkSized, led, sampleChecked}
@@ -57,13 +64,14 @@ use Rattle.volume_calls.proofs.ReadingLaws.{answer-is as block-answer}
 use Rattle.sample_calls.proofs.TakingLaws.{answer-is as sample-answer}
 use Rattle.cedunmi_c.specs.Result.{hashAnswer}
 use Rattle.guarantees.specs.Layouts.{bytesFrom, dataSymbols, treeSymbols, markAt, sampledLayer, sampledNumber}
-use Rattle.guarantees.specs.Tables.{TableRight, FirstWrongWord}
-use Rattle.guarantees.specs.Answers.{done, test, unless, JustWhen}
-use Rattle.guarantees.specs.Refusals.{LowestOf, DepthRight, TableLength, TreeLengths, BlockLength, RootLength, SampleLength, BadMark, AbsentSampled, InBase, dataOfSample, AllHashesLead, hashTests, wordsTests, tableTests, houseTests, WriterLengths, writerTests, blockTests, samplerTests, sampleTests, RepairLengths, repairTests, Refusals}
-use Rattle.guarantees.proofs.Answers.{all-done, stops-here, passes-here, stops-unless, passes-unless}
+use Rattle.guarantees.specs.Tables.{TableRight, FirstWrongWord, AllInTwo, FirstNotInTwo}
+use Rattle.guarantees.specs.Answers.{done, test, unless, one, two, Just}
+use Rattle.guarantees.specs.Terms.{equationsOf}
+use Rattle.guarantees.specs.Refusals.{LowestOf, DepthRight, TableLength, TreeLengths, BlockLength, RootLength, SampleLength, BadMark, AbsentSampled, InBase, dataOfSample, AllHashesLead, hashTests, takesWords, takesTable, wordsTests, tableTests, houseTests, WriterLengths, writerTests, blockTests, samplerTests, sampleTests, RepairLengths, repairTests, Refusals}
+use Rattle.guarantees.proofs.Answers.{all-done, stops-unless, stops-one, stops-two, passes-unless, passes-one, passes-two}
 use Rattle.guarantees.proofs.Layouts.{tree-symbols, mark-at, hash-for}
 use Rattle.guarantees.proofs.Marks.{all-right}
-use Rattle.guarantees.proofs.Tables.{first-wrong, wrong-first, formed-right}
+use Rattle.guarantees.proofs.Tables.{first-wrong, wrong-first, right-formed, formed-right, covered-all, all-covered, first-not, not-first}
 
 -- ---- depth and table
 
@@ -79,9 +87,6 @@ depth-wrong d f r = true≢false (sym (depth-fits d r) ∙ f)
 
 -- ---- one test after another
 
-abbrev pub Just : Answer → (ℕ → ℕ → Type 0) → Type 0
-Just a tests = JustWhen (numberOf a) (valueOf a) tests
-
 pub then-assoc : (a b c : Answer) → ((a then b) then c) ≡ (a then b then c)
 then-assoc Done b c = refl
 then-assoc (Stopped s) b c = refl
@@ -91,14 +96,14 @@ then-none Done = refl
 then-none (Stopped s) = refl
 
 -- a test without a value, by a test that says whether it is right
-by-right : (k : ℕ) {later : ℕ → ℕ → Type 0} (R : Type 0) (b : Bool) (w : Stop) (a : Answer) → numberOf (Stopped w) ≡ k → valueOf (Stopped w) ≡ 0
+by-right : (k : ℕ) {later : ℕ → ℕ × ℕ → Type 0} (R : Type 0) (b : Bool) (w : Stop) (a : Answer) → numberOf (Stopped w) ≡ k → valuesOf (Stopped w) ≡ (0, 0)
     → (b ≡ true → R) → (R → b ≡ true) → (R → Just a later) → Just (pick b Done (Stopped w) then a) (test k (unless R) later)
 by-right k {later} R b w a p q said seen j =
     pick-ind (λ (z : Answer). Just (z then a) (test k (unless R) later)) b (λ t. passes-unless (said t) (j (said t)))
     (λ t. rw (p, q) (stops-unless (λ r. true≢false (sym (seen r) ∙ t))))
 
 -- tests 1 and 2, R being what the lengths are to be
-pub by-opened : (d : ℕ) {later : ℕ → ℕ → Type 0} (R : Type 0) (sized : Bool) (a : Answer) → (sized ≡ true → R) → (R → sized ≡ true)
+pub by-opened : (d : ℕ) {later : ℕ → ℕ × ℕ → Type 0} (R : Type 0) (sized : Bool) (a : Answer) → (sized ≡ true → R) → (R → sized ≡ true)
     → (depthFits d ≡ true → R → Just a later) → Just (opened d sized then a) (test 1 (unless (DepthRight d)) (test 2 (unless R) later))
 unfolding testDepth testLengths
 by-opened d {later} R sized a said seen j =
@@ -108,7 +113,7 @@ by-opened d {later} R sized a said seen j =
 
 -- the words of a table, at a depth that fits
 module _ (d : ℕ) (f : depthFits d ≡ true) where
-  words-cases : (P : Read → Type 0) (ws : List ℕ) → ((i : ℕ) → FirstWrongWord d ws i → P (read.Wrong i)) → (TableRight d ws → P read.Whole) → P (readOf d ws)
+  pub words-cases : (P : Read → Type 0) (ws : List ℕ) → ((i : ℕ) → FirstWrongWord d ws i → P (read.Wrong i)) → (TableRight d ws → P read.Whole) → P (readOf d ws)
   words-cases P ws wrong whole = go (readOf d ws) (read-right d ws)
     where
       go : (r : Read) → Right d ws r → P r
@@ -117,15 +122,37 @@ module _ (d : ℕ) (f : depthFits d ≡ true) where
       go (read.Wrong i) x = wrong i (first-wrong d ws i (x .1))
       go read.Whole x = whole (formed-right d ws (x .1))
 
--- test 3, of words that are known
-module _ (d : ℕ) (ws : List ℕ) {later : ℕ → ℕ → Type 0} where
-  pub stops-wrong : (i : ℕ) → FirstWrongWord d ws i → JustWhen 3 i (test 3 (FirstWrongWord d ws) later)
-  stops-wrong i w = stops-here i w (λ v x. first-unique d ws v i (wrong-first d ws v x) (wrong-first d ws i w))
+-- the coverage of one that keeps the rules
+pub cover-cases : (d : ℕ) (tbl : List (List (List ℕ))) (P : Coverage → Type 0) → TableOk d tbl → ((j i : ℕ) → FirstNotInTwo d tbl j i → P (coverage.Uncovered j i))
+    → (AllInTwo d tbl → P coverage.Covered) → P (coverageOf d tbl)
+cover-cases d tbl P o thin all = go (coverageOf d tbl) (coverage-right d tbl o)
+  where
+    go : (c : Coverage) → Covers d tbl c → P c
+    go coverage.Covered x = all (covered-all d tbl x)
+    go (coverage.Uncovered j i) x = thin j i (first-not d tbl j i x)
 
-  pub passes-right : {n v : ℕ} → TableRight d ws → JustWhen n v later → JustWhen n v (test 3 (FirstWrongWord d ws) later)
-  passes-right r = passes-here (λ v x. x .not-right r)
+-- tests 3 and 10, of words at a depth that fits
+module _ (d : ℕ) (ws : List ℕ) {later : ℕ → ℕ × ℕ → Type 0} where
+  by-coverage : TableOk d (tableOf ws) → (a : Answer) → (AllInTwo d (tableOf ws) → Just a later)
+      → Just (coverAnswer (coverageOf d (tableOf ws)) then a) (test 10 (two (FirstNotInTwo d (tableOf ws))) later)
+  by-coverage o a j =
+      let tbl : List (List (List ℕ)) = tableOf ws in
+      cover-cases d tbl (λ c. Just (coverAnswer c then a) (test 10 (two (FirstNotInTwo d tbl)) later)) o
+      (λ l i x. stops-two l i x (λ m n y. let (p, q) = thin-unique d tbl m n l i (not-first d tbl m n y) (not-first d tbl l i x) in (p, q)))
+      (λ c. passes-two (λ l i x. not-covered d tbl l i (not-first d tbl l i x) (all-covered d tbl c)) (j c))
 
--- ---- a call that is lent a table: tests 1, 2 and 3
+  pub by-words : depthFits d ≡ true → (a : Answer) → (TableRight d ws → AllInTwo d (tableOf ws) → Just a later)
+      → Just (wordsTested d ws then a) (takesWords d ws later)
+  by-words f a j =
+      let c : Answer = coverAnswer (coverageOf d (tableOf ws)) in
+      subst (λ (z : Answer). Just z (takesWords d ws later)) (sym (then-assoc (readAnswer (readOf d ws)) c a))
+      (words-cases d f (λ r. Just (readAnswer r then (c then a)) (takesWords d ws later)) ws
+      (λ i w. stops-one i w (λ v x. first-unique d ws v i (wrong-first d ws v x) (wrong-first d ws i w)))
+      (λ w.
+      passes-one (λ v x. x .not-right w)
+      (by-coverage (formed-rules d ws (right-formed d ws w) (depth-is d f .1)) a (j w))))
+
+-- ---- a call that is lent a table: tests 1, 2, 3 and 10
 
 module _ (table : List ℕ) where
   pub table-long : lengthFits (length table) ≡ true → TableLength table
@@ -139,20 +166,18 @@ module _ (table : List ℕ) where
   long-table r = yes-and (le-leb (length table) 16384 (r .not-over)) (eq-eqb (length table % 4) 0 (r .in-words))
 
 -- R being what the lengths are to be, the table's among them
-pub by-admitted : (d : ℕ) {later : ℕ → ℕ → Type 0} (R : Type 0) (sized : Bool) (table : List ℕ) (a : Answer)
+pub by-admitted : (d : ℕ) {later : ℕ → ℕ × ℕ → Type 0} (R : Type 0) (sized : Bool) (table : List ℕ) (a : Answer)
     → (sized ≡ true → TableLength table → R) → (R → (sized ≡ true) × TableLength table)
-    → (depthFits d ≡ true → R → TableRight d (wordsOf table) → Just a later)
-    → Just (admitted d sized table then a) (test 1 (unless (DepthRight d)) (test 2 (unless R) (test 3 (FirstWrongWord d (wordsOf table)) later)))
+    → (depthFits d ≡ true → R → TableRight d (wordsOf table) → AllInTwo d (equationsOf table) → Just a later)
+    → Just (admitted d sized table then a) (test 1 (unless (DepthRight d)) (test 2 (unless R) (takesTable d table later)))
 by-admitted d {later} R sized table a said seen j =
-    let read : Answer = readAnswer (readOf d (wordsOf table)) in
-    subst (λ (z : Answer). Just z (test 1 (unless (DepthRight d)) (test 2 (unless R) (test 3 (FirstWrongWord d (wordsOf table)) later))))
-    (sym (then-assoc (opened d (sized && lengthFits (length table))) read a))
-    (by-opened d R (sized && lengthFits (length table)) (read then a)
+    let tests : Answer = wordsTested d (wordsOf table) in
+    subst (λ (z : Answer). Just z (test 1 (unless (DepthRight d)) (test 2 (unless R) (takesTable d table later))))
+    (sym (then-assoc (opened d (sized && lengthFits (length table))) tests a))
+    (by-opened d R (sized && lengthFits (length table)) (tests then a)
     (λ l. let (p, q) = and-yes sized (lengthFits (length table)) l in said p (table-long table q))
     (λ r. let (p, q) = seen r in yes-and p (long-table table q))
-    (λ f r.
-    words-cases d f (λ x. Just (readAnswer x then a) (test 3 (FirstWrongWord d (wordsOf table)) later)) (wordsOf table) (stops-wrong d (wordsOf table))
-    (λ w. passes-right d (wordsOf table) w (j f r w))))
+    (λ f r. by-words d (wordsOf table) f a (j f r)))
 
 -- ---- the lowest number that a search finds
 
@@ -181,15 +206,15 @@ module _ (p : ℕ → Bool) (P : ℕ → Type 0) (n : ℕ) (said : (q : ℕ) →
   missed h v x = true≢false (sym (seen v (x .below) (x .holds)) ∙ lowest-is p 0 n .before v (omega arith) (omega (arith, x .below)))
 
   -- the test of such a search
-  pub by-search : (k : ℕ) {later : ℕ → ℕ → Type 0} (stop : ℕ → Stop) (a : Answer) → ((v : ℕ) → numberOf (Stopped (stop v)) ≡ k)
-      → ((v : ℕ) → valueOf (Stopped (stop v)) ≡ v) → (n ≤ lowest p 0 n → Just a later)
-      → Just (pick (ltb (lowest p 0 n) n) (Stopped (stop (lowest p 0 n))) Done then a) (test k (LowestOf P n) later)
+  pub by-search : (k : ℕ) {later : ℕ → ℕ × ℕ → Type 0} (stop : ℕ → Stop) (a : Answer) → ((v : ℕ) → numberOf (Stopped (stop v)) ≡ k)
+      → ((v : ℕ) → valuesOf (Stopped (stop v)) ≡ (v, 0)) → (n ≤ lowest p 0 n → Just a later)
+      → Just (pick (ltb (lowest p 0 n) n) (Stopped (stop (lowest p 0 n))) Done then a) (test k (one (LowestOf P n)) later)
   by-search k {later} stop a e g j =
-      pick-ind (λ (z : Answer). Just (z then a) (test k (LowestOf P n) later)) (ltb (lowest p 0 n) n)
+      pick-ind (λ (z : Answer). Just (z then a) (test k (one (LowestOf P n)) later)) (ltb (lowest p 0 n) n)
       (λ l.
       let w = found (ltb-true (lowest p 0 n) n l) in
-      rw (e (lowest p 0 n), g (lowest p 0 n)) (stops-here (lowest p 0 n) w (λ v x. one-lowest P n v (lowest p 0 n) x w)))
-      (λ l. let h = ltb-false (lowest p 0 n) n l in passes-here (missed h) (j h))
+      rw (e (lowest p 0 n), g (lowest p 0 n)) (stops-one (lowest p 0 n) w (λ v x. one-lowest P n v (lowest p 0 n) x w)))
+      (λ l. let h = ltb-false (lowest p 0 n) n l in passes-one (missed h) (j h))
 
 -- ---- tests of the calls on trees
 
@@ -224,15 +249,15 @@ module _ (d : ℕ) (m : List ℕ) (full : length m ≡ treeSymbols d) where
         | no k ↦ absurd (h .1 (elim (decLt 0 (getD m p 0)) [ yes q ↦ omega arith | no q ↦ absurd (h .0 (omega arith)) ]))
       ]
 
-  by-marks : {later : ℕ → ℕ → Type 0} (a : Answer) → (((p : ℕ) → p < treeSymbols d → getD m p 0 ≤ 1) → Just a later)
-      → Just (testMarks m then a) (test 4 (BadMark d m) later)
+  by-marks : {later : ℕ → ℕ × ℕ → Type 0} (a : Answer) → (((p : ℕ) → p < treeSymbols d → getD m p 0 ≤ 1) → Just a later)
+      → Just (testMarks m then a) (test 4 (one (BadMark d m)) later)
   unfolding testMarks
   by-marks {later} a j =
-      subst (λ (n : ℕ). Just (testMarks m then a) (test 4 (LowestOf Bad n) later)) full
+      subst (λ (n : ℕ). Just (testMarks m then a) (test 4 (one (LowestOf Bad n)) later)) full
       (by-search (isBad m) Bad (length m) bad-said bad-seen 4 Mark a (λ v. refl) (λ v. refl) (λ h. j (λ p l. all-right m h p (omega arith))))
 
 -- test 5
-by-number : (d i : ℕ) {later : ℕ → ℕ → Type 0} (a : Answer) → (i < nOf (d - 1) → Just a later) → Just (testNumber d i then a) (test 5 (unless (InBase d i)) later)
+by-number : (d i : ℕ) {later : ℕ → ℕ × ℕ → Type 0} (a : Answer) → (i < nOf (d - 1) → Just a later) → Just (testNumber d i then a) (test 5 (unless (InBase d i)) later)
 unfolding testNumber kOf nOf
 by-number d i a j = by-right 5 (InBase d i) (ltb i (nOf (d - 1))) Number a refl refl (ltb-true i (nOf (d - 1))) (lt-ltb i (nOf (d - 1))) j
 
@@ -259,25 +284,20 @@ hasher m d =
     passes-unless (leb-true (length m) longest p, eqb-true (length d) 32 q) all-done)
     (λ t. stops-unless (λ r. true≢false (sym (yes-and (le-leb (length m) longest (r .0)) (eq-eqb (length d) 32 (r .1))) ∙ t)))
 
-table-words : (d : ℕ) (ws : List ℕ) → Just (readAnswer (readOf d ws)) (wordsTests d ws)
+table-words : (d : ℕ) (ws : List ℕ) → Just (wordsTested d ws) (wordsTests d ws)
 table-words d ws =
     by-test (depthFits d)
     (λ f.
     passes-unless (depth-right d f)
-    (words-cases d f (λ r. Just (readAnswer r) (test 3 (FirstWrongWord d ws) done)) ws (stops-wrong d ws) (λ r. passes-right d ws r all-done)))
-    (λ f. subst (λ r. Just (readAnswer r) (wordsTests d ws)) (read-depth d ws f) (stops-unless (depth-wrong d f)))
+    (subst (λ (z : Answer). Just z (takesWords d ws done)) (then-none (wordsTested d ws)) (by-words d ws f Done (λ w c. all-done))))
+    (λ f.
+    subst (λ (r : Read). Just (readAnswer r then coverAnswer (coverageOf d (tableOf ws))) (wordsTests d ws)) (read-depth d ws f)
+    (stops-unless (depth-wrong d f)))
 
--- the reader's answer on bytes is that of a call that is lent nothing else
-read-admitted : (d : ℕ) (b : List ℕ) → (admitted d true b then Done) ≡ readAnswer (readBytesOf d b)
-unfolding testDepth testLengths readBytesOf pick
-read-admitted d b =
-    then-none (admitted d true b)
-    ∙ by-test (depthFits d) (λ f. by-test (lengthFits (length b)) (λ l. rw (f, l)) (λ l. rw (f, l))) (λ f. rw f)
-
-table-bytes : (d : ℕ) (b : List ℕ) → Just (readAnswer (readBytesOf d b)) (tableTests d b)
-table-bytes d b =
-    subst (λ (z : Answer). Just z (tableTests d b)) (read-admitted d b)
-    (by-admitted d (TableLength b) true b Done (λ t l. l) (λ l. (refl, l)) (λ f l r. all-done))
+table-bytes : (d : ℕ) (table : List ℕ) → Just (admitted d true table) (tableTests d table)
+table-bytes d table =
+    subst (λ (z : Answer). Just z (tableTests d table)) (then-none (admitted d true table))
+    (by-admitted d (TableLength table) true table Done (λ t l. l) (λ l. (refl, l)) (λ f l w c. all-done))
 
 house : (d w n m : ℕ) → m ≡ w * (5 * 12 * (2 ^ d - 1) + 1) → Just (readAnswer (houseAnswer d n m)) (houseTests d w n)
 unfolding houseAnswer
@@ -306,7 +326,7 @@ module _ (d : ℕ) (table b t m root : List ℕ) where
   abbrev own : Bool
   own = writeSized d (length b) (length t) (length m) (length root)
 
-  lengths-own : own ≡ true → TableLength table → WriterLengths d table b t m root
+  pub lengths-own : own ≡ true → TableLength table → WriterLengths d table b t m root
   unfolding kOf
   lengths-own h l =
       let (u, q) = and-yes (treeSized d (length t) (length m)) (blockSized d (length b) && rootSized (length root)) h in
@@ -318,7 +338,7 @@ module _ (d : ℕ) (table b t m root : List ℕ) where
         root-length = eqb-true (length root) 512 r;
       }
 
-  own-lengths : WriterLengths d table b t m root → (own ≡ true) × TableLength table
+  pub own-lengths : WriterLengths d table b t m root → (own ≡ true) × TableLength table
   unfolding kOf
   own-lengths r = (
     yes-and (size-tests d t m (r .tree-lengths))
@@ -329,7 +349,7 @@ module _ (d : ℕ) (table b t m root : List ℕ) where
   tree-writer : Just (treeWritten d table b t m root .answer) (writerTests d table b t m root)
   tree-writer =
       subst (λ (z : Answer). Just z (writerTests d table b t m root)) (then-none (admitted d own table) ∙ sym (written-answer d table b t m root))
-      (by-admitted d (WriterLengths d table b t m root) own table Done lengths-own own-lengths (λ f r w. all-done))
+      (by-admitted d (WriterLengths d table b t m root) own table Done lengths-own own-lengths (λ f r w c. all-done))
 
 module _ (d : ℕ) (t m b : List ℕ) where
   block-reader : Just (blockRead d t m b .answer) (blockTests d t m b)
@@ -345,7 +365,7 @@ module _ (d : ℕ) (t m b : List ℕ) where
       by-marks d m (r .0 .mark-bytes) (testBase d m)
       (λ low.
       let some = depth-right d f .0 in
-      subst (λ (z : Answer). Just z (test 9 (LowestOf (λ i. markAt m (d - 1) i ≡ 0) (kOf (d - 1))) done)) (then-none (testBase d m))
+      subst (λ (z : Answer). Just z (test 9 (one (LowestOf (λ i. markAt m (d - 1) i ≡ 0) (kOf (d - 1)))) done)) (then-none (testBase d m))
       (by-search (absentAt tree m (d - 1)) (λ i. markAt m (d - 1) i ≡ 0) (kOf (d - 1))
       (λ i h. mark-said d m low (d - 1) i (omega arith) (omega arith))
       (λ i h. mark-seen d m low (d - 1) i (omega arith) (omega arith)) 9 Absent Done (λ v. refl) (λ v. refl) (λ h. all-done)))))
@@ -403,7 +423,7 @@ module _ (d i : ℕ) (t m s : List ℕ) where
       by-number d i (needed (firstAbsent d i m))
       (λ h.
       let base : BaseSymbol d i = (depth-right d f .0, depth-right d f .1, h) in
-      subst (λ (z : Answer). Just z (test 9 (AbsentSampled d i m) done))
+      subst (λ (z : Answer). Just z (test 9 (one (AbsentSampled d i m)) done))
       (needed-pick (ltb (lowest (absent d i m) 0 (sampleSize d)) (sampleSize d)) (lowest (absent d i m) 0 (sampleSize d)))
       (by-search (absent d i m) (λ x. markAt m (sampledLayer d x) (sampledNumber d i x) ≡ 0) (sampleSize d) (sampled-said low base) (sampled-seen low base) 9
       Absent Done (λ v. refl) (λ v. refl) (λ q. all-done))))))
@@ -455,7 +475,7 @@ module _ (d : ℕ) (root table t m o : List ℕ) where
   abbrev lent : Bool
   lent = repairSized d (length root) (length t) (length m) (length o)
 
-  repair-own : lent ≡ true → TableLength table → RepairLengths d root table t m o
+  pub repair-own : lent ≡ true → TableLength table → RepairLengths d root table t m o
   repair-own h l =
       let (u, q) = and-yes (treeSized d (length t) (length m)) (rootSized (length root) && eqb (length o) (12 + 256 * (8 * d - 1))) h in
       let (r, w) = and-yes (rootSized (length root)) (eqb (length o) (12 + 256 * (8 * d - 1))) q in
@@ -466,7 +486,7 @@ module _ (d : ℕ) (root table t m o : List ℕ) where
         output-length = eqb-true (length o) (12 + 256 * (8 * d - 1)) w;
       }
 
-  own-repair : RepairLengths d root table t m o → (lent ≡ true) × TableLength table
+  pub own-repair : RepairLengths d root table t m o → (lent ≡ true) × TableLength table
   own-repair r = (
     yes-and (size-tests d t m (r .tree-lengths))
         (yes-and (eq-eqb (length root) 512 (r .root-length)) (eq-eqb (length o) (12 + 256 * (8 * d - 1)) (r .output-length))),
@@ -477,13 +497,13 @@ module _ (d : ℕ) (root table t m o : List ℕ) where
   unfolding repairTested
   repairer =
       by-admitted d (RepairLengths d root table t m o) lent table (testMarks m) repair-own own-repair
-      (λ f k w.
-      subst (λ (z : Answer). Just z (test 4 (BadMark d m) done)) (then-none (testMarks m))
+      (λ f k w c.
+      subst (λ (z : Answer). Just z (test 4 (one (BadMark d m)) done)) (then-none (testMarks m))
       (by-marks d m (k .tree-lengths .mark-bytes) Done (λ low. all-done)))
 
 -- ---- the number 0
 
-done-only : (a : Answer) → numberOf a ≡ 0 → a ≡ Done
+pub done-only : (a : Answer) → numberOf a ≡ 0 → a ≡ Done
 done-only Done e = refl
 done-only (Stopped Depth) e = absurd (omega arith)
 done-only (Stopped Length) e = absurd (omega arith)
@@ -494,6 +514,7 @@ done-only (Stopped Head) e = absurd (omega arith)
 done-only (Stopped Hash) e = absurd (omega arith)
 done-only (Stopped NoFault) e = absurd (omega arith)
 done-only (Stopped (Absent x)) e = absurd (omega arith)
+done-only (Stopped (Uncovered j i)) e = absurd (omega arith)
 
 whole-only : (a : Read) → numberOf (readAnswer a) ≡ 0 → a ≡ read.Whole
 whole-only read.Depth e = absurd (omega arith)

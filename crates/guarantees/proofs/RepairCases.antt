@@ -15,11 +15,9 @@ use Rattle.octets.proofs.Choice.{and-yes, yes-and}
 use Rattle.parity_table.specs.Shape.{depthFits, kOf, nOf}
 use Rattle.parity_table.specs.Members.{lastOf}
 use Rattle.parity_table.specs.Table.{layerOf, equationOf, equationsWords, layersWords, tableWords}
-use Rattle.table_bytes.specs.Bytes.{wordsOf, readBytesOf}
+use Rattle.table_bytes.specs.Bytes.{wordsOf}
 use Rattle.parity_table.specs.Parse.{addWord, partsOf, tableOf}
-use Rattle.parity_table.specs.declared.Answer.the-variants.{Whole}
 use Rattle.house_table.specs.House.{houseEquation, houseEquations, houseLayers, houseTable, houseWords}
-use Rattle.house_table.proofs.HouseBytes.{house-bytes-accepted}
 use Rattle.symbol_hash.specs.SymbolHash.{symbolHash}
 use Rattle.symbol_hash.specs.declared.Kind.the-variants.{Plain}
 use Rattle.symbol_hash.proofs.Laws.{length-symbolHash}
@@ -39,7 +37,7 @@ use Rattle.volume_calls.specs.Writing.{TreeLeft, writeSized, treeWritten}
 use Rattle.fault_calls.specs.Repairing.{repairSized, repairTested, repairOf, repairedBy, repaired, ended}
 use Rattle.calls.specs.Tests.{_then_}
 use Rattle.calls.proofs.TestLaws.{marks-right}
-use Rattle.calls.proofs.AdmissionLaws.{admits}
+use Rattle.calls.proofs.AdmissionLaws.{TableTaken, admits, house-taken}
 use Rattle.volume_calls.proofs.WritingLaws.{answer-is, when-done}
 use Rattle.guarantees.specs.Terms.{equationsOf}
 use Rattle.guarantees.specs.Trees.{AgreesWith}
@@ -69,9 +67,9 @@ said : equationsOf houseBytes ≡ houseTable 1
 unfolding houseBytes houseWords tableWords layersWords equationsWords tableOf partsOf addWord wordsOf words wordAt bytesOf be pick houseTable houseLayers houseEquations houseEquation kOf
 said = refl
 
-accepted : readBytesOf 1 houseBytes ≡ Whole
+taken : TableTaken 1 houseBytes
 unfolding houseBytes depthFits
-accepted = house-bytes-accepted 1 refl
+taken = house-taken 1 refl
 
 -- the call of the writer is done
 abbrev lent : ℕ → List ℕ
@@ -81,7 +79,7 @@ written-done : treeWritten 1 houseBytes block (lent 4096) (lent 16) (lent 512) .
 unfolding depthFits block kOf nOf places
 written-done =
     answer-is 1 houseBytes block (lent 4096) (lent 16) (lent 512)
-    ∙ sym (admits 1 (writeSized 1 (length block) (length (lent 4096)) (length (lent 16)) (length (lent 512))) houseBytes refl refl accepted)
+    ∙ sym (admits 1 (writeSized 1 (length block) (length (lent 4096)) (length (lent 16)) (length (lent 512))) houseBytes taken refl)
 
 abbrev exact : Exactly 1 houseBytes block (lent 4096) (lent 16) (lent 512)
 exact = demand-2 .writes-exactly 1 houseBytes block (lent 4096) (lent 16) (lent 512) written-done
@@ -298,7 +296,7 @@ module _ (absent : List ℕ) (o : List ℕ) (room : length o ≡ 12 + 256 * (8 *
       yes-and (yes-and (eq-eqb _ _ (exact .lengths .tree-bytes)) (eq-eqb _ _ (marks-length absent)))
       (yes-and (eq-eqb _ _ (exact .agrees .root-of .full)) (eq-eqb _ _ room)) in
       sym (ap₂ (λ (x y : Answer). x then y)
-      (admits 1 (repairSized 1 (length codedRoot) (length coded) (length (marksBut absent)) (length o)) houseBytes refl sized accepted)
+      (admits 1 (repairSized 1 (length codedRoot) (length coded) (length (marksBut absent)) (length o)) houseBytes taken sized)
       (marks-right (marksBut absent) (omega (arith, marks, marks-length absent))))
 
   module _ (missing us : List ℕ) (n : ℕ) (z : End) (comes : repairBy fitsRoot (start listed (marksBut absent) o) ≡ at missing us n z o) where

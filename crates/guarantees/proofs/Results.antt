@@ -1,9 +1,11 @@
 -- What a C program reads from the number that a call returns is what the call answered.
 use mathlib.Core.Path.{_≡_, refl, sym, _∙_}
 use mathlib.Core.Logic.{_≢_}
+use mathlib.Core.Bool.{true}
 use mathlib.Core.List.{List}
 use Prim.Native.Nat.{ℕ, _+_, _*_, _/_, _^_, _<_}
 use native.Mathlib.Omega.{arith}
+use lib.ListN.{length}
 use lib.Dec.{eqb}
 use borrow.Author.Tests.{eq-eqb, ne-eqb}
 use Rattle.octets.specs.Choice.{pick}
@@ -13,43 +15,49 @@ use Rattle.model.specs.Shape.{tree}
 use Rattle.model.specs.Ends.{EndOk}
 use Rattle.symbol_hash.specs.SymbolHash.{symbolHash}
 use Rattle.symbol_hash.specs.declared.Kind.the-variants.{Plain}
-use Rattle.calls.specs.declared.Stop.the-variants.{Depth, Length, Table, Mark, Number, Head, Hash, NoFault, Absent}
 use Rattle.calls.specs.declared.Answer.{Answer}
 use Rattle.calls.specs.declared.Answer.the-variants.{Done, Stopped}
-use Rattle.calls.specs.Stops.{numberOf, valuesOf, valueOf}
+use Rattle.calls.specs.Stops.{numberOf, valuesOf, Small}
+use Rattle.calls.specs.Tests.{readAnswer}
+use Rattle.calls.proofs.AdmissionLaws.{small-read, small-admitted}
+use Rattle.volume_calls.proofs.WritingLaws.{small as small-written}
+use Rattle.volume_calls.proofs.ReadingLaws.{small as small-block}
+use Rattle.sample_calls.proofs.TakingLaws.{small as small-taken}
+use Rattle.sample_calls.proofs.CheckingLaws.{small as small-sample}
+use Rattle.fault_calls.proofs.CheckingLaws.{small as small-checked}
+use Rattle.fault_calls.proofs.RepairingLaws.{small as small-repair}
+use Rattle.cedunmi_c.proofs.ResultLaws.{small-hash}
+use Rattle.house_table.specs.House.{houseWords, houseAnswer}
+use Rattle.house_table.proofs.HouseParts.{answer-not-wrong}
+use Rattle.sha256.specs.Call.{answer}
 use Rattle.calls.proofs.TestLaws.{stopped-not, number-low}
 use Rattle.fault_calls.specs.Repairing.{repairTested, repairOf, repairedBy, repaired, ended, endValue, Fits}
 use Rattle.fault_calls.proofs.Ends.{repair-fits, four-ways}
-use Rattle.cedunmi_c.specs.Result.{packed, callResult, repairResult}
+use Rattle.cedunmi_c.specs.Result.{packed, repairResult}
 use Rattle.guarantees.specs.Terms.{equationsOf}
-use Rattle.guarantees.specs.Results.{cmtNumber, cmtRepairEnd, cmtRepairStored, Says, EndSaid, Results}
+use Rattle.guarantees.specs.Results.{cmtNumber, cmtSecondValue, cmtRepairEnd, cmtRepairStored, Says, SaysAnswer, EndSaid, Results}
 
--- a number below 256, with a value above it and no second one
-says : (n v w : ℕ) → n < 256 → w ≡ 0 → Says (packed n (v, w)) n v
-says n v w h z = record { number-is = omega arith; value-is = omega arith }
+-- a number below 256, with a value above it and a second one above that, each in its bits
+says : (n : ℕ) (v : ℕ × ℕ) → n < 256 → v .0 < 2 ^ 24 → v .1 < 2 ^ 32 → Says (packed n v) n v
+says n v h p q = record { number-is = omega arith; value-is = omega arith; second-is = omega arith }
 
--- no stop has a second value
-one-value : (a : Answer) → valuesOf a .1 ≡ 0
-one-value Done = refl
-one-value (Stopped Depth) = refl
-one-value (Stopped Length) = refl
-one-value (Stopped (Table i)) = refl
-one-value (Stopped (Mark p)) = refl
-one-value (Stopped Number) = refl
-one-value (Stopped Head) = refl
-one-value (Stopped Hash) = refl
-one-value (Stopped NoFault) = refl
-one-value (Stopped (Absent x)) = refl
+-- an answer whose values have room
+said : (a : Answer) → Small a → SaysAnswer a
+said a s = says (numberOf a) (valuesOf a) (omega (arith, number-low a)) (s .first) (s .second)
 
-of-call : (a : Answer) → Says (callResult a) (numberOf a) (valueOf a)
-of-call a = says (numberOf a) (valueOf a) (valuesOf a .1) (omega (arith, number-low a)) (one-value a)
+-- the house table's writer has no value to return
+said-house : (depth n : ℕ) → SaysAnswer (readAnswer (houseAnswer depth n (length (houseWords depth) * 4)))
+said-house depth n =
+    said _
+    (small-read (houseAnswer depth n (length (houseWords depth) * 4))
+    (λ i e. absurd (answer-not-wrong depth n (length (houseWords depth) * 4) i e)))
 
 -- ---- repair
 
 -- a call that stopped
-of-refusal : (a : Answer) (st : St) (t m o : List ℕ) → a ≢ Done → Says (repairResult (repairedBy a st t m o .answer)) (numberOf a) (valueOf a)
-of-refusal Done st t m o n = absurd (n refl)
-of-refusal (Stopped w) st t m o n = of-call (Stopped w)
+of-refusal : (a : Answer) (st : St) (t m o : List ℕ) → Small a → a ≢ Done → Says (repairResult (repairedBy a st t m o .answer)) (numberOf a) (valuesOf a)
+of-refusal Done st t m o s n = absurd (n refl)
+of-refusal (Stopped w) st t m o s n = said (Stopped w) s
 
 -- an end's number, the symbols stored and the end's value, each in its bits
 module _ (e s v : ℕ) (he : e < 4) (hs : s < 2 ^ 16) (hv : v < 2 ^ 16) where
@@ -65,15 +73,15 @@ module _ (e s v : ℕ) (he : e < 4) (hs : s < 2 ^ 16) (hv : v < 2 ^ 16) where
   stored-is : cmtRepairStored r ≡ s
   stored-is = omega arith
 
-  value-is : r / 281474976710656 ≡ v
+  value-is : cmtSecondValue r / 65536 ≡ v
   value-is = omega arith
 
   -- the value where the end is this one, else 0
-  shown : (k : ℕ) → e ≡ k → pick (eqb (cmtRepairEnd r) k) (r / 281474976710656) 0 ≡ v
-  shown k h = pick-yes (eqb (cmtRepairEnd r) k) (r / 281474976710656) 0 (eq-eqb (cmtRepairEnd r) k (end-is ∙ h)) ∙ value-is
+  shown : (k : ℕ) → e ≡ k → pick (eqb (cmtRepairEnd r) k) (cmtSecondValue r / 65536) 0 ≡ v
+  shown k h = pick-yes (eqb (cmtRepairEnd r) k) (cmtSecondValue r / 65536) 0 (eq-eqb (cmtRepairEnd r) k (end-is ∙ h)) ∙ value-is
 
-  hidden : (k : ℕ) → (e ≡ k → ⊥) → pick (eqb (cmtRepairEnd r) k) (r / 281474976710656) 0 ≡ 0
-  hidden k h = pick-no (eqb (cmtRepairEnd r) k) (r / 281474976710656) 0 (ne-eqb (cmtRepairEnd r) k (λ q. h (sym end-is ∙ q)))
+  hidden : (k : ℕ) → (e ≡ k → ⊥) → pick (eqb (cmtRepairEnd r) k) (cmtSecondValue r / 65536) 0 ≡ 0
+  hidden k h = pick-no (eqb (cmtRepairEnd r) k) (cmtSecondValue r / 65536) 0 (ne-eqb (cmtRepairEnd r) k (λ q. h (sym end-is ∙ q)))
 
 end-said : (s : ℕ) (z : End) → s < 2 ^ 16 → endValue z < 2 ^ 16 → (z ≡ working → ⊥)
     → (cmtNumber (repairResult (ended s z)) ≡ 0) × (cmtRepairStored (repairResult (ended s z)) ≡ s) × EndSaid (repairResult (ended s z)) z
@@ -139,8 +147,16 @@ unfolding repaired
 results =
     record {
       ends = λ j e x n i. (refl, refl, refl, refl);
-      of-call = of-call;
-      of-refusal = λ depth root table t m o. of-refusal (repairTested depth root table t m o) (repairOf root table t m o) t m o;
+      of-hasher = λ m digest. said _ (small-hash (answer m digest));
+      of-table-check = λ depth table. said _ (small-admitted depth true table);
+      of-house-table = said-house;
+      of-tree-writer = λ depth table b t m root. said _ (small-written depth table b t m root);
+      of-block-reader = λ depth t m b. said _ (small-block depth t m b);
+      of-sampler = λ depth i t m s. said _ (small-taken depth i t m s);
+      of-sample-checker = λ depth i root s. said _ (small-sample depth i root s);
+      of-proof-checker = λ depth root table b. said _ (small-checked depth root table b);
+      of-refusal = λ depth root table t m o.
+          of-refusal (repairTested depth root table t m o) (repairOf root table t m o) t m o (small-repair depth root table t m o);
       of-repair = λ depth root table t m o e.
           repair-said depth root table t m o (repairTested depth root table t m o) refl e (repair-fits depth root table t m o);
       tree-in-c = λ w. (refl, refl, refl, refl);

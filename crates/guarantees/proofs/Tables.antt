@@ -11,8 +11,9 @@ use Rattle.octets.proofs.Choice.{and-yes, yes-and}
 use Rattle.parity_table.specs.Shape.{kOf}
 use Rattle.parity_table.specs.Members.{every, ascending}
 use Rattle.parity_table.specs.Table.{layerOf, equationOf, EquationOk, TableOk, equationsWords, layersWords, tableWords, WellFormed, FirstWrong}
+use Rattle.parity_table.specs.Coverage.{InTwo, Covered, FirstUncovered}
 use Rattle.model.proofs.Members.{last-get}
-use Rattle.guarantees.specs.Tables.{EquationRules, TableRules, equationsListed, layersListed, listed, TableRight, FirstWrongWord}
+use Rattle.guarantees.specs.Tables.{EquationRules, TableRules, equationsListed, layersListed, listed, TableRight, FirstWrongWord, InTwoEquations, AllInTwo, FirstNotInTwo}
 
 -- ---- members
 
@@ -118,4 +119,46 @@ wrong-first d ws i f =
       before = λ n h. let g = f .right-before n h in record { more = g .0; formed = right-formed d (take n ws ++ g .0) (g .1) };
       wrong = λ h b. f .wrong-there h (b .more, formed-right d (take (suc i) ws ++ b .more) (b .formed));
       refused = λ r. f .not-right (formed-right d ws r);
+    }
+
+-- ---- data symbols in equations
+
+module _ (tbl : List (List (List ℕ))) (j i : ℕ) where
+  in-two : InTwoEquations tbl j i → InTwo tbl j i
+  unfolding kOf layerOf equationOf
+  in-two (e, f, n, (p, a), (q, b)) =
+      record { one = e; other = f; different = n; one-there = p; other-there = q; in-one = a; in-other = b }
+
+  two-in : InTwo tbl j i → InTwoEquations tbl j i
+  unfolding kOf layerOf equationOf
+  two-in t = (t .one, t .other, t .different, (t .one-there, t .in-one), (t .other-there, t .in-other))
+
+pub covered-all : (d : ℕ) (tbl : List (List (List ℕ))) → Covered d tbl → AllInTwo d tbl
+unfolding kOf
+covered-all d tbl c j i hj hi = two-in tbl j i (c j i hj hi)
+
+pub all-covered : (d : ℕ) (tbl : List (List (List ℕ))) → AllInTwo d tbl → Covered d tbl
+unfolding kOf
+all-covered d tbl c j i hj hi = in-two tbl j i (c j i hj hi)
+
+pub first-not : (d : ℕ) (tbl : List (List (List ℕ))) (j i : ℕ) → FirstUncovered d tbl j i → FirstNotInTwo d tbl j i
+unfolding kOf layerOf equationOf
+first-not d tbl j i f =
+    record {
+      layer = f .layer;
+      data-symbol = f .symbol;
+      one-or-none = λ e g (p, a) (q, b). f .at-most-one e g p q a b;
+      earlier = covered-all j tbl (f .before);
+      lower = λ x h. two-in tbl j x (f .lower x h);
+    }
+
+pub not-first : (d : ℕ) (tbl : List (List (List ℕ))) (j i : ℕ) → FirstNotInTwo d tbl j i → FirstUncovered d tbl j i
+unfolding kOf layerOf equationOf
+not-first d tbl j i f =
+    record {
+      layer = f .layer;
+      symbol = f .data-symbol;
+      before = all-covered j tbl (f .earlier);
+      lower = λ x h. in-two tbl j x (f .lower x h);
+      at-most-one = λ e g p q a b. f .one-or-none e g (p, a) (q, b);
     }

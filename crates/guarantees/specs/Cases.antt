@@ -9,10 +9,8 @@ use lib.ListN.{length, take, drop, set, replicate}
 use lib.Dec.{ltb}
 use Rattle.octets.specs.BigEndian.{bytesOf}
 use Rattle.sha256.specs.Hash.{sha256}
-use Rattle.parity_table.specs.Reader.{readOf}
 use Rattle.parity_table.specs.Members.{every, lastOf}
 use Rattle.parity_table.specs.Table.{equationOf}
-use Rattle.table_bytes.specs.Bytes.{readBytesOf}
 use Rattle.house_table.specs.House.{houseTable, houseWords, houseAnswer}
 use Rattle.symbol_hash.specs.SymbolHash.{symbolHash}
 use Rattle.symbol_hash.specs.declared.Kind.the-variants.{Plain}
@@ -22,7 +20,7 @@ use Rattle.model.specs.Fault.{proofLength}
 use Rattle.model.specs.Repair.{End, working, whole, unavailable, St, absentAt, lowestEq, step, enter}
 use Rattle.calls.specs.declared.Answer.the-variants.{Done}
 use Rattle.calls.specs.Stops.{numberOf}
-use Rattle.calls.specs.Tests.{readAnswer}
+use Rattle.calls.specs.Tests.{readAnswer, wordsTested, admitted}
 use Rattle.volume_calls.specs.Reading.{blockRead}
 use Rattle.volume_calls.specs.Writing.{treeWritten}
 use Rattle.sample_calls.specs.Checking.{sampleChecked}
@@ -100,8 +98,8 @@ pub record Leaves (absent : List ℕ) (end : End) (missing : List ℕ) (stored :
 
 -- what holds of the number that every call gives at this depth, whatever else it is lent
 pub record EveryCall (depth : ℕ) (P : ℕ → Type 0) : Type 0 where
-  pub table-words : (ws : List ℕ) → P (numberOf (readAnswer (readOf depth ws)))
-  pub table-bytes : (b : List ℕ) → P (numberOf (readAnswer (readBytesOf depth b)))
+  pub table-words : (ws : List ℕ) → P (numberOf (wordsTested depth ws))
+  pub table-bytes : (b : List ℕ) → P (numberOf (admitted depth true b))
   pub house-words : (n : ℕ) → P (numberOf (readAnswer (houseAnswer depth n (length (houseWords depth)))))
   pub house-bytes : (n : ℕ) → P (numberOf (readAnswer (houseAnswer depth n (length (houseWords depth) * 4))))
   pub tree-writer : (table b t m root : List ℕ) → P (numberOf (treeWritten depth table b t m root .answer))

@@ -9,13 +9,12 @@ use Rattle.table_bytes.specs.Bytes.{wordsOf}
 use Rattle.model.specs.Shape.{tree}
 use Rattle.model.specs.Fault.{proofBytes, ProofHolds}
 use Rattle.calls.specs.declared.Answer.the-variants.{Done}
-use Rattle.calls.specs.Stops.{numberOf, valueOf}
 use Rattle.fault_calls.specs.Checking.{proofChecked}
 use Rattle.guarantees.specs.Layouts.{bytesFrom, dataSymbols, allSymbols, hashFor, XorOf, upFrom, wordNo, kindValue}
-use Rattle.guarantees.specs.Tables.{TableRules, TableRight, FirstWrongWord}
+use Rattle.guarantees.specs.Tables.{TableRules, TableRight, AllInTwo}
 use Rattle.guarantees.specs.Trees.{members}
-use Rattle.guarantees.specs.Refusals.{DepthRight, TableLength}
-use Rattle.guarantees.specs.Answers.{Answered, done, test, unless, JustWhen}
+use Rattle.guarantees.specs.Refusals.{DepthRight, TableLength, takesTable}
+use Rattle.guarantees.specs.Answers.{Answered, done, test, unless, Just}
 use Rattle.guarantees.specs.Terms.{equationsOf}
 
 -- ---- the bytes of a proof
@@ -98,6 +97,7 @@ pub record ProofRight (depth : ℕ) (root table b : List ℕ) : Type 0 where
   pub depth-right : DepthRight depth
   pub lengths-right : ProofLengths root table b
   pub table-right : TableRight depth (wordsOf table)
+  pub table-covered : AllInTwo depth (equationsOf table)
   pub named : Named depth (equationsOf table) b
   pub exact : Exact named
   pub all-lead : AllLead root named
@@ -106,12 +106,12 @@ pub record ProofRight (depth : ℕ) (root table b : List ℕ) : Type 0 where
 abbrev pub AcceptsProofJustWhen : Type 0
 AcceptsProofJustWhen = (depth : ℕ) (root table b : List ℕ) → (proofChecked depth root table b ≡ Done) ↔ ProofRight depth root table b
 
--- "A proof is tested 1, 2, 3, 6, then 2 again for the length its head demands, 7, 8."
+-- "A proof is tested 1, 2, 3, 6, then 2 again for the length its head demands, 7, 8", and 10 "right after 3"
 abbrev pub proofTests : ℕ → List ℕ → List ℕ → List ℕ → Answered
 proofTests depth root table b =
     test 1 (unless (DepthRight depth))
     (test 2 (unless (ProofLengths root table b))
-    (test 3 (FirstWrongWord depth (wordsOf table))
+    (takesTable depth table
     (test 6 (unless (Named depth (equationsOf table) b))
     (test 2 (unless ((h : Named depth (equationsOf table) b) × Exact h))
     (test 7 (unless ((h : Named depth (equationsOf table) b) × AllLead root h))
@@ -120,7 +120,7 @@ proofTests depth root table b =
 abbrev pub ProofCheckerAnswers : Type 0
 ProofCheckerAnswers =
     (depth : ℕ) (root table b : List ℕ)
-    → JustWhen (numberOf (proofChecked depth root table b)) (valueOf (proofChecked depth root table b)) (proofTests depth root table b)
+    → Just (proofChecked depth root table b) (proofTests depth root table b)
 
 -- ---- "A proof holds each given member at layer j under its own number, and each path symbol at its layer under the number the path reaches
 -- there: from symbol i to data symbol (i mod s) of the layer above."

@@ -1,7 +1,8 @@
--- "What stops a call", of every call but the check of a fault proof (FaultProofs.antt): which number and value, and just when. Each test stands in 01's
+-- "What stops a call", of every call but the check of a fault proof (FaultProofs.antt): which number and values, and just when. Each test stands in the papers'
 -- words, and a call makes its tests in this order. Statements only.
 use mathlib.Core.Path.{_≡_}
 use mathlib.Core.Logic.{_↔_, _≢_}
+use mathlib.Core.Bool.{true}
 use mathlib.Core.List.{List}
 use Prim.Native.Nat.{ℕ, suc, _+_, _-_, _*_, _%_, _^_, _≤_, _<_}
 use lib.ListN.{length, getD}
@@ -11,13 +12,13 @@ use Rattle.sha256.specs.declared.Answer.{Answer as Hashed}
 use Rattle.sha256.specs.declared.Answer.the-variants as hashed
 use Rattle.parity_table.specs.declared.Answer.{Answer as Read}
 use Rattle.parity_table.specs.declared.Answer.the-variants.{Whole}
-use Rattle.parity_table.specs.Reader.{readOf}
-use Rattle.table_bytes.specs.Bytes.{wordsOf, readBytesOf}
+use Rattle.parity_table.specs.Parse.{tableOf}
+use Rattle.table_bytes.specs.Bytes.{wordsOf}
 use Rattle.house_table.specs.House.{houseWords, houseAnswer}
 use Rattle.calls.specs.declared.Answer.{Answer}
 use Rattle.calls.specs.declared.Answer.the-variants.{Done}
-use Rattle.calls.specs.Stops.{numberOf, valueOf}
-use Rattle.calls.specs.Tests.{readAnswer}
+use Rattle.calls.specs.Stops.{numberOf}
+use Rattle.calls.specs.Tests.{readAnswer, wordsTested, admitted}
 use Rattle.volume_calls.specs.Reading.{blockRead}
 use Rattle.volume_calls.specs.Writing.{treeWritten}
 use Rattle.sample_calls.specs.Checking.{sampleChecked}
@@ -25,8 +26,8 @@ use Rattle.sample_calls.specs.Taking.{sampleTaken}
 use Rattle.fault_calls.specs.Repairing.{repairTested}
 use Rattle.cedunmi_c.specs.Result.{hashAnswer}
 use Rattle.guarantees.specs.Layouts.{symbolNo, dataSymbols, allSymbols, treeSymbols, markAt, hashFor, sampledLayer, sampledNumber}
-use Rattle.guarantees.specs.Tables.{FirstWrongWord}
-use Rattle.guarantees.specs.Answers.{Answered, done, test, unless, JustWhen}
+use Rattle.guarantees.specs.Tables.{FirstWrongWord, FirstNotInTwo}
+use Rattle.guarantees.specs.Answers.{Answered, done, test, unless, one, two, Just}
 
 -- v is the lowest of the numbers below n of which P holds
 pub record LowestOf (P : ℕ → Type 0) (n v : ℕ) : Type 0 where
@@ -97,12 +98,19 @@ module _ (d i : ℕ) (root s : List ℕ) where
 abbrev pub hashTests : List ℕ → List ℕ → Answered
 hashTests m digest = test 2 (unless ((length m ≤ 1048576) × (length digest ≡ 32))) done
 
+-- a table's own tests: 3, "first wrong word (its end if short)"; 10, "tested right after 3, with the first such layer and its lowest such symbol"
+abbrev pub takesWords : ℕ → List ℕ → Answered → Answered
+takesWords d ws later = test 3 (one (FirstWrongWord d ws)) (test 10 (two (FirstNotInTwo d (tableOf ws))) later)
+
+abbrev pub takesTable : ℕ → List ℕ → Answered → Answered
+takesTable d table later = takesWords d (wordsOf table) later
+
 -- a table as words, and as bytes from C
 abbrev pub wordsTests : ℕ → List ℕ → Answered
-wordsTests d ws = test 1 (unless (DepthRight d)) (test 3 (FirstWrongWord d ws) done)
+wordsTests d ws = test 1 (unless (DepthRight d)) (takesWords d ws done)
 
 abbrev pub tableTests : ℕ → List ℕ → Answered
-tableTests d table = test 1 (unless (DepthRight d)) (test 2 (unless (TableLength table)) (test 3 (FirstWrongWord d (wordsOf table)) done))
+tableTests d table = test 1 (unless (DepthRight d)) (test 2 (unless (TableLength table)) (takesTable d table done))
 
 -- the house table into a buffer of n entries, w to a word: "It has 5·12·(2^D−1)+1 words."
 abbrev pub houseTests : ℕ → ℕ → ℕ → Answered
@@ -116,17 +124,17 @@ module _ (d : ℕ) (table b t m root : List ℕ) where
     pub root-length : RootLength root
 
   abbrev pub writerTests : Answered
-  writerTests = test 1 (unless (DepthRight d)) (test 2 (unless WriterLengths) (test 3 (FirstWrongWord d (wordsOf table)) done))
+  writerTests = test 1 (unless (DepthRight d)) (test 2 (unless WriterLengths) (takesTable d table done))
 
 abbrev pub blockTests : ℕ → List ℕ → List ℕ → List ℕ → Answered
 blockTests d t m b =
-    test 1 (unless (DepthRight d)) (test 2 (unless (TreeLengths d t m × BlockLength d b)) (test 4 (BadMark d m) (test 9 (AbsentData d m) done)))
+    test 1 (unless (DepthRight d)) (test 2 (unless (TreeLengths d t m × BlockLength d b)) (test 4 (one (BadMark d m)) (test 9 (one (AbsentData d m)) done)))
 
 abbrev pub samplerTests : ℕ → ℕ → List ℕ → List ℕ → List ℕ → Answered
 samplerTests d i t m s =
     test 1 (unless (DepthRight d))
     (test 2 (unless (TreeLengths d t m × SampleLength d s))
-    (test 4 (BadMark d m) (test 5 (unless (InBase d i)) (test 9 (AbsentSampled d i m) done))))
+    (test 4 (one (BadMark d m)) (test 5 (unless (InBase d i)) (test 9 (one (AbsentSampled d i m)) done))))
 
 abbrev pub sampleTests : ℕ → ℕ → List ℕ → List ℕ → Answered
 sampleTests d i root s =
@@ -143,7 +151,7 @@ module _ (d : ℕ) (root table t m o : List ℕ) where
   abbrev pub repairTests : Answered
   repairTests =
       test 1 (unless (DepthRight d))
-      (test 2 (unless RepairLengths) (test 3 (FirstWrongWord d (wordsOf table)) (test 4 (BadMark d m) done)))
+      (test 2 (unless RepairLengths) (takesTable d table (test 4 (one (BadMark d m)) done)))
 
 -- ---- each call answers as its tests say, and not otherwise
 
@@ -152,20 +160,13 @@ pub record Refusals : Type 0 where
   pub done-call : (a : Answer) → (numberOf a ≡ 0) ↔ (a ≡ Done)
   pub done-read : (a : Read) → (numberOf (readAnswer a) ≡ 0) ↔ (a ≡ Whole)
   pub done-hash : (a : Hashed) → (numberOf (hashAnswer a) ≡ 0) ↔ (a ≡ hashed.Done)
-  pub hasher : (m d : List ℕ) → JustWhen (numberOf (hashAnswer (answer m d))) (valueOf (hashAnswer (answer m d))) (hashTests m d)
-  pub table-words : (d : ℕ) (ws : List ℕ) → JustWhen (numberOf (readAnswer (readOf d ws))) (valueOf (readAnswer (readOf d ws))) (wordsTests d ws)
-  pub table-bytes : (d : ℕ) (b : List ℕ) → JustWhen (numberOf (readAnswer (readBytesOf d b))) (valueOf (readAnswer (readBytesOf d b))) (tableTests d b)
-  pub house-words : (d n : ℕ)
-      → JustWhen (numberOf (readAnswer (houseAnswer d n (length (houseWords d))))) (valueOf (readAnswer (houseAnswer d n (length (houseWords d))))) (houseTests d 1 n)
-  pub house-bytes : (d n : ℕ)
-      → JustWhen (numberOf (readAnswer (houseAnswer d n (length (houseWords d) * 4)))) (valueOf (readAnswer (houseAnswer d n (length (houseWords d) * 4))))
-      (houseTests d 4 n)
-  pub tree-writer : (d : ℕ) (table b t m root : List ℕ)
-      → JustWhen (numberOf (treeWritten d table b t m root .answer)) (valueOf (treeWritten d table b t m root .answer)) (writerTests d table b t m root)
-  pub block-reader : (d : ℕ) (t m b : List ℕ) → JustWhen (numberOf (blockRead d t m b .answer)) (valueOf (blockRead d t m b .answer)) (blockTests d t m b)
-  pub sampler : (d i : ℕ) (t m s : List ℕ)
-      → JustWhen (numberOf (sampleTaken d i t m s .answer)) (valueOf (sampleTaken d i t m s .answer)) (samplerTests d i t m s)
-  pub sample-checker : (d i : ℕ) (root s : List ℕ)
-      → JustWhen (numberOf (sampleChecked d i root s)) (valueOf (sampleChecked d i root s)) (sampleTests d i root s)
-  pub repairer : (d : ℕ) (root table t m o : List ℕ)
-      → JustWhen (numberOf (repairTested d root table t m o)) (valueOf (repairTested d root table t m o)) (repairTests d root table t m o)
+  pub hasher : (m d : List ℕ) → Just (hashAnswer (answer m d)) (hashTests m d)
+  pub table-words : (d : ℕ) (ws : List ℕ) → Just (wordsTested d ws) (wordsTests d ws)
+  pub table-bytes : (d : ℕ) (table : List ℕ) → Just (admitted d true table) (tableTests d table)
+  pub house-words : (d n : ℕ) → Just (readAnswer (houseAnswer d n (length (houseWords d)))) (houseTests d 1 n)
+  pub house-bytes : (d n : ℕ) → Just (readAnswer (houseAnswer d n (length (houseWords d) * 4))) (houseTests d 4 n)
+  pub tree-writer : (d : ℕ) (table b t m root : List ℕ) → Just (treeWritten d table b t m root .answer) (writerTests d table b t m root)
+  pub block-reader : (d : ℕ) (t m b : List ℕ) → Just (blockRead d t m b .answer) (blockTests d t m b)
+  pub sampler : (d i : ℕ) (t m s : List ℕ) → Just (sampleTaken d i t m s .answer) (samplerTests d i t m s)
+  pub sample-checker : (d i : ℕ) (root s : List ℕ) → Just (sampleChecked d i root s) (sampleTests d i root s)
+  pub repairer : (d : ℕ) (root table t m o : List ℕ) → Just (repairTested d root table t m o) (repairTests d root table t m o)

@@ -1,46 +1,61 @@
 -- What a C program reads from the one number that a call returns. The functions are those of include/cedunmi.h, by their arithmetic. Statements only.
 use mathlib.Core.Path.{_≡_}
 use mathlib.Core.Logic.{_≢_}
+use mathlib.Core.Bool.{true}
 use mathlib.Core.List.{List}
-use Prim.Native.Nat.{ℕ, _/_, _%_}
+use Prim.Native.Nat.{ℕ, _*_, _/_, _%_}
+use lib.ListN.{length}
 use lib.Dec.{eqb}
 use Rattle.octets.specs.Choice.{pick}
+use Rattle.sha256.specs.Call.{answer}
+use Rattle.house_table.specs.House.{houseWords, houseAnswer}
 use Rattle.model.specs.Repair.{End, working, whole, fault, unavailable, twins}
 use Rattle.repair.specs.declared.End.the-variants as report
 use Rattle.repair.specs.Reports.{endOf}
 use Rattle.calls.specs.declared.Answer.{Answer}
 use Rattle.calls.specs.declared.Answer.the-variants.{Done}
-use Rattle.calls.specs.Stops.{numberOf, valueOf}
+use Rattle.calls.specs.Stops.{numberOf, valuesOf}
+use Rattle.calls.specs.Tests.{readAnswer, admitted}
+use Rattle.fault_calls.specs.Checking.{proofChecked}
 use Rattle.fault_calls.specs.Repairing.{Result, RepairLeft, repairTested, repairOf, repaired}
-use Rattle.cedunmi_c.specs.Result.{callResult, repairResult, treeInC, blockInC, sampleInC, repairInC}
-use Rattle.volume_calls.specs.Writing.{TreeLeft}
-use Rattle.volume_calls.specs.Reading.{BlockLeft}
-use Rattle.sample_calls.specs.Taking.{SampleLeft}
+use Rattle.cedunmi_c.specs.Result.{hashAnswer, callResult, repairResult, treeInC, blockInC, sampleInC, repairInC}
+use Rattle.volume_calls.specs.Writing.{TreeLeft, treeWritten}
+use Rattle.volume_calls.specs.Reading.{BlockLeft, blockRead}
+use Rattle.sample_calls.specs.Taking.{SampleLeft, sampleTaken}
+use Rattle.sample_calls.specs.Checking.{sampleChecked}
 
--- cmt_number, cmt_value
+-- cmt_number, cmt_value, cmt_second_value
 abbrev pub cmtNumber : ℕ → ℕ
 cmtNumber r = r % 256
 
 abbrev pub cmtValue : ℕ → ℕ
-cmtValue r = r / 256
+cmtValue r = r / 256 % 16777216
+
+abbrev pub cmtSecondValue : ℕ → ℕ
+cmtSecondValue r = r / 4294967296
 
 -- cmt_repair_end, cmt_repair_stored, cmt_repair_proof_bytes, cmt_repair_layer
 abbrev pub cmtRepairEnd : ℕ → ℕ
-cmtRepairEnd r = r / 256 % 16777216
+cmtRepairEnd r = cmtValue r
 
 abbrev pub cmtRepairStored : ℕ → ℕ
-cmtRepairStored r = r / 4294967296 % 65536
+cmtRepairStored r = cmtSecondValue r % 65536
 
 abbrev pub cmtRepairProofBytes : ℕ → ℕ
-cmtRepairProofBytes r = pick (eqb (cmtRepairEnd r) 1) (r / 281474976710656) 0
+cmtRepairProofBytes r = pick (eqb (cmtRepairEnd r) 1) (cmtSecondValue r / 65536) 0
 
 abbrev pub cmtRepairLayer : ℕ → ℕ
-cmtRepairLayer r = pick (eqb (cmtRepairEnd r) 2) (r / 281474976710656) 0
+cmtRepairLayer r = pick (eqb (cmtRepairEnd r) 2) (cmtSecondValue r / 65536) 0
 
--- the number r says this number with this value
-pub record Says (r number value : ℕ) : Type 0 where
+-- the number r says this number with these values
+pub record Says (r number : ℕ) (values : ℕ × ℕ) : Type 0 where
   pub number-is : cmtNumber r ≡ number
-  pub value-is : cmtValue r ≡ value
+  pub value-is : cmtValue r ≡ values .0
+  pub second-is : cmtSecondValue r ≡ values .1
+
+-- the number that a call returns says what it answers
+abbrev pub SaysAnswer : Answer → Type 0
+SaysAnswer a = Says (callResult a) (numberOf a) (valuesOf a)
 
 -- the number r says this end of a repair: its number, the bytes of its proof, its layer
 pub record SaysEnd (r end bytes layer : ℕ) : Type 0 where
@@ -56,16 +71,24 @@ EndSaid r (unavailable j) = SaysEnd r 2 0 j
 EndSaid r (twins j x) = SaysEnd r 3 0 0
 EndSaid r working = ⊥
 
--- of every answer to every call, the hasher's and the reader's among them; the contract of each says that it returns this number
+-- of every call; the contract of each says that it returns this number
 pub record Results : Type 0 where
   -- the ends that `repair_tree` answers with, each with its numbers
   pub ends : (layer equation withheld size number : ℕ)
       → (endOf report.Whole ≡ whole) × (endOf (report.Fault layer equation withheld size) ≡ fault layer equation withheld size)
       × (endOf (report.Unavailable layer) ≡ unavailable layer) × (endOf (report.Twins layer number) ≡ twins layer number)
-  pub of-call : (a : Answer) → Says (callResult a) (numberOf a) (valueOf a)
+  pub of-hasher : (m digest : List ℕ) → SaysAnswer (hashAnswer (answer m digest))
+  pub of-table-check : (depth : ℕ) (table : List ℕ) → SaysAnswer (admitted depth true table)
+  pub of-house-table : (depth n : ℕ) → SaysAnswer (readAnswer (houseAnswer depth n (length (houseWords depth) * 4)))
+  pub of-tree-writer : (depth : ℕ) (table b t m root : List ℕ) → SaysAnswer (treeWritten depth table b t m root .answer)
+  pub of-block-reader : (depth : ℕ) (t m b : List ℕ) → SaysAnswer (blockRead depth t m b .answer)
+  pub of-sampler : (depth i : ℕ) (t m s : List ℕ) → SaysAnswer (sampleTaken depth i t m s .answer)
+  pub of-sample-checker : (depth i : ℕ) (root s : List ℕ) → SaysAnswer (sampleChecked depth i root s)
+  pub of-proof-checker : (depth : ℕ) (root table b : List ℕ) → SaysAnswer (proofChecked depth root table b)
   -- a repair that is refused, and one that came to its end
   pub of-refusal : (depth : ℕ) (root table t m o : List ℕ) → repairTested depth root table t m o ≢ Done
-      → Says (repairResult (repaired depth root table t m o .answer)) (numberOf (repairTested depth root table t m o)) (valueOf (repairTested depth root table t m o))
+      → Says (repairResult (repaired depth root table t m o .answer)) (numberOf (repairTested depth root table t m o))
+      (valuesOf (repairTested depth root table t m o))
   pub of-repair : (depth : ℕ) (root table t m o : List ℕ) → repairTested depth root table t m o ≡ Done
       → (cmtNumber (repairResult (repaired depth root table t m o .answer)) ≡ 0)
       × (cmtRepairStored (repairResult (repaired depth root table t m o .answer)) ≡ repairOf root table t m o .stored)

@@ -1,5 +1,6 @@
--- Parity tables in 01's own words and numbers: "Parity table". Definitions only.
+-- Parity tables in the papers' own words and numbers: 01, "Parity table", and 02, CR 1. Definitions only.
 use mathlib.Core.Path.{_≡_}
+use mathlib.Core.Logic.{_≢_}
 use mathlib.Core.List.{List, [], _∷_, _++_}
 use Prim.Native.Nat.{ℕ, suc, _+_, _-_, _*_, _≤_, _<_}
 use lib.ListN.{length, getD, take}
@@ -51,8 +52,29 @@ pub record FirstWrongWord (d : ℕ) (ws : List ℕ) (i : ℕ) : Type 0 where
   pub right-before : (n : ℕ) → n ≤ i → BeginsOne d (take n ws)
   pub wrong-there : i < length ws → BeginsOne d (take (suc i) ws) → ⊥
 
--- ---- "House table"
+-- ---- data symbols in equations: 02, CR 1
 
 -- x is one of the members
 abbrev pub IsMember : ℕ → List ℕ → Type 0
 IsMember x members = (q : ℕ) × (q < length members) × (getD members q 0 ≡ x)
+
+-- equation e of layer j is one of the table's, and has symbol i as a member
+abbrev pub Mentioned : List (List (List ℕ)) → ℕ → ℕ → ℕ → Type 0
+Mentioned tbl j i e = (e < 3 * dataSymbols j) × IsMember i (getD (getD tbl j []) e [])
+
+-- symbol i of layer j "is also a member of at least two equations of that layer"
+abbrev pub InTwoEquations : List (List (List ℕ)) → ℕ → ℕ → Type 0
+InTwoEquations tbl j i = (e : ℕ) × (f : ℕ) × (e ≢ f) × Mentioned tbl j i e × Mentioned tbl j i f
+
+-- "every data symbol of every layer" is
+abbrev pub AllInTwo : ℕ → List (List (List ℕ)) → Type 0
+AllInTwo d tbl = (j i : ℕ) → j < d → i < dataSymbols j → InTwoEquations tbl j i
+
+-- "the first such layer and its lowest such symbol": data symbol i of layer j is in one equation or in none; of the layers before it every data symbol is
+-- in two, and of its own every lower one
+pub record FirstNotInTwo (d : ℕ) (tbl : List (List (List ℕ))) (j i : ℕ) : Type 0 where
+  pub layer : j < d
+  pub data-symbol : i < dataSymbols j
+  pub one-or-none : (e f : ℕ) → Mentioned tbl j i e → Mentioned tbl j i f → e ≡ f
+  pub earlier : AllInTwo j tbl
+  pub lower : (x : ℕ) → x < i → InTwoEquations tbl j x

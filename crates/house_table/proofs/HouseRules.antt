@@ -99,6 +99,10 @@ pub house-rules : (d : ℕ) → TableOk d (houseTable d)
 unfolding houseTable
 house-rules d = layers-table d (houseLayers 0 d) (layers-count 0 d) (house-layers 0 d)
 
+pub house-words-of : (d : ℕ) → houseWords d ≡ tableWords (houseTable d)
+unfolding houseWords
+house-words-of d = refl
+
 pub house-formed : (d : ℕ) → WellFormed d (houseWords d)
 unfolding houseWords
 house-formed d = record { table = houseTable d; rules = house-rules d; written = refl }

@@ -16,7 +16,7 @@ use Rattle.table_bytes.specs.Bytes.{wordsOf}
 use Rattle.parity_table.specs.declared.Answer.{Answer as Read}
 use Rattle.house_table.proofs.HouseRules.{house-count, house-parsed}
 use Rattle.house_table.proofs.HouseParts.{answer-whole}
-use Rattle.house_table.proofs.HouseBytes.{house-bytes-words, house-bytes-accepted}
+use Rattle.house_table.proofs.HouseBytes.{house-bytes-words}
 use Rattle.model.specs.Shape.{tree, places}
 use Rattle.model.specs.Writer.{writeTree}
 use Rattle.symbol_hash.specs.SymbolHash.{symbolHash}
@@ -26,7 +26,7 @@ use Rattle.calls.specs.declared.Stop.the-variants.{Length}
 use Rattle.calls.specs.declared.Answer.{Answer}
 use Rattle.calls.specs.declared.Answer.the-variants.{Done, Stopped}
 use Rattle.calls.proofs.TestLaws.{stopped-not, no-length}
-use Rattle.calls.proofs.AdmissionLaws.{not-opened, refused, admits}
+use Rattle.calls.proofs.AdmissionLaws.{not-opened, by-begun, admits, house-taken}
 use Rattle.volume_calls.specs.Writing.{TreeLeft, leaves, writeSized, treeWritten}
 use Rattle.volume_calls.proofs.WritingLaws.{answer-is, when-done}
 use Rattle.listing.specs.Listing.{listing, coded, printed}
@@ -65,9 +65,9 @@ module _ (table b : List ℕ) (et : table ≡ house) where
       ap (λ (x : List ℕ). treeWritten 1 x b (lent 4096) (lent 16) (lent 512) .answer) et
       ∙ answer-is 1 house b (lent 4096) (lent 16) (lent 512)
       ∙ by-test (eqb (length b) 1024)
-      (λ y. sym (admits 1 sized house fits (yes-and y refl) (house-bytes-accepted 1 fits)) ∙ sym (pick-yes (eqb (length b) 1024) Done (Stopped Length) y))
+      (λ y. sym (admits 1 sized house (house-taken 1 fits) (yes-and y refl)) ∙ sym (pick-yes (eqb (length b) 1024) Done (Stopped Length) y))
       (λ n.
-      sym (refused 1 sized house Length (not-opened 1 sized house Length (no-length 1 sized fits (ap (λ (x : Bool). x && true) n))) [] [] .0)
+      sym (by-begun 1 sized house (Stopped Length) (not-opened 1 sized house Length (no-length 1 sized fits (ap (λ (x : Bool). x && true) n))) [] .0)
       ∙ sym (pick-no (eqb (length b) 1024) Done (Stopped Length) n))
 
   -- what the call answers, and the tree that it leaves
