@@ -6,10 +6,8 @@ use Prim.Native.Nat.{ℕ, _*_, _/_, _≤_, _<_, _^_}
 use native.Mathlib.Omega.{arith}
 use lib.ListN.{length, take, drop, length-take, length-drop, length-append}
 use lib.Seq.{take-at}
-use lib.Dec.{ltb}
-use borrow.Author.Tests.{ltb-true}
-use Rattle.octets.proofs.Choice.{by-test, pick-ind, and-yes, yes-and}
-use Rattle.parity_table.specs.Shape.{maxDepth, depthFits}
+use Rattle.octets.proofs.Choice.{by-test, and-yes, yes-and}
+use Rattle.parity_table.specs.Shape.{maxDepth, depthFits, kOf}
 use Rattle.parity_table.specs.declared.Answer.{Answer as Read}
 use Rattle.parity_table.specs.declared.Answer.the-variants as read
 use Rattle.table_bytes.specs.Bytes.{maxBytes, wordsOf, lengthFits}
@@ -28,8 +26,8 @@ use Rattle.parity_table.proofs.Accepts.{index-room, accepted-depth, accepted-ta
 use Rattle.parity_table.proofs.Shape.{depth-is, k-small}
 use Rattle.coverage.specs.declared.Coverage.{Coverage}
 use Rattle.coverage.specs.declared.Coverage.the-variants as coverage
-use Rattle.coverage.specs.Coverage.{firstThin, coverageOf}
-use Rattle.coverage.proofs.Right.{lowest-low, covered-found}
+use Rattle.coverage.specs.Coverage.{coverageOf}
+use Rattle.coverage.proofs.Right.{found-low, covered-found}
 use Rattle.model.specs.Shape.{tree}
 use Rattle.model.proofs.Tables.{TableLaws, table-laws}
 use Rattle.calls.specs.declared.Stop.{Stop}
@@ -210,20 +208,16 @@ small-read (read.Wrong i) w = record { first = w i refl; second = omega arith }
 small-read read.Whole w = small-plain refl
 
 -- a layer and a data symbol of a table of a depth that fits are low numbers
-small-cover : (d : ℕ) (tbl : List (List (List ℕ))) → d ≤ maxDepth → Small (coverAnswer (coverageOf d tbl))
-unfolding coverageOf
-small-cover d tbl h =
-    pick-ind (λ (c : Coverage). Small (coverAnswer c)) (ltb (firstThin d tbl) d)
-    (λ t.
-    let l : firstThin d tbl < d = ltb-true (firstThin d tbl) d t in
-    record { first = omega arith; second = omega (arith, lowest-low tbl (firstThin d tbl), k-small (firstThin d tbl) (omega arith)) })
-    (λ t. small-plain refl)
+small-cover : (d : ℕ) → d ≤ maxDepth → (c : Coverage) → ((j i : ℕ) → c ≡ coverage.Uncovered j i → (j < d) × (i ≤ kOf j)) → Small (coverAnswer c)
+small-cover d h coverage.Covered w = small-plain refl
+small-cover d h (coverage.Uncovered j i) w =
+    let (l, s) = w j i refl in record { first = omega arith; second = omega (arith, k-small j (omega arith)) }
 
 pub small-words : (d : ℕ) (ws : List ℕ) → length ws < 2 ^ 24 → Small (wordsTested d ws)
 small-words d ws h =
     small-then (readAnswer (readOf d ws)) (coverAnswer (coverageOf d (tableOf ws)))
     (small-read (readOf d ws) (λ i e. omega (arith, refused-wrong d ws i e .1 .within)))
-    (λ e. small-cover d (tableOf ws) (accepted-depth d ws (read-whole (readOf d ws) e) .1))
+    (λ e. small-cover d (accepted-depth d ws (read-whole (readOf d ws) e) .1) (coverageOf d (tableOf ws)) (found-low d (tableOf ws)))
 
 pub small-admitted : (d : ℕ) (sized : Bool) (table : List ℕ) → Small (admitted d sized table)
 small-admitted d sized table =

@@ -1,5 +1,5 @@
 -- The answer on a table's coverage is right, and no other is.
-use mathlib.Core.Path.{_≡_, refl, sym, ap₂, subst}
+use mathlib.Core.Path.{_≡_, refl, sym, ap, ap₂, subst}
 use mathlib.Core.Logic.{_≢_}
 use mathlib.Core.Bool.{true, false}
 use mathlib.Core.List.{List}
@@ -21,7 +21,7 @@ use Rattle.coverage.specs.Coverage.{times, lowestThin, hasThin, firstThi
 use Rattle.coverage.proofs.Times.{twice, two-equations}
 
 -- it is a data symbol, or their number
-pub lowest-low : (tbl : List (List (List ℕ))) (j : ℕ) → lowestThin tbl j ≤ kOf j
+lowest-low : (tbl : List (List (List ℕ))) (j : ℕ) → lowestThin tbl j ≤ kOf j
 unfolding lowestThin
 lowest-low tbl j = omega (arith, lowest-is (λ i. ltb (times i (layerOf tbl j)) 2) 0 (kOf j) .upto)
 
@@ -131,6 +131,18 @@ module _ (d : ℕ) (tbl : List (List (List ℕ))) where
   right-unique found.Covered (found.Uncovered j i) p q = absurd (not-covered j i q p)
   right-unique (found.Uncovered j i) found.Covered p q = absurd (not-covered j i p q)
   right-unique (found.Uncovered j i) (found.Uncovered l x) p q = let (e, f) = first-unique j i l x p q in ap₂ found.Uncovered e f
+
+-- ---- what is found is a layer of the table and a data symbol of it
+
+pub found-low : (d : ℕ) (tbl : List (List (List ℕ))) (j i : ℕ) → coverageOf d tbl ≡ found.Uncovered j i → (j < d) × (i ≤ kOf j)
+unfolding coverageOf
+found-low d tbl j i =
+    pick-ind (λ (c : Coverage). c ≡ found.Uncovered j i → (j < d) × (i ≤ kOf j)) (ltb (firstThin d tbl) d)
+    (λ t e.
+    let p : firstThin d tbl ≡ j = cc in
+    let q : lowestThin tbl (firstThin d tbl) ≡ i = cc in
+    (omega (arith, ltb-true (firstThin d tbl) d t), omega (arith, lowest-low tbl (firstThin d tbl), ap kOf p)))
+    (λ t e. let z : _≡_ {A = ℕ} 0 1 = cc in absurd (omega arith))
 
 -- ---- so a table that keeps the rules is found covered just when it is
 
