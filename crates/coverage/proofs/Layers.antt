@@ -1,5 +1,6 @@
 -- An accepted table, layer after layer: where a loop over its layers stands, and what a layer comes to.
-use mathlib.Core.Path.{_≡_, sym, ap, _∙_, subst}
+use mathlib.Core.Path.{_≡_, refl, sym, ap, _∙_, subst}
+use mathlib.Core.Bool.{true}
 use mathlib.Core.List.{List, [], _∷_, _++_, append-assoc}
 use Prim.Native.Nat.{ℕ, suc, _+_, _-_, _≤_, _<_, min}
 use native.Mathlib.Numerals.{add-one}
@@ -21,10 +22,10 @@ use Rattle.parity_table.proofs.Rules.{LayersOk, table-layers}
 use Rattle.parity_table.proofs.Shape.{k-low}
 use Rattle.model.specs.Symbols.{lowest}
 use Rattle.model.proofs.Counts.{lowest-same, lowest-hit, lowest-pass, lowest-none}
-use Rattle.coverage.specs.Counting.{Tally, tallied, tally, isThin, LayerCounted}
+use Rattle.coverage.specs.Counting.{endsLayer, hasEnd, Tally, tallied, tally, isThin, LayerCounted}
 use Rattle.coverage.specs.declared.Coverage.the-variants.{Covered, Uncovered}
 use Rattle.coverage.specs.Coverage.{times, lowestThin, hasThin, firstThin, coverageOf}
-use Rattle.coverage.proofs.Tallies.{ends-layer, ends-equation, Comes, Pass, pass-end, pass-equations}
+use Rattle.coverage.proofs.Tallies.{ends-layer, ends-equation, end-after, end-here, Comes, Pass, pass-end, pass-equations}
 
 -- a pass that begins with no symbol seen
 pub counted : (ws seen : List ℕ) (at k end low : ℕ) → end ≤ length ws → tallied seen (drop end ws) ≡ tally (replicate k 0) (drop at ws)
@@ -35,13 +36,36 @@ counted ws seen at k end low h e l = (
   l ∙ ap (λ (y : Tally). lowest (isThin (y .seen)) 0 (length (y .seen))) e,
 )
 
--- the words after a layer's equations: those of the next layer, or the end word
-after-layer : (n j : ℕ) (ls : List (List (List ℕ))) → j + length ls ≤ maxDepth
-    → Pass (layersWords j ls ++ (endWord n ∷ [])) (layersWords j ls ++ (endWord n ∷ [])) (λ i. 0)
+-- after a layer's equations stands the word that opens the next one, or the end word
+record Begins (X : List ℕ) : Type 0 where
+  opener : ℕ
+  more : List ℕ
+  are : X ≡ opener ∷ more
+  ends : endsLayer opener ≡ true
+
+after-layer : (n j : ℕ) (ls : List (List (List ℕ))) → j + length ls ≤ maxDepth → Begins (layersWords j ls ++ (endWord n ∷ []))
 unfolding layersWords
-after-layer n j [] h = pass-end (endWord n) [] (sym (ends-equation (endWord n) (omega arith)) ∙ le-leb (endWord 0) (endWord n) (omega arith))
+after-layer n j [] h =
+    record {
+      opener = endWord n;
+      more = [];
+      are = refl;
+      ends = sym (ends-equation (endWord n) (omega arith)) ∙ le-leb (endWord 0) (endWord n) (omega arith);
+    }
 after-layer n j (es ∷ ls) h =
-    pass-end (layerWord j) ((equationsWords 0 es ++ layersWords (suc j) ls) ++ (endWord n ∷ [])) (sym (ends-layer (layerWord j) (omega arith) (omega arith)))
+    record {
+      opener = layerWord j;
+      more = (equationsWords 0 es ++ layersWords (suc j) ls) ++ (endWord n ∷ []);
+      are = refl;
+      ends = sym (ends-layer (layerWord j) (omega arith) (omega arith));
+    }
+
+module _ (X : List ℕ) (b : Begins X) where
+  pass-none : Pass X X (λ i. 0)
+  pass-none = subst (λ (l : List ℕ). Pass l l (λ i. 0)) (sym (b .are)) (pass-end (b .opener) (b .more) (b .ends))
+
+  end-there : hasEnd X ≡ true
+  end-there = ap hasEnd (b .are) ∙ end-here (b .opener) (b .more) (b .ends)
 
 thin-same : (n t : ℕ) → n ≡ min 2 (0 + (t + 0)) → ltb n 2 ≡ ltb t 2
 thin-same n t e =
@@ -103,6 +127,15 @@ module _ (d : ℕ) (ws : List ℕ) (r : readOf d ws ≡ Whole) where
     equations-there : drop (at + 1) ws ≡ equationsWords 0 es ++ rest
     equations-there = sym (drop-drop 1 at ws) ∙ ap (drop 1) opened
 
+    rest-begins : Begins rest
+    rest-begins =
+        after-layer (length (layersWords 0 tbl)) (suc j) (drop (suc j) tbl)
+        (omega (arith, length-drop (suc j) tbl, ok .depth, accepted-depth d ws r .1))
+
+    -- and a word that ends it
+    pub layer-ends : hasEnd (drop (at + 1) ws) ≡ true
+    layer-ends = ap hasEnd equations-there ∙ end-after (equationsWords 0 es) rest (end-there rest rest-begins)
+
     rules-there : LayersOk j (es ∷ drop (suc j) tbl)
     rules-there = subst (LayersOk j) layer-there (s .rules)
 
@@ -120,8 +153,7 @@ module _ (d : ℕ) (ws : List ℕ) (r : readOf d ws ≡ Whole) where
     comes =
         let o = rules-there in
         pass-equations j 0 es rest rest (λ i. 0) known (o .1) (omega (arith, o .0))
-        (after-layer (length (layersWords 0 tbl)) (suc j) (drop (suc j) tbl)
-        (omega (arith, length-drop (suc j) tbl, ok .depth, accepted-depth d ws r .1)))
+        (pass-none rest rest-begins)
         none (omega (arith, none-length, k-low j known))
         (λ i h. omega (arith, none-seen i (omega (arith, none-length))))
 

@@ -1,11 +1,12 @@
 -- The pass over a layer's words: what each word does, and what the counts come to at its end.
 use mathlib.Core.Path.{_≡_, refl, sym, ap, _∙_, subst}
-use mathlib.Core.Bool.{Bool, true, false, not, _&&_}
+use mathlib.Core.Bool.{Bool, true, false, not, _&&_, false≢true}
 use mathlib.Core.List.{List, [], _∷_, _++_, append-assoc}
 use Prim.Native.Nat.{ℕ, suc, _+_, _*_, _≤_, _<_, min}
 use native.Mathlib.Nat.{zero-add}
 use native.Mathlib.Numerals.{add-one}
 use native.Mathlib.Omega.{arith}
+use native.Mathlib.Decide.{decLt}
 use lib.ListN.{length, getD, drop, set, length-set, drop-of-length-le}
 use lib.Seq.{drop-cons, getD-set-same, getD-set-other}
 use lib.Dec.{leb, ltb, eqb}
@@ -21,7 +22,7 @@ use Rattle.parity_table.proofs.Rules.{EquationsOk}
 use Rattle.parity_table.proofs.Shape.{k-small}
 use Rattle.model.specs.Symbols.{bit, count}
 use Rattle.model.proofs.Counts.{isIt}
-use Rattle.coverage.specs.Counting.{endsLayer, more, noted, Tally, tallied, tally, isThin}
+use Rattle.coverage.specs.Counting.{endsLayer, hasEnd, more, noted, Tally, tallied, tally, isThin}
 use Rattle.coverage.specs.Coverage.{times}
 
 -- ---- a word that ends a layer
@@ -44,6 +45,33 @@ ends-equation w h =
     (λ t.
     let l : w < endWord 0 = leb-false (endWord 0) w t in
     t ∙ sym (ap not (opens-yes w h l)) ∙ ends-high w (omega arith))
+
+-- where some word does, there is one
+pub end-inside : (ws : List ℕ) (i : ℕ) → hasEnd (drop i ws) ≡ true → i < length ws
+unfolding hasEnd
+end-inside ws i t =
+    elim (decLt i (length ws)) [
+      | yes h ↦ h
+      | no h ↦ absurd (false≢true (ap hasEnd (sym (drop-of-length-le ws {i = i} (omega arith))) ∙ t))
+    ]
+
+-- and where the first doesn't, a later one
+pub end-later : (ws : List ℕ) (i : ℕ) → hasEnd (drop i ws) ≡ true → endsLayer (getD ws i 0) ≡ false → hasEnd (drop (i + 1) ws) ≡ true
+unfolding hasEnd
+end-later ws i t f =
+    ap (λ (n : ℕ). hasEnd (drop n ws)) (add-one i)
+    ∙ sym (pick-no (endsLayer (getD ws i 0)) true (hasEnd (drop (suc i) ws)) f)
+    ∙ ap hasEnd (sym (drop-cons ws i 0 (end-inside ws i t)))
+    ∙ t
+
+pub end-after : (xs ys : List ℕ) → hasEnd ys ≡ true → hasEnd (xs ++ ys) ≡ true
+unfolding hasEnd
+end-after [] ys t = t
+end-after (x ∷ xs) ys t = pick-ind (λ (b : Bool). b ≡ true) (endsLayer x) (λ u. refl) (λ u. end-after xs ys t)
+
+pub end-here : (w : ℕ) (ws : List ℕ) → endsLayer w ≡ true → hasEnd (w ∷ ws) ≡ true
+unfolding hasEnd
+end-here w ws t = pick-yes (endsLayer w) true (hasEnd ws) t
 
 -- ---- one more
 
@@ -110,10 +138,6 @@ module _ (seen ws : List ℕ) (i : ℕ) where
       ap (λ (n : ℕ). tally (noted seen (getD ws i 0)) (drop n ws)) (add-one i)
       ∙ sym (pick-no (endsLayer (getD ws i 0)) (tallied seen (getD ws i 0 ∷ drop (suc i) ws)) (tally (noted seen (getD ws i 0)) (drop (suc i) ws)) t)
       ∙ ap (tally seen) (sym (drop-cons ws i 0 h))
-
-  pub tally-over : length ws ≤ i → tallied seen (drop i ws) ≡ tally seen (drop i ws)
-  unfolding tally
-  tally-over h = let e : drop i ws ≡ [] = drop-of-length-le ws h in ap (tallied seen) e ∙ ap (tally seen) (sym e)
 
 -- ---- the counts at the end of words of which c says how often each number is among them
 

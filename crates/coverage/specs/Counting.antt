@@ -1,6 +1,6 @@
 -- How a layer's data symbols are counted, in one pass over its words. Definitions only.
 use mathlib.Core.Path.{_≡_}
-use mathlib.Core.Bool.{Bool, not, _&&_}
+use mathlib.Core.Bool.{Bool, true, false, not, _&&_}
 use mathlib.Core.List.{List, [], _∷_}
 use Prim.Native.Nat.{ℕ, suc, _≤_}
 use lib.ListN.{length, getD, drop, set, replicate}
@@ -13,6 +13,11 @@ use Rattle.model.specs.Symbols.{lowest}
 -- a word that opens a layer, or the end word
 unfoldable pub endsLayer : ℕ → Bool
 endsLayer w = leb (layerWord 0) w && not (opensEquation w)
+
+-- some word does
+unfoldable pub hasEnd : List ℕ → Bool
+hasEnd [] = false
+hasEnd (w ∷ ws) = pick (endsLayer w) true (hasEnd ws)
 
 -- one more, but two stands for more than two
 unfoldable pub more : ℕ → ℕ

@@ -5,6 +5,7 @@ use parity_table::LAYER;
 use parity_table::MAX_DATA;
 use parity_table::data_count;
 ghost use mathlib.Core.Path.{_≡_};
+ghost use mathlib.Core.Bool.{true};
 ghost use Prim.Native.Nat.{_-_, _*_, _^_, _≤_};
 ghost use lib.ListN.{length, drop};
 ghost use Rattle.parity_table.specs.Shape.{maxDepth};
@@ -12,7 +13,7 @@ ghost use Rattle.parity_table.specs.Parse.{tableOf};
 ghost use Rattle.parity_table.specs.Reader.{readOf};
 ghost use Rattle.parity_table.specs.declared.Answer.the-variants.{Whole};
 ghost use Rattle.model.specs.Symbols.{lowest};
-ghost use Rattle.coverage.specs.Counting.{endsLayer, more as oneMore, noted, tally, tallied, isThin, LayerCounted};
+ghost use Rattle.coverage.specs.Counting.{endsLayer, hasEnd, more as oneMore, noted, tally, tallied, isThin, LayerCounted};
 ghost use Rattle.coverage.specs.Coverage.{coverageOf};
 
 // What is found of a table.
@@ -63,13 +64,13 @@ fn note(seen: &mut [u8], w: u32)
 
 // Counts the data symbols among the words from `at` on; where the layer ends.
 fn count_members(ws: &[u32], at: usize, seen: &mut [u8]) -> usize
-    requires { ⌜ at ≤ length (now ws) ⌝ }
+    requires { ⌜ hasEnd (drop at (now ws)) ≡ true ⌝ }
     ensures { λ r.
         ⌜ (r ≤ length (now (ws .entry)))
         × (tallied (now (seen .exit)) (drop r (now (ws .entry))) ≡ tally (now (seen .entry)) (drop at (now (ws .entry)))) ⌝ }
 {
     let mut end = at;
-    while end < ws.len() {
+    loop {
         let w = ws[end];
         if ends_layer(w) {
             return end;
@@ -77,7 +78,6 @@ fn count_members(ws: &[u32], at: usize, seen: &mut [u8]) -> usize
         note(seen, w);
         end += 1;
     }
-    end
 }
 
 // The lowest symbol that was seen fewer than two times; how many there are where none was.
@@ -94,7 +94,7 @@ fn first_thin(seen: &[u8]) -> usize
 
 // A layer's words from `at` on, counted in seen, which has an entry for each data symbol.
 fn tally_layer(ws: &[u32], at: usize, seen: &mut [u8]) -> Counted
-    requires { ⌜ at ≤ length (now ws) ⌝ }
+    requires { ⌜ hasEnd (drop at (now ws)) ≡ true ⌝ }
     ensures { λ r.
         ⌜ (r .end ≤ length (now (ws .entry)))
         × (tallied (now (seen .exit)) (drop (r .end) (now (ws .entry))) ≡ tally (now (seen .entry)) (drop at (now (ws .entry))))
@@ -107,7 +107,7 @@ fn tally_layer(ws: &[u32], at: usize, seen: &mut [u8]) -> Counted
 
 // A layer of k data symbols, whose equations stand from word `at` on.
 fn count_layer(ws: &[u32], at: usize, k: usize) -> Counted
-    requires { ⌜ (at ≤ length (now ws)) × (k ≤ 4 * 2 ^ (maxDepth - 1)) ⌝ }
+    requires { ⌜ (hasEnd (drop at (now ws)) ≡ true) × (k ≤ 4 * 2 ^ (maxDepth - 1)) ⌝ }
     ensures { λ r. ⌜ LayerCounted (now (ws .entry)) at k (r .end) (r .lowest) ⌝ }
 {
     let mut seen = [0u8; MAX_DATA];

@@ -8,7 +8,7 @@ use Rattle.parity_table.specs.Parse.{tableOf}
 use Rattle.parity_table.proofs.Shape.{k-low}
 use Rattle.coverage.specs.declared.Coverage.the-variants.{Uncovered}
 use Rattle.coverage.specs.Counting.{LayerCounted}
-use Rattle.coverage.proofs.Layers.{Stands, stands-first, known, past-opener, stands-next, lowest-there, From, from-first, thin-found, none-thin, all-covered}
+use Rattle.coverage.proofs.Layers.{Stands, stands-first, known, past-opener, layer-ends, stands-next, lowest-there, From, from-first, thin-found, none-thin, all-covered}
 use Rattle.coverage.proofs.check.Statement.{statement}
 use Rattle.coverage.proofs.check.Tie as tie
 
@@ -42,7 +42,7 @@ count-layer-requires c κs =
     let a = c .before .before .before .before .args in
     let l = c .before .before .loop in
     let t = c .before .loop-test .taken in (
-      past-opener (a .depth) (a .ws .now) (l .inv .0) (l .at) (l .j) (l .inv .2) t,
+      layer-ends (a .depth) (a .ws .now) (l .inv .0) (l .at) (l .j) (l .inv .2) t,
       omega (arith, c .data-count .ensures, k-low (l .j) (known (a .depth) (a .ws .now) (l .inv .0) (l .at) (l .j) (l .inv .2) t)),
     )
 
