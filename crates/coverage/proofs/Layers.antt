@@ -2,7 +2,7 @@
 use mathlib.Core.Path.{_≡_, refl, sym, ap, _∙_, subst}
 use mathlib.Core.Bool.{true}
 use mathlib.Core.List.{List, [], _∷_, _++_, append-assoc}
-use Prim.Native.Nat.{ℕ, suc, _+_, _-_, _≤_, _<_, min}
+use Prim.Native.Nat.{ℕ, suc, _+_, _-_, _≤_, _<_}
 use native.Mathlib.Numerals.{add-one}
 use native.Mathlib.Omega.{arith}
 use native.Mathlib.Decide.{decLt}
@@ -67,7 +67,7 @@ module _ (X : List ℕ) (b : Begins X) where
   end-there : hasEnd X ≡ true
   end-there = ap hasEnd (b .are) ∙ end-here (b .opener) (b .more) (b .ends)
 
-thin-same : (n t : ℕ) → n ≡ min 2 (0 + (t + 0)) → ltb n 2 ≡ ltb t 2
+thin-same : (n t : ℕ) → n ≡ 0 + (t + 0) → ltb n 2 ≡ ltb t 2
 thin-same n t e =
     elim (decLt t 2) [
       | yes h ↦ lt-ltb n 2 (omega arith) ∙ sym (lt-ltb t 2 h)
@@ -155,7 +155,6 @@ module _ (d : ℕ) (ws : List ℕ) (r : readOf d ws ≡ Whole) where
         pass-equations j 0 es rest rest (λ i. 0) known (o .1) (omega (arith, o .0))
         (pass-none rest rest-begins)
         none (omega (arith, none-length, k-low j known))
-        (λ i h. omega (arith, none-seen i (omega (arith, none-length))))
 
     abbrev seen : List ℕ
     seen = tally none (equationsWords 0 es ++ rest) .seen
@@ -168,7 +167,7 @@ module _ (d : ℕ) (ws : List ℕ) (r : readOf d ws ≡ Whole) where
     thin-there i h =
         thin-same (getD seen i 0) (times i es)
         (comes .counts i (omega (arith, none-length))
-        ∙ ap (λ (n : ℕ). min 2 (n + (times i es + 0))) (none-seen i h))
+        ∙ ap (λ (n : ℕ). n + (times i es + 0)) (none-seen i h))
 
     module _ (end low : ℕ) (c : LayerCounted ws (at + 1) (kOf j) end low) where
       pub stands-next : Stands end (j + 1)

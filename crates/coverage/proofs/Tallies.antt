@@ -2,7 +2,7 @@
 use mathlib.Core.Path.{_≡_, refl, sym, ap, _∙_, subst}
 use mathlib.Core.Bool.{Bool, true, false, not, _&&_, false≢true}
 use mathlib.Core.List.{List, [], _∷_, _++_, append-assoc}
-use Prim.Native.Nat.{ℕ, suc, _+_, _*_, _≤_, _<_, min}
+use Prim.Native.Nat.{ℕ, suc, _+_, _*_, _≤_, _<_}
 use native.Mathlib.Nat.{zero-add}
 use native.Mathlib.Numerals.{add-one}
 use native.Mathlib.Omega.{arith}
@@ -22,7 +22,7 @@ use Rattle.parity_table.proofs.Rules.{EquationsOk}
 use Rattle.parity_table.proofs.Shape.{k-small}
 use Rattle.model.specs.Symbols.{bit, count}
 use Rattle.model.proofs.Counts.{isIt}
-use Rattle.coverage.specs.Counting.{endsLayer, hasEnd, more, noted, Tally, tallied, tally, isThin}
+use Rattle.coverage.specs.Counting.{endsLayer, hasEnd, noted, Below, Tally, tallied, tally, isThin}
 use Rattle.coverage.specs.Coverage.{times}
 
 -- ---- a word that ends a layer
@@ -73,54 +73,53 @@ pub end-here : (w : ℕ) (ws : List ℕ) → endsLayer w ≡ true → hasEnd (w 
 unfolding hasEnd
 end-here w ws t = pick-yes (endsLayer w) true (hasEnd ws) t
 
--- ---- one more
-
-pub more-low : (n : ℕ) → n < 2 → n + 1 ≡ more n
-unfolding more
-more-low n h = sym (pick-yes (ltb n 2) (suc n) n (lt-ltb n 2 h) ∙ omega arith)
-
-pub more-high : (n : ℕ) → 2 ≤ n → n ≡ more n
-unfolding more
-more-high n h = sym (pick-no (ltb n 2) (suc n) n (le-ltb n 2 h))
-
-more-is : (n : ℕ) → n ≤ 2 → more n ≡ min 2 (n + 1)
-more-is n h =
-    by-test (ltb n 2) (λ t. omega (arith, more-low n (ltb-true n 2 t), ltb-true n 2 t)) (λ t. omega (arith, more-high n (ltb-false n 2 t), ltb-false n 2 t))
-
 -- ---- a word that is counted
 
 module _ (seen : List ℕ) (w : ℕ) where
-  pub noted-yes : w < length seen → set seen w (more (getD seen w 0)) ≡ noted seen w
+  pub noted-yes : w < length seen → set seen w (getD seen w 0 + 1) ≡ noted seen w
   unfolding noted
-  noted-yes h = sym (pick-yes (ltb w (length seen)) (set seen w (more (getD seen w 0))) seen (lt-ltb w (length seen) h))
+  noted-yes h = sym (pick-yes (ltb w (length seen)) (set seen w (getD seen w 0 + 1)) seen (lt-ltb w (length seen) h))
 
   pub noted-no : length seen ≤ w → seen ≡ noted seen w
   unfolding noted
-  noted-no h = sym (pick-no (ltb w (length seen)) (set seen w (more (getD seen w 0))) seen (le-ltb w (length seen) h))
+  noted-no h = sym (pick-no (ltb w (length seen)) (set seen w (getD seen w 0 + 1)) seen (le-ltb w (length seen) h))
 
   pub noted-length : length (noted seen w) ≡ length seen
   unfolding noted
-  noted-length = pick-ind (λ (l : List ℕ). length l ≡ length seen) (ltb w (length seen)) (λ t. length-set seen w (more (getD seen w 0))) (λ t. refl)
+  noted-length = pick-ind (λ (l : List ℕ). length l ≡ length seen) (ltb w (length seen)) (λ t. length-set seen w (getD seen w 0 + 1)) (λ t. refl)
 
-  -- an entry then has the count so far, the word with it, up to two
-  noted-at : (i : ℕ) → i < length seen → getD seen i 0 ≤ 2 → getD (noted seen w) i 0 ≡ min 2 (getD seen i 0 + bit (eqb w i))
-  noted-at i h low =
+  -- an entry then has the count so far, the word with it
+  noted-at : (i : ℕ) → i < length seen → getD (noted seen w) i 0 ≡ getD seen i 0 + bit (eqb w i)
+  noted-at i h =
       by-test (eqb w i)
       (λ t.
       let e : w ≡ i = eqb-true w i t in
       sym (ap (λ (l : List ℕ). getD l i 0) (noted-yes (omega arith)))
-      ∙ ap (λ (x : ℕ). getD (set seen x (more (getD seen x 0))) i 0) e
-      ∙ getD-set-same seen i (more (getD seen i 0)) 0 h
-      ∙ more-is (getD seen i 0) low
-      ∙ ap (λ (b : Bool). min 2 (getD seen i 0 + bit b)) (sym t))
+      ∙ ap (λ (x : ℕ). getD (set seen x (getD seen x 0 + 1)) i 0) e
+      ∙ getD-set-same seen i (getD seen i 0 + 1) 0 h
+      ∙ ap (λ (b : Bool). getD seen i 0 + bit b) (sym t))
       (λ t.
-      let n : getD seen i 0 ≡ min 2 (getD seen i 0 + bit (eqb w i)) = omega (arith, ap bit t) in
+      let n : getD seen i 0 ≡ getD seen i 0 + bit (eqb w i) = omega (arith, ap bit t) in
       by-test (ltb w (length seen))
       (λ u.
       sym (ap (λ (l : List ℕ). getD l i 0) (noted-yes (ltb-true w (length seen) u)))
-      ∙ getD-set-other seen w i (more (getD seen w 0)) 0 (λ q. eqb-false w i t (sym q))
+      ∙ getD-set-other seen w i (getD seen w 0 + 1) 0 (λ q. eqb-false w i t (sym q))
       ∙ n)
       (λ u. sym (ap (λ (l : List ℕ). getD l i 0) (noted-no (ltb-false w (length seen) u))) ∙ n))
+
+  -- so it is one more at most
+  pub noted-below : (n : ℕ) → Below seen n → Below (noted seen w) (n + 1)
+  noted-below n b i h =
+      by-test (eqb w i) (λ t. omega (arith, noted-at i (omega (arith, noted-length)), ap bit t, b i (omega (arith, noted-length))))
+      (λ t. omega (arith, noted-at i (omega (arith, noted-length)), ap bit t, b i (omega (arith, noted-length))))
+
+  -- a word that ends the layer is no data symbol's number
+  pub noted-end : length seen ≤ layerWord 0 → endsLayer w ≡ true → noted seen w ≡ seen
+  noted-end h t =
+      elim (decLt w (layerWord 0)) [
+        | yes l ↦ absurd (false≢true (ends-low w l ∙ t))
+        | no l ↦ sym (noted-no (omega arith))
+      ]
 
 -- ---- the pass, one turn of a loop
 
@@ -141,51 +140,50 @@ module _ (seen ws : List ℕ) (i : ℕ) where
 
 -- ---- the counts at the end of words of which c says how often each number is among them
 
--- from counts s: the pass ends at Y, and each entry has its count, up to two
+-- from counts s: the pass ends at Y, and each entry has its count
 pub record Comes (s X Y : List ℕ) (c : ℕ → ℕ) : Type 0 where
   pub rest-is : tally s X .rest ≡ Y
   pub as-long : length (tally s X .seen) ≡ length s
-  pub counts : (i : ℕ) → i < length s → getD (tally s X .seen) i 0 ≡ min 2 (getD s i 0 + c i)
+  pub counts : (i : ℕ) → i < length s → getD (tally s X .seen) i 0 ≡ getD s i 0 + c i
 
 -- whatever the counts were; openers are no data symbols
 abbrev pub Pass : List ℕ → List ℕ → (ℕ → ℕ) → Type 0
-Pass X Y c = (s : List ℕ) → length s ≤ layerWord 0 → ((i : ℕ) → i < length s → getD s i 0 ≤ 2) → Comes s X Y c
+Pass X Y c = (s : List ℕ) → length s ≤ layerWord 0 → Comes s X Y c
 
 pass-same : (X Y : List ℕ) (c e : ℕ → ℕ) → ((i : ℕ) → c i ≡ e i) → Pass X Y c → Pass X Y e
-pass-same X Y c e h p s n low =
-    let k = p s n low in
-    record { rest-is = k .rest-is; as-long = k .as-long; counts = λ i q. k .counts i q ∙ ap (λ (m : ℕ). min 2 (getD s i 0 + m)) (h i) }
+pass-same X Y c e h p s n =
+    let k = p s n in
+    record { rest-is = k .rest-is; as-long = k .as-long; counts = λ i q. k .counts i q ∙ ap (λ (m : ℕ). getD s i 0 + m) (h i) }
 
 pub pass-end : (w : ℕ) (X : List ℕ) → endsLayer w ≡ true → Pass (w ∷ X) (w ∷ X) (λ i. 0)
 unfolding tally
-pass-end w X t s n low =
+pass-end w X t s n =
     let e : tally s (w ∷ X) ≡ tallied s (w ∷ X) = pick-yes (endsLayer w) (tallied s (w ∷ X)) (tally (noted s w) X) t in
     record {
       rest-is = ap (λ (y : Tally). y .rest) e;
       as-long = ap (λ (y : Tally). length (y .seen)) e;
-      counts = λ i q. ap (λ (y : Tally). getD (y .seen) i 0) e ∙ omega (arith, low i q);
+      counts = λ i q. ap (λ (y : Tally). getD (y .seen) i 0) e ∙ omega arith;
     }
 
 pass-word : (w : ℕ) (X Y : List ℕ) (c : ℕ → ℕ) → endsLayer w ≡ false → Pass X Y c → Pass (w ∷ X) Y (λ i. bit (eqb w i) + c i)
 unfolding tally
-pass-word w X Y c t p s n low =
+pass-word w X Y c t p s n =
     let e : tally s (w ∷ X) ≡ tally (noted s w) X = pick-no (endsLayer w) (tallied s (w ∷ X)) (tally (noted s w) X) t in
     let l : length (noted s w) ≡ length s = noted-length s w in
-    let at : (i : ℕ) → i < length s → getD (noted s w) i 0 ≡ min 2 (getD s i 0 + bit (eqb w i)) = λ i q. noted-at s w i q (low i q) in
-    let k = p (noted s w) (omega arith) (λ i q. omega (arith, at i (omega arith))) in
+    let k = p (noted s w) (omega arith) in
     record {
       rest-is = ap (λ (y : Tally). y .rest) e ∙ k .rest-is;
       as-long = ap (λ (y : Tally). length (y .seen)) e ∙ k .as-long ∙ l;
-      counts = λ i q. ap (λ (y : Tally). getD (y .seen) i 0) e ∙ k .counts i (omega arith) ∙ omega (arith, at i q);
+      counts = λ i q. ap (λ (y : Tally). getD (y .seen) i 0) e ∙ k .counts i (omega arith) ∙ omega (arith, noted-at s w i q);
     }
 
 -- a word that is above every data symbol
 pass-opener : (w : ℕ) (X Y : List ℕ) (c : ℕ → ℕ) → layerWord 0 ≤ w → endsLayer w ≡ false → Pass X Y c → Pass (w ∷ X) Y c
 unfolding tally
-pass-opener w X Y c h t p s n low =
+pass-opener w X Y c h t p s n =
     let e : tally s (w ∷ X) ≡ tally s X =
     pick-no (endsLayer w) (tallied s (w ∷ X)) (tally (noted s w) X) t ∙ ap (λ (l : List ℕ). tally l X) (sym (noted-no s w (omega arith))) in
-    let k = p s n low in
+    let k = p s n in
     record {
       rest-is = ap (λ (y : Tally). y .rest) e ∙ k .rest-is;
       as-long = ap (λ (y : Tally). length (y .seen)) e ∙ k .as-long;

@@ -2,7 +2,7 @@
 use mathlib.Core.Path.{_≡_}
 use mathlib.Core.Bool.{Bool, true, false, not, _&&_}
 use mathlib.Core.List.{List, [], _∷_}
-use Prim.Native.Nat.{ℕ, suc, _≤_}
+use Prim.Native.Nat.{ℕ, _+_, _≤_, _<_}
 use lib.ListN.{length, getD, drop, set, replicate}
 use lib.Dec.{leb, ltb}
 use Rattle.octets.specs.Choice.{pick}
@@ -19,13 +19,13 @@ unfoldable pub hasEnd : List ℕ → Bool
 hasEnd [] = false
 hasEnd (w ∷ ws) = pick (endsLayer w) true (hasEnd ws)
 
--- one more, but two stands for more than two
-unfoldable pub more : ℕ → ℕ
-more n = pick (ltb n 2) (suc n) n
-
 -- word w is counted where it is the number of a data symbol, which has an entry
 unfoldable pub noted : List ℕ → ℕ → List ℕ
-noted seen w = pick (ltb w (length seen)) (set seen w (more (getD seen w 0))) seen
+noted seen w = pick (ltb w (length seen)) (set seen w (getD seen w 0 + 1)) seen
+
+-- no symbol was seen more than n times
+abbrev pub Below : List ℕ → ℕ → Type 0
+Below seen n = (i : ℕ) → i < length seen → getD seen i 0 ≤ n
 
 -- how often each data symbol was seen, and the words that are left
 pub record Tally : Type 0 where

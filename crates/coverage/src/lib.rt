@@ -13,7 +13,7 @@ ghost use Rattle.parity_table.specs.Parse.{tableOf};
 ghost use Rattle.parity_table.specs.Reader.{readOf};
 ghost use Rattle.parity_table.specs.declared.Answer.the-variants.{Whole};
 ghost use Rattle.model.specs.Symbols.{lowest};
-ghost use Rattle.coverage.specs.Counting.{endsLayer, hasEnd, more as oneMore, noted, tally, tallied, isThin, LayerCounted};
+ghost use Rattle.coverage.specs.Counting.{endsLayer, hasEnd, noted, Below, tally, tallied, isThin, LayerCounted};
 ghost use Rattle.coverage.specs.Coverage.{coverageOf};
 
 // What is found of a table.
@@ -42,46 +42,37 @@ fn ends_layer(w: u32) -> bool
     END <= w
 }
 
-// One more, but two stands for more than two.
-fn more(n: u8) -> u8
-    ensures { λ r. ⌜ r ≡ oneMore n ⌝ }
-{
-    if n < 2 {
-        return n + 1;
-    }
-    n
-}
-
-// Counts word w where it is the number of a data symbol: seen has an entry for each.
-fn note(seen: &mut [u8], w: u32)
-    ensures { λ r. ⌜ now (seen .exit) ≡ noted (now (seen .entry)) w ⌝ }
+// Counts word w where it is the number of a data symbol, seen having an entry for each; whether it ends the layer.
+fn note(seen: &mut [usize], w: u32) -> bool
+    requires { ⌜ (length (now seen) ≤ 2 ^ 30) × Below (now seen) (2 ^ 62) ⌝ }
+    ensures { λ r. ⌜ (r ≡ endsLayer w) × (now (seen .exit) ≡ noted (now (seen .entry)) w) ⌝ }
 {
     let i = w as usize;
     if i < seen.len() {
-        seen[i] = more(seen[i]);
+        seen[i] += 1;
+        return false;
     }
+    ends_layer(w)
 }
 
 // Counts the data symbols among the words from `at` on; where the layer ends.
-fn count_members(ws: &[u32], at: usize, seen: &mut [u8]) -> usize
-    requires { ⌜ hasEnd (drop at (now ws)) ≡ true ⌝ }
+fn count_members(ws: &[u32], at: usize, seen: &mut [usize]) -> usize
+    requires { ⌜ (hasEnd (drop at (now ws)) ≡ true) × (length (now seen) ≤ 2 ^ 30) × Below (now seen) at ⌝ }
     ensures { λ r.
         ⌜ (r ≤ length (now (ws .entry)))
         × (tallied (now (seen .exit)) (drop r (now (ws .entry))) ≡ tally (now (seen .entry)) (drop at (now (ws .entry)))) ⌝ }
 {
     let mut end = at;
     loop {
-        let w = ws[end];
-        if ends_layer(w) {
+        if note(seen, ws[end]) {
             return end;
         }
-        note(seen, w);
         end += 1;
     }
 }
 
 // The lowest symbol that was seen fewer than two times; how many there are where none was.
-fn first_thin(seen: &[u8]) -> usize
+fn first_thin(seen: &[usize]) -> usize
     ensures { λ r. ⌜ r ≡ lowest (isThin (now (seen .entry))) 0 (length (now (seen .entry))) ⌝ }
 {
     for i in 0..seen.len() {
@@ -93,8 +84,8 @@ fn first_thin(seen: &[u8]) -> usize
 }
 
 // A layer's words from `at` on, counted in seen, which has an entry for each data symbol.
-fn tally_layer(ws: &[u32], at: usize, seen: &mut [u8]) -> Counted
-    requires { ⌜ hasEnd (drop at (now ws)) ≡ true ⌝ }
+fn tally_layer(ws: &[u32], at: usize, seen: &mut [usize]) -> Counted
+    requires { ⌜ (hasEnd (drop at (now ws)) ≡ true) × (length (now seen) ≤ 2 ^ 30) × Below (now seen) at ⌝ }
     ensures { λ r.
         ⌜ (r .end ≤ length (now (ws .entry)))
         × (tallied (now (seen .exit)) (drop (r .end) (now (ws .entry))) ≡ tally (now (seen .entry)) (drop at (now (ws .entry))))
@@ -110,7 +101,7 @@ fn count_layer(ws: &[u32], at: usize, k: usize) -> Counted
     requires { ⌜ (hasEnd (drop at (now ws)) ≡ true) × (k ≤ 4 * 2 ^ (maxDepth - 1)) ⌝ }
     ensures { λ r. ⌜ LayerCounted (now (ws .entry)) at k (r .end) (r .lowest) ⌝ }
 {
-    let mut seen = [0u8; MAX_DATA];
+    let mut seen = [0usize; MAX_DATA];
     tally_layer(ws, at, &mut seen[..k])
 }
 

@@ -1,14 +1,14 @@
 -- `count_layer` meets its contract: no symbol is seen at first.
-use mathlib.Core.Path.{sym, ap, _∙_}
+use mathlib.Core.Path.{sym, ap, _∙_, subst}
 use mathlib.Core.List.{List}
 use Prim.Native.Nat.{ℕ, _-_, _*_, _^_}
 use native.Mathlib.Omega.{arith}
-use lib.ListN.{drop, replicate}
+use lib.ListN.{length, drop, replicate, length-replicate, getD-replicate}
 use lib.Seq.{length-take-le}
 use borrow.Author.Needs.{needs}
 use Rattle.octets.proofs.ListLaws.{front-zeros}
 use Rattle.parity_table.specs.Shape.{maxDepth}
-use Rattle.coverage.specs.Counting.{tally}
+use Rattle.coverage.specs.Counting.{Below, tally}
 use Rattle.coverage.proofs.Layers.{counted}
 use Rattle.coverage.proofs.count_layer.Statement.{statement}
 use Rattle.coverage.proofs.count_layer.Tie as tie
@@ -22,7 +22,14 @@ slice-aggregate-tally-layer c =
     sym (length-take-le (c .before .before .args .k) z (omega (arith, c .before .before .pre .1)))
 
 tally-layer-requires : tie.Need-tally-layer-requires
-tally-layer-requires c κs = search needs
+tally-layer-requires c κs =
+    let s = c .before .before in
+    let k = s .args .k in
+    let e = front-zeros (4 * 2 ^ (maxDepth - 1)) k (s .pre .1) in (
+      s .pre .0,
+      omega (arith, ap length e, length-replicate {A = ℕ} k 0, s .pre .1),
+      subst (λ (l : List ℕ). Below l (s .args .at)) (sym e) (λ i h. omega (arith, getD-replicate {A = ℕ} k i 0 0 (omega (arith, length-replicate {A = ℕ} k 0)))),
+    )
 
 returns : tie.Need-returns
 returns c =

@@ -22,6 +22,9 @@ loop-holds c =
     let z : length s - 0 ≡ length s = omega arith in
     (omega arith, refl, ap (lowest (isThin s) 0) z)
 
+mul-if1 : tie.Need-mul-if1 Inv-loop μ-loop
+mul-if1 c = omega arith
+
 shared-slice-read-if1 : tie.Need-shared-slice-read-if1 Inv-loop μ-loop
 shared-slice-read-if1 c = omega arith
 
@@ -55,6 +58,7 @@ first-thin-spec =
     Inv-loop
     μ-loop
     loop-holds
+    mul-if1
     shared-slice-read-if1
     returns
     add-i
