@@ -2,15 +2,16 @@
 use mathlib.Core.Path.{_≡_, refl, sym, ap, _∙_, subst}
 use mathlib.Core.Bool.{true}
 use mathlib.Core.List.{List, [], _∷_, _++_, append-assoc}
-use Prim.Native.Nat.{ℕ, suc, _+_, _-_, _≤_, _<_}
+use Prim.Native.Nat.{ℕ, suc, _+_, _-_, _≤_, _<_, _*_, _^_}
 use native.Mathlib.Numerals.{add-one}
 use native.Mathlib.Omega.{arith}
 use native.Mathlib.Decide.{decLt}
-use lib.ListN.{length, getD, drop, replicate, length-drop, length-replicate, getD-replicate}
-use lib.Seq.{drop-cons, drop-drop}
+use lib.ListN.{length, getD, take, drop, replicate, length-drop, length-replicate, getD-replicate}
+use lib.Seq.{drop-cons, drop-drop, take-length}
 use lib.Dec.{ltb}
 use borrow.Author.Tests.{lt-ltb, le-ltb, le-leb}
 use Rattle.octets.proofs.Choice.{pick-yes, pick-no}
+use Rattle.octets.proofs.ListLaws.{front-zeros}
 use Rattle.parity_table.specs.Shape.{maxDepth, kOf}
 use Rattle.parity_table.specs.declared.Answer.the-variants.{Whole}
 use Rattle.parity_table.specs.Reader.{readOf}
@@ -22,19 +23,41 @@ use Rattle.parity_table.proofs.Rules.{LayersOk, table-layers}
 use Rattle.parity_table.proofs.Shape.{k-low}
 use Rattle.model.specs.Symbols.{lowest}
 use Rattle.model.proofs.Counts.{lowest-same, lowest-hit, lowest-pass, lowest-none}
-use Rattle.coverage.specs.Counting.{endsLayer, hasEnd, Tally, tallied, tally, isThin, LayerCounted}
+use Rattle.coverage.specs.Counting.{endsLayer, hasEnd, Below, Tally, tallied, tally, isThin, LayerCounted}
 use Rattle.coverage.specs.declared.Coverage.the-variants.{Covered, Uncovered}
 use Rattle.coverage.specs.Coverage.{times, lowestThin, hasThin, firstThin, coverageOf}
 use Rattle.coverage.proofs.Tallies.{ends-layer, ends-equation, end-after, end-here, Comes, Pass, pass-end, pass-equations}
 
--- a pass that begins with no symbol seen
-pub counted : (ws seen : List ℕ) (at k end low : ℕ) → end ≤ length ws → tallied seen (drop end ws) ≡ tally (replicate k 0) (drop at ws)
-    → low ≡ lowest (isThin seen) 0 (length seen) → LayerCounted ws at k end low
-counted ws seen at k end low h e l = (
-  h,
-  ap (λ (y : Tally). y .rest) e,
-  l ∙ ap (λ (y : Tally). lowest (isThin (y .seen)) 0 (length (y .seen))) e,
-)
+-- ---- a pass that begins with no symbol seen
+
+pub none-below : (s : List ℕ) (n : ℕ) → s ≡ replicate (length s) 0 → Below s n
+none-below s n e i h = omega (arith, ap (λ (l : List ℕ). getD l i 0) e ∙ getD-replicate {A = ℕ} (length s) i 0 0 h)
+
+-- the entries of a layer's data symbols, of an array of zeros for the lowest
+module _ (j : ℕ) (hj : j < maxDepth) (seen : List ℕ) (e : seen ≡ replicate (4 * 2 ^ (maxDepth - 1)) 0) (k : ℕ) (ek : k ≡ kOf j) where
+  front : take k seen ≡ replicate k 0
+  front = ap (take k) e ∙ front-zeros (4 * 2 ^ (maxDepth - 1)) k (omega (arith, k-low j hj))
+
+  pub front-length : length (take k seen) ≡ kOf j
+  front-length = ap length front ∙ length-replicate {A = ℕ} k 0 ∙ ek
+
+  pub front-none : take k seen ≡ replicate (length (take k seen)) 0
+  front-none = front ∙ ap (λ (n : ℕ). replicate n 0) (sym (front-length ∙ sym ek))
+
+-- the pass, then the search
+pub counted : (ws s₀ seen : List ℕ) (at end low : ℕ) → s₀ ≡ replicate (length s₀) 0 → end ≤ length ws → tallied seen (drop end ws) ≡ tally s₀ (drop at ws)
+    → low ≡ lowest (isThin seen) 0 (length seen) → LayerCounted ws at (length s₀) end low
+counted ws s₀ seen at end low none h e l =
+    let p : tallied seen (drop end ws) ≡ tally (replicate (length s₀) 0) (drop at ws) = e ∙ ap (λ (s : List ℕ). tally s (drop at ws)) none in (
+      h,
+      ap (λ (y : Tally). y .rest) p,
+      l ∙ ap (λ (y : Tally). lowest (isThin (y .seen)) 0 (length (y .seen))) p,
+    )
+
+-- all is 0 again where the search finds none
+pub forgotten : (s₀ z : List ℕ) (low : ℕ) → s₀ ≡ replicate (length s₀) 0 → length z ≡ length s₀ → take low z ≡ replicate low 0 → low ≡ length s₀ → z ≡ s₀
+forgotten s₀ z low none n e l =
+    sym (take-length z) ∙ ap (λ (x : ℕ). take x z) (n ∙ sym l) ∙ e ∙ ap (λ (x : ℕ). replicate x 0) l ∙ sym none
 
 -- after a layer's equations stands the word that opens the next one, or the end word
 record Begins (X : List ℕ) : Type 0 where

@@ -18,12 +18,7 @@ use Rattle.model.proofs.Counts.{lowest-is}
 use Rattle.coverage.specs.declared.Coverage.{Coverage}
 use Rattle.coverage.specs.declared.Coverage.the-variants as found
 use Rattle.coverage.specs.Coverage.{times, lowestThin, hasThin, firstThin, coverageOf, Right}
-use Rattle.coverage.proofs.Times.{twice, two-equations}
-
--- it is a data symbol, or their number
-lowest-low : (tbl : List (List (List ℕ))) (j : ℕ) → lowestThin tbl j ≤ kOf j
-unfolding lowestThin
-lowest-low tbl j = omega (arith, lowest-is (λ i. ltb (times i (layerOf tbl j)) 2) 0 (kOf j) .upto)
+use Rattle.coverage.proofs.Times.{twice, two-equations, lowest-low}
 
 module _ (d : ℕ) (tbl : List (List (List ℕ))) (o : TableOk d tbl) where
   -- ---- a data symbol

@@ -8,7 +8,7 @@ use native.Mathlib.Numerals.{add-one}
 use native.Mathlib.Omega.{arith}
 use native.Mathlib.Decide.{decLt}
 use lib.ListN.{length, getD, drop, set, length-set, drop-of-length-le}
-use lib.Seq.{drop-cons, getD-set-same, getD-set-other}
+use lib.Seq.{drop-cons, getD-drop, getD-set-same, getD-set-other}
 use lib.Dec.{leb, ltb, eqb}
 use borrow.Author.Tests.{lt-ltb, le-ltb, ltb-true, ltb-false, le-leb, lt-leb, leb-true, leb-false, eqb-true, eqb-false}
 use Rattle.octets.proofs.Choice.{by-test, pick-yes, pick-no, pick-ind, and-yes}
@@ -223,3 +223,9 @@ thin-yes seen i h = lt-ltb (getD seen i 0) 2 h
 pub thin-no : (seen : List ℕ) (i : ℕ) → 2 ≤ getD seen i 0 → isThin seen i ≡ false
 unfolding isThin
 thin-no seen i h = le-ltb (getD seen i 0) 2 h
+
+-- lists that are the same from element i on have the same one there
+pub same-there : (a b : List ℕ) (i : ℕ) → drop i a ≡ drop i b → getD a i 0 ≡ getD b i 0
+same-there a b i e =
+    let z : i + 0 ≡ i = omega arith in
+    ap (λ (n : ℕ). getD a n 0) (sym z) ∙ sym (getD-drop i a 0 0) ∙ ap (λ (l : List ℕ). getD l 0 0) e ∙ getD-drop i b 0 0 ∙ ap (λ (n : ℕ). getD b n 0) z

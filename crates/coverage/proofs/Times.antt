@@ -9,8 +9,11 @@ use native.Mathlib.Decide.{decLt}
 use lib.ListN.{length, getD}
 use Rattle.parity_table.specs.Members.{ascending, IsMember}
 use Rattle.model.specs.Symbols.{count}
-use Rattle.model.proofs.Counts.{isIt, ascending-once, counted-member, member-counted}
-use Rattle.coverage.specs.Coverage.{times}
+use Rattle.model.proofs.Counts.{isIt, ascending-once, counted-member, member-counted, lowest-is}
+use Rattle.parity_table.specs.Shape.{kOf}
+use Rattle.parity_table.specs.Table.{layerOf}
+use lib.Dec.{ltb}
+use Rattle.coverage.specs.Coverage.{times, lowestThin}
 
 -- number i is a member of equation e of these
 abbrev In : ℕ → List (List ℕ) → ℕ → Type 0
@@ -68,3 +71,10 @@ two-equations i (ms ∷ es) a h =
           let (e, f, l, (p, m), (q, n)) = two-equations i es (later ms es a) (omega arith) in
           (suc e, suc f, omega arith, (omega arith, m), (omega arith, n))
     ]
+
+-- ---- the lowest symbol in fewer than two
+
+-- it is a data symbol, or their number
+pub lowest-low : (tbl : List (List (List ℕ))) (j : ℕ) → lowestThin tbl j ≤ kOf j
+unfolding lowestThin
+lowest-low tbl j = omega (arith, lowest-is (λ i. ltb (times i (layerOf tbl j)) 2) 0 (kOf j) .upto)

@@ -6,9 +6,8 @@ use parity_table::MAX_DATA;
 use parity_table::data_count;
 ghost use mathlib.Core.Path.{_≡_};
 ghost use mathlib.Core.Bool.{true};
-ghost use Prim.Native.Nat.{_-_, _*_, _^_, _≤_};
-ghost use lib.ListN.{length, drop};
-ghost use Rattle.parity_table.specs.Shape.{maxDepth};
+ghost use Prim.Native.Nat.{_^_, _≤_};
+ghost use lib.ListN.{length, take, drop, replicate};
 ghost use Rattle.parity_table.specs.Parse.{tableOf};
 ghost use Rattle.parity_table.specs.Reader.{readOf};
 ghost use Rattle.parity_table.specs.declared.Answer.the-variants.{Whole};
@@ -71,38 +70,31 @@ fn count_members(ws: &[u32], at: usize, seen: &mut [usize]) -> usize
     }
 }
 
-// The lowest symbol that was seen fewer than two times; how many there are where none was.
-fn first_thin(seen: &[usize]) -> usize
-    ensures { λ r. ⌜ r ≡ lowest (isThin (now (seen .entry))) 0 (length (now (seen .entry))) ⌝ }
+// The lowest symbol that was seen fewer than two times; how many there are where none was. What was seen of those before it is forgotten.
+fn first_thin(seen: &mut [usize]) -> usize
+    ensures { λ r.
+        ⌜ (r ≡ lowest (isThin (now (seen .entry))) 0 (length (now (seen .entry))))
+        × (take r (now (seen .exit)) ≡ replicate r 0) × (drop r (now (seen .exit)) ≡ drop r (now (seen .entry))) ⌝ }
 {
     for i in 0..seen.len() {
         if seen[i] < 2 {
             return i;
         }
+        seen[i] = 0;
     }
     seen.len()
 }
 
-// A layer's words from `at` on, counted in seen, which has an entry for each data symbol.
-fn tally_layer(ws: &[u32], at: usize, seen: &mut [usize]) -> Counted
-    requires { ⌜ (hasEnd (drop at (now ws)) ≡ true) × (length (now seen) ≤ 2 ^ 30) × Below (now seen) at ⌝ }
+// A layer whose equations stand from word `at` on, counted in seen, which has an entry for each data symbol: 0, and 0 again where none is found.
+fn count_layer(ws: &[u32], at: usize, seen: &mut [usize]) -> Counted
+    requires { ⌜ (hasEnd (drop at (now ws)) ≡ true) × (length (now seen) ≤ 2 ^ 30) × (now seen ≡ replicate (length (now seen)) 0) ⌝ }
     ensures { λ r.
-        ⌜ (r .end ≤ length (now (ws .entry)))
-        × (tallied (now (seen .exit)) (drop (r .end) (now (ws .entry))) ≡ tally (now (seen .entry)) (drop at (now (ws .entry))))
-        × (r .lowest ≡ lowest (isThin (now (seen .exit))) 0 (length (now (seen .exit)))) ⌝ }
+        ⌜ LayerCounted (now (ws .entry)) at (length (now (seen .entry))) (r .end) (r .lowest)
+        × (r .lowest ≡ length (now (seen .entry)) → now (seen .exit) ≡ now (seen .entry)) ⌝ }
 {
     let end = count_members(ws, at, seen);
     let lowest = first_thin(seen);
     Counted { end, lowest }
-}
-
-// A layer of k data symbols, whose equations stand from word `at` on.
-fn count_layer(ws: &[u32], at: usize, k: usize) -> Counted
-    requires { ⌜ (hasEnd (drop at (now ws)) ≡ true) × (k ≤ 4 * 2 ^ (maxDepth - 1)) ⌝ }
-    ensures { λ r. ⌜ LayerCounted (now (ws .entry)) at k (r .end) (r .lowest) ⌝ }
-{
-    let mut seen = [0usize; MAX_DATA];
-    tally_layer(ws, at, &mut seen[..k])
 }
 
 // The coverage of a table of this depth.
@@ -110,10 +102,11 @@ pub fn check(ws: &[u32], depth: usize) -> Coverage
     requires { ⌜ readOf depth (now ws) ≡ Whole ⌝ }
     ensures { λ r. ⌜ r ≡ coverageOf depth (tableOf (now (ws .entry))) ⌝ }
 {
+    let mut seen = [0usize; MAX_DATA];
     let mut at: usize = 0;
     for j in 0..depth {
         let k = data_count(j);
-        let l = count_layer(ws, at + 1, k);
+        let l = count_layer(ws, at + 1, &mut seen[..k]);
         let symbol = l.lowest;
         if symbol < k {
             return Coverage::Uncovered { layer: j, symbol };
