@@ -126,7 +126,7 @@ static int explain(uint64_t result, const char *accepted)
         fprintf(stderr, ", first wrong word %llu", (unsigned long long)cmt_value(result));
     }
     if (status == CMT_UNCOVERED) {
-        fprintf(stderr, ": page %llu of layer %llu is the first such", (unsigned long long)cmt_second_value(result),
+        fprintf(stderr, ": page %llu of layer %llu, counted in that layer, is the first such", (unsigned long long)cmt_second_value(result),
                 (unsigned long long)cmt_value(result));
     }
     fputc('\n', stderr);

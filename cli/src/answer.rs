@@ -197,7 +197,7 @@ mod tests {
             (Stop::Absent { number: 4 }, "a needed page is absent: number 4"),
             (
                 Stop::Uncovered { layer: 2, symbol: 5 },
-                "a data page stands in fewer than two equations of its layer: page 5 of layer 2 is the first such",
+                "a data page stands in fewer than two equations of its layer: page 5 of layer 2, counted in that layer, is the first such",
             ),
         ];
         for (number, (stop, line)) in (1..).zip(stops) {

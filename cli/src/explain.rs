@@ -15,7 +15,7 @@ const TO_DO: &[(u8, &str)] = &[
     (7, "turn it down, unless depth and root are not the manual's: it is damaged, or of another volume"),
     (8, "turn the proof down: the volume stays in the catalogue"),
     (9, "bring that page, or repair the tree"),
-    (10, "put that page into more equations, or take the house table; a volume already coded by this one is read by cedunmi read --unverified, and coded again"),
+    (10, "contributor: put that page into at least two equations of its layer, or take the house table. Shop: ask for the volume coded anew; until then cedunmi read --unverified copies its pages, unchecked, if none of its data pages is lost"),
     (DAMAGED, "mend the tree by cedunmi repair"),
     (31, "see that depth, root and table are the manual's; then send the proof to others, who strike the volume by it"),
     (32, "bring some of the missing pages from other shops, mark them, and repair again"),

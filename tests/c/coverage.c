@@ -120,9 +120,9 @@ static int others_come_first(void)
     right &= all_stop(CMT_WRONG_TABLE);
     right &= lent(2, 1, 2) && cmt_table_check(2, volume.table, bytes - 1) == CMT_WRONG_LENGTH;
     right &= volume_check(&volume, CMT_PROOF_HEAD_BYTES - 1) == CMT_WRONG_LENGTH;
-    volume.depth = 0;
     return right && cmt_table_check(0, volume.table, bytes) == CMT_WRONG_DEPTH &&
-           volume_repair(&volume) == CMT_WRONG_DEPTH;
+           cmt_repair(0, volume.root, sizeof volume.root, volume.table, bytes, volume.tree, sizeof volume.tree, volume.marks,
+                      sizeof volume.marks, volume.output, sizeof volume.output) == CMT_WRONG_DEPTH;
 }
 
 int main(void)

@@ -70,7 +70,7 @@ def test_uncovered_tables(room):
             holds = [e for e, members in enumerate(by_hand.equations_of(slurp("thin"))[layer])
                      if page in members]
             said = room.refused(10, "check-table", depth, "thin")
-            said.says(": page %d of layer %d is the first such (number 10: " % (page, layer))
+            said.says(": page %d of layer %d, counted in that layer, is the first such (number 10: " % (page, layer))
             said.says("cedunmi: thin has it in equation %d alone: " % holds[0] if holds else
                       "cedunmi: thin has it in no equation: ")
             need(len(holds) < 2 and said.err.count(b"\n") == 2, str(said))
@@ -96,7 +96,7 @@ def test_uncovered_everywhere(room):
                   ("check-proof", 2, "root", "thin", "proof")):
         said = room.refused(10, *words).says(
             "cedunmi: a data page stands in fewer than two equations of its layer: "
-            "page 5 of layer 1 is the first such (number 10: cedunmi explain 10)\n")
+            "page 5 of layer 1, counted in that layer, is the first such (number 10: cedunmi explain 10)\n")
         said.says("cedunmi: thin has it in equation 4 alone: ")
         short = tuple("short" if word == "thin" else word for word in words)
         room.refused(3, *short).says("word 180 ")

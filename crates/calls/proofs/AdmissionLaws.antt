@@ -2,7 +2,7 @@
 use mathlib.Core.Path.{_≡_, refl, sym, ap, ap₂, _∙_, subst}
 use mathlib.Core.Bool.{Bool, true, false, _&&_}
 use mathlib.Core.List.{List}
-use Prim.Native.Nat.{ℕ, _*_, _/_, _≤_, _<_, _^_}
+use Prim.Native.Nat.{ℕ, _/_, _≤_, _<_, _^_}
 use native.Mathlib.Omega.{arith}
 use lib.ListN.{length, take, drop, length-take, length-drop, length-append}
 use lib.Seq.{take-at}
@@ -10,24 +10,17 @@ use Rattle.octets.proofs.Choice.{by-test, and-yes, yes-and}
 use Rattle.parity_table.specs.Shape.{maxDepth, depthFits, kOf}
 use Rattle.parity_table.specs.declared.Answer.{Answer as Read}
 use Rattle.parity_table.specs.declared.Answer.the-variants as read
-use Rattle.table_bytes.specs.Bytes.{maxBytes, wordsOf, lengthFits}
-use Rattle.table_bytes.proofs.RoundTrip.{table-bytes-fit, table-bytes-accepted, table-bytes-say}
-use Rattle.house_table.specs.House.{houseTable, houseWords}
-use Rattle.house_table.proofs.HouseRules.{house-rules, house-words-of}
-use Rattle.house_table.proofs.HouseBytes.{house-short}
-use Rattle.house_table.proofs.HouseCovered.{house-covered}
-use Rattle.octets.specs.BigEndian.{bytesOf}
-use Rattle.parity_table.specs.Table.{TableOk, tableWords}
+use Rattle.table_bytes.specs.Bytes.{wordsOf, lengthFits}
 use Rattle.parity_table.specs.Coverage.{Covered}
 use Rattle.parity_table.specs.Parse.{Indexed, indexOf, over, tableOf, equationsAbove}
 use Rattle.parity_table.specs.Reader.{readOf}
 use Rattle.table_bytes.proofs.ByteForm.{words-front, wordsOf-length, quarter-most}
 use Rattle.parity_table.proofs.Accepts.{index-room, accepted-depth, accepted-table, refused-wrong}
-use Rattle.parity_table.proofs.Shape.{depth-is, k-small}
+use Rattle.parity_table.proofs.Shape.{k-small}
 use Rattle.coverage.specs.declared.Coverage.{Coverage}
 use Rattle.coverage.specs.declared.Coverage.the-variants as coverage
 use Rattle.coverage.specs.Coverage.{coverageOf}
-use Rattle.coverage.proofs.Right.{found-low, covered-found}
+use Rattle.coverage.proofs.Right.{found-low}
 use Rattle.model.specs.Shape.{tree}
 use Rattle.model.proofs.Tables.{TableLaws, table-laws}
 use Rattle.calls.specs.declared.Stop.{Stop}
@@ -167,23 +160,6 @@ pub admits : (d : ℕ) (sized : Bool) (table : List ℕ) → TableTaken d table 
 admits d sized table k q =
     ap₂ (λ (a b : Answer). a then b) (opens d (sized && lengthFits (length table)) (k .deep) (yes-and q (k .length-fits)))
     (ap₂ (λ (r : Read) (x : Coverage). readAnswer r then coverAnswer x) (sym (k .accepted)) (sym (k .covered)))
-
--- a table by the rules that is covered and not too long is taken, as bytes
-pub taken-table : (d : ℕ) (tbl : List (List (List ℕ))) → depthFits d ≡ true → TableOk d tbl → Covered d tbl → length (tableWords tbl) * 4 ≤ maxBytes
-    → TableTaken d (bytesOf (tableWords tbl))
-taken-table d tbl t o c short =
-    record {
-      deep = t;
-      length-fits = table-bytes-fit d tbl o t short;
-      accepted = table-bytes-accepted d tbl o t short;
-      covered = ap (coverageOf d) (table-bytes-say d tbl o t short) ∙ covered-found d tbl o c;
-    }
-
--- .. and so is the house table
-pub house-taken : (d : ℕ) → depthFits d ≡ true → TableTaken d (bytesOf (houseWords d))
-house-taken d t =
-    subst (λ (ws : List ℕ). TableTaken d (bytesOf ws)) (sym (house-words-of d))
-    (taken-table d (houseTable d) t (house-rules d) (house-covered d) (house-short d (depth-is d t .1)))
 
 -- a test of lengths that looks at the depth too
 pub admitted-sized : (d : ℕ) (s w : Bool) (table : List ℕ) → s ≡ (depthFits d && w) → admitted d s table ≡ admitted d w table

@@ -2,3 +2,4 @@ pub mod MarkLaws
 pub mod LengthLaws
 pub mod TestLaws
 pub mod AdmissionLaws
+pub mod Taken

@@ -1,4 +1,4 @@
-// What a call answers, and the tests that calls share, in the order of their list.
+// What a call answers, and the tests that calls share.
 mod admission; // 1, 2: depth, lengths; then a table's tests
 mod base; // 5: the number of a base symbol
 mod lengths; // 2: the lengths of a tree and its marks

@@ -5,6 +5,7 @@ use crate::Stop;
 ghost use mathlib.Core.Path.{_≡_};
 ghost use Rattle.calls.specs.Stops.{numberOf, valuesOf};
 
+// A number with its values, 0 for one that it hasn't.
 fn with(number: usize, first: usize, second: usize) -> Numbers
     ensures { λ r. ⌜ (r .number ≡ number) × (r .first ≡ first) × (r .second ≡ second) ⌝ }
 {

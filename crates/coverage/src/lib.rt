@@ -54,8 +54,8 @@ fn note(seen: &mut [usize], w: u32) -> bool
     ends_layer(w)
 }
 
-// Counts the data symbols among the words from `at` on; where the layer ends.
-fn count_members(ws: &[u32], at: usize, seen: &mut [usize]) -> usize
+// Counts the data symbols among the words from `at` to the layer's end; where that is.
+fn count_to_end(ws: &[u32], at: usize, seen: &mut [usize]) -> usize
     requires { ⌜ (hasEnd (drop at (now ws)) ≡ true) × (length (now seen) ≤ 2 ^ 30) × Below (now seen) at ⌝ }
     ensures { λ r.
         ⌜ (r ≤ length (now (ws .entry)))
@@ -92,7 +92,7 @@ fn count_layer(ws: &[u32], at: usize, seen: &mut [usize]) -> Counted
         ⌜ LayerCounted (now (ws .entry)) at (length (now (seen .entry))) (r .end) (r .lowest)
         × (r .lowest ≡ length (now (seen .entry)) → now (seen .exit) ≡ now (seen .entry)) ⌝ }
 {
-    let end = count_members(ws, at, seen);
+    let end = count_to_end(ws, at, seen);
     let lowest = first_thin(seen);
     Counted { end, lowest }
 }

@@ -37,7 +37,7 @@ module _ (d : ℕ) (root table b : List ℕ) where
   abbrev found : Verdict
   found = verdict tree (symbolHash Plain) root (tableOf (wordsOf table)) b
 
-  -- once tests 1, 2 and 3 have passed, the verdict decides
+  -- once tests 1, 2, 3 and 10 have passed, the verdict decides
   pub judged-so : Done ≡ admitted d (proofSized (length root) (length b)) table → judged found ≡ proofChecked d root table b
   unfolding proofChecked
   judged-so e = ap (λ (a : Answer). a then judged found) e

@@ -53,7 +53,7 @@ four-ways d root table t m o e = ended-so d root table t m o (formed d root tabl
 
 -- ---- a fault
 
--- a proof of at least 12 bytes passes tests 1, 2 and 3 for the same root and table
+-- a proof of at least 12 bytes passes tests 1, 2, 3 and 10 for the same root and table
 proof-admitted : (d : ℕ) (root table t m o : List ℕ) → Formed d root table t m o → (b : List ℕ) → 12 ≤ length b
     → Done ≡ admitted d (proofSized (length root) (length b)) table
 proof-admitted d root table t m o k b l =

@@ -20,7 +20,8 @@ use Rattle.model.specs.Shape.{tree, place, places}
 use Rattle.model.specs.Symbols.{symbolIn, symAt}
 use Rattle.model.specs.Fault.{proofLength, proofLayer, proofEquation, proofMembers}
 use Rattle.model.proofs.Sound.{accepted-is}
-use Rattle.calls.proofs.AdmissionLaws.{house-taken, table-laws-of}
+use Rattle.calls.proofs.AdmissionLaws.{table-laws-of}
+use Rattle.calls.proofs.Taken.{house-taken}
 use Rattle.fault_calls.proofs.CheckingLaws.{passed}
 use Rattle.guarantees.specs.Terms.{equationsOf}
 use Rattle.guarantees.specs.Cases.{coded, EveryCall, Depths, Has, Longest, Stands, none, _also_, CasesHold}

@@ -17,7 +17,8 @@ use Rattle.house_table.proofs.HouseCovered.{house-covered}
 use Rattle.calls.specs.declared.Answer.{Answer}
 use Rattle.calls.specs.declared.Answer.the-variants.{Done}
 use Rattle.calls.specs.Stops.{numberOf, valuesOf}
-use Rattle.calls.proofs.AdmissionLaws.{admits, house-taken}
+use Rattle.calls.proofs.AdmissionLaws.{admits}
+use Rattle.calls.proofs.Taken.{house-taken}
 use Rattle.volume_calls.specs.Writing.{writeSized}
 use Rattle.fault_calls.specs.Checking.{proofSized}
 use Rattle.fault_calls.specs.Repairing.{repairSized}

@@ -18,7 +18,7 @@ use Rattle.house_table.proofs.HouseRules.{house-rules, house-members}
 use Rattle.parity_table.proofs.Parse.{formed-rules, formed-words}
 use Rattle.house_table.proofs.HouseBytes.{house-bytes-words}
 use Rattle.guarantees.specs.Tables.{IsMember}
-use Rattle.guarantees.specs.Terms.{equationsOf}
+use Rattle.parity_table.specs.Parse.{tableOf}
 use Rattle.guarantees.specs.House.{WordsOf, HouseMember, HouseTable}
 use Rattle.guarantees.proofs.Layouts.{word-at}
 use Rattle.guarantees.proofs.Tables.{ok-rules, listed-words, right-formed}
@@ -90,10 +90,10 @@ unfolding houseWords layerOf equationOf kOf
 house-table =
     record {
       words-of = words-of;
-      equations-of = λ d table (some, few) r.
-          let f = right-formed d (wordsOf table) r in (
-            ok-rules d (equationsOf table) (formed-rules d (wordsOf table) f few),
-            formed-words d (wordsOf table) f few ∙ sym (listed-words (equationsOf table)),
+      equations-of = λ d ws (some, few) r.
+          let f = right-formed d ws r in (
+            ok-rules d (tableOf ws) (formed-rules d ws f few),
+            formed-words d ws f few ∙ sym (listed-words (tableOf ws)),
           );
       by-rules = λ d. ok-rules d (houseTable d) (house-rules d);
       members-are = λ d j e x hj he.

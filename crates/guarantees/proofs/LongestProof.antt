@@ -40,7 +40,8 @@ use Rattle.model.proofs.FaultWriter.{GoodProof, proof-good}
 use Rattle.model.proofs.Sound.{accepted-is}
 use Rattle.calls.specs.declared.Answer.the-variants.{Done}
 use Rattle.fault_calls.specs.Checking.{proofSized, judged, proofChecked}
-use Rattle.calls.proofs.AdmissionLaws.{TableTaken, admits, taken-table}
+use Rattle.calls.proofs.AdmissionLaws.{TableTaken, admits}
+use Rattle.calls.proofs.Taken.{taken-table}
 use Rattle.fault_calls.proofs.CheckingLaws.{judged-so}
 use Rattle.guarantees.specs.Terms.{equationsOf}
 use Rattle.guarantees.specs.Cases.{AreBytes, AcceptedOf}

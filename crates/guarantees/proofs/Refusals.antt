@@ -1,4 +1,4 @@
--- Every call answers as its tests say: with which number and value, and just when.
+-- Every call answers as its tests say: with which number and values, and just when.
 use mathlib.Core.Path.{_≡_, refl, sym, ap, ap₂, _∙_, subst}
 use mathlib.Core.Logic.{_≢_}
 use mathlib.Core.Bool.{Bool, true, false, not, _&&_, true≢false}

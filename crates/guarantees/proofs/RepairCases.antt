@@ -37,7 +37,8 @@ use Rattle.volume_calls.specs.Writing.{TreeLeft, writeSized, treeWritten}
 use Rattle.fault_calls.specs.Repairing.{repairSized, repairTested, repairOf, repairedBy, repaired, ended}
 use Rattle.calls.specs.Tests.{_then_}
 use Rattle.calls.proofs.TestLaws.{marks-right}
-use Rattle.calls.proofs.AdmissionLaws.{TableTaken, admits, house-taken}
+use Rattle.calls.proofs.AdmissionLaws.{TableTaken, admits}
+use Rattle.calls.proofs.Taken.{house-taken}
 use Rattle.volume_calls.proofs.WritingLaws.{answer-is, when-done}
 use Rattle.guarantees.specs.Terms.{equationsOf}
 use Rattle.guarantees.specs.Trees.{AgreesWith}

@@ -1,9 +1,9 @@
 -- What a C program reads from the number that a call returns is what the call answered.
 use mathlib.Core.Path.{_≡_, refl, sym, _∙_}
 use mathlib.Core.Logic.{_≢_}
-use mathlib.Core.Bool.{true}
+use mathlib.Core.Bool.{true, false}
 use mathlib.Core.List.{List}
-use Prim.Native.Nat.{ℕ, _+_, _*_, _/_, _^_, _<_}
+use Prim.Native.Nat.{ℕ, _+_, _*_, _/_, _%_, _^_, _<_}
 use native.Mathlib.Omega.{arith}
 use lib.ListN.{length}
 use lib.Dec.{eqb}
@@ -35,7 +35,8 @@ use Rattle.fault_calls.specs.Repairing.{repairTested, repairOf, repairedBy, rep
 use Rattle.fault_calls.proofs.Ends.{repair-fits, four-ways}
 use Rattle.cedunmi_c.specs.Result.{packed, repairResult}
 use Rattle.guarantees.specs.Terms.{equationsOf}
-use Rattle.guarantees.specs.Results.{cmtNumber, cmtSecondValue, cmtRepairEnd, cmtRepairStored, Says, SaysAnswer, EndSaid, Results}
+use Rattle.guarantees.proofs.Refusals.{done-only}
+use Rattle.guarantees.specs.Results.{cmtNumber, cmtValue, cmtSecondValue, cmtRepairEnd, cmtRepairStored, Says, SaysAnswer, SaysNoEnd, EndSaid, Results}
 
 -- a number below 256, with a value above it and a second one above that, each in its bits
 says : (n : ℕ) (v : ℕ × ℕ) → n < 256 → v .0 < 2 ^ 24 → v .1 < 2 ^ 32 → Says (packed n v) n v
@@ -59,6 +60,19 @@ of-refusal : (a : Answer) (st : St) (t m o : List ℕ) → Small a → a ≢ Don
 of-refusal Done st t m o s n = absurd (n refl)
 of-refusal (Stopped w) st t m o s n = said (Stopped w) s
 
+no-end : (a : Answer) (st : St) (t m o : List ℕ) → Small a → a ≢ Done → SaysNoEnd (repairResult (repairedBy a st t m o .answer))
+no-end a st t m o s n =
+    let r : ℕ = repairResult (repairedBy a st t m o .answer) in
+    let stopped : eqb (cmtNumber r) 0 ≡ false =
+    ne-eqb (cmtNumber r) 0 (λ q. n (done-only a (sym (of-refusal a st t m o s n .number-is) ∙ q))) in
+    let e : cmtRepairEnd r ≡ 16777216 = pick-no (eqb (cmtNumber r) 0) (cmtValue r) 16777216 stopped in
+    record {
+      end-none = e;
+      stored-none = pick-no (eqb (cmtNumber r) 0) (cmtSecondValue r % 65536) 0 stopped;
+      bytes-none = pick-no (eqb (cmtRepairEnd r) 1) (cmtSecondValue r / 65536) 0 (ne-eqb (cmtRepairEnd r) 1 (λ q. omega arith));
+      layer-none = pick-no (eqb (cmtRepairEnd r) 2) (cmtSecondValue r / 65536) 0 (ne-eqb (cmtRepairEnd r) 2 (λ q. omega arith));
+    }
+
 -- an end's number, the symbols stored and the end's value, each in its bits
 module _ (e s v : ℕ) (he : e < 4) (hs : s < 2 ^ 16) (hv : v < 2 ^ 16) where
   abbrev r : ℕ
@@ -67,11 +81,14 @@ module _ (e s v : ℕ) (he : e < 4) (hs : s < 2 ^ 16) (hv : v < 2 ^ 16) where
   no-number : cmtNumber r ≡ 0
   no-number = omega arith
 
+  has-end : eqb (cmtNumber r) 0 ≡ true
+  has-end = eq-eqb (cmtNumber r) 0 no-number
+
   end-is : cmtRepairEnd r ≡ e
-  end-is = omega arith
+  end-is = pick-yes (eqb (cmtNumber r) 0) (cmtValue r) 16777216 has-end ∙ omega arith
 
   stored-is : cmtRepairStored r ≡ s
-  stored-is = omega arith
+  stored-is = pick-yes (eqb (cmtNumber r) 0) (cmtSecondValue r % 65536) 0 has-end ∙ omega arith
 
   value-is : cmtSecondValue r / 65536 ≡ v
   value-is = omega arith
@@ -157,6 +174,8 @@ results =
       of-proof-checker = λ depth root table b. said _ (small-checked depth root table b);
       of-refusal = λ depth root table t m o.
           of-refusal (repairTested depth root table t m o) (repairOf root table t m o) t m o (small-repair depth root table t m o);
+      no-end = λ depth root table t m o.
+          no-end (repairTested depth root table t m o) (repairOf root table t m o) t m o (small-repair depth root table t m o);
       of-repair = λ depth root table t m o e.
           repair-said depth root table t m o (repairTested depth root table t m o) refl e (repair-fits depth root table t m o);
       tree-in-c = λ w. (refl, refl, refl, refl);

@@ -58,7 +58,7 @@ pub record Repairer (root table t m o : List ℕ) (a : Answer) (w : RepairLeft R
 -- ---- every public call; the two checks of a table, the sample check and the proof check only read
 
 pub record Demand1 : Type 0 where
-  -- bad input is found and named: which number and value, and just when
+  -- bad input is found and named: which number and values, and just when
   pub refusals : Refusals
   pub proof-checker : ProofCheckerAnswers
   -- every lent buffer

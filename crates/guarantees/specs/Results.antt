@@ -36,10 +36,10 @@ cmtSecondValue r = r / 4294967296
 
 -- cmt_repair_end, cmt_repair_stored, cmt_repair_proof_bytes, cmt_repair_layer
 abbrev pub cmtRepairEnd : ℕ → ℕ
-cmtRepairEnd r = cmtValue r
+cmtRepairEnd r = pick (eqb (cmtNumber r) 0) (cmtValue r) 16777216
 
 abbrev pub cmtRepairStored : ℕ → ℕ
-cmtRepairStored r = cmtSecondValue r % 65536
+cmtRepairStored r = pick (eqb (cmtNumber r) 0) (cmtSecondValue r % 65536) 0
 
 abbrev pub cmtRepairProofBytes : ℕ → ℕ
 cmtRepairProofBytes r = pick (eqb (cmtRepairEnd r) 1) (cmtSecondValue r / 65536) 0
@@ -62,6 +62,13 @@ pub record SaysEnd (r end bytes layer : ℕ) : Type 0 where
   pub end-is : cmtRepairEnd r ≡ end
   pub bytes-are : cmtRepairProofBytes r ≡ bytes
   pub layer-is : cmtRepairLayer r ≡ layer
+
+-- it says that the repair has no end
+pub record SaysNoEnd (r : ℕ) : Type 0 where
+  pub end-none : cmtRepairEnd r ≡ 16777216
+  pub stored-none : cmtRepairStored r ≡ 0
+  pub bytes-none : cmtRepairProofBytes r ≡ 0
+  pub layer-none : cmtRepairLayer r ≡ 0
 
 -- "The ends are: whole, fault, unavailable, twins"; "a fault [..] reports the proof's length"; "unavailable" is "with this layer"
 abbrev pub EndSaid : ℕ → End → Type 0
@@ -89,6 +96,7 @@ pub record Results : Type 0 where
   pub of-refusal : (depth : ℕ) (root table t m o : List ℕ) → repairTested depth root table t m o ≢ Done
       → Says (repairResult (repaired depth root table t m o .answer)) (numberOf (repairTested depth root table t m o))
       (valuesOf (repairTested depth root table t m o))
+  pub no-end : (depth : ℕ) (root table t m o : List ℕ) → repairTested depth root table t m o ≢ Done → SaysNoEnd (repairResult (repaired depth root table t m o .answer))
   pub of-repair : (depth : ℕ) (root table t m o : List ℕ) → repairTested depth root table t m o ≡ Done
       → (cmtNumber (repairResult (repaired depth root table t m o .answer)) ≡ 0)
       × (cmtRepairStored (repairResult (repaired depth root table t m o .answer)) ≡ repairOf root table t m o .stored)

@@ -1,1 +1,1 @@
-// The buyer's demands and 01's starred cases as statements, in `specs/`, with their proofs in `proofs/`. There is no code here.
+// The buyer's demands, 01's starred cases and the change requests as statements, in `specs/`, with their proofs in `proofs/`. There is no code here.

@@ -1,4 +1,4 @@
--- The house table as bytes: they go back to its words, and are accepted.
+-- The house table as bytes: they go back to its words, and are few enough for a table from C.
 use mathlib.Core.Path.{_≡_}
 use Prim.Native.Nat.{ℕ, _*_, _≤_}
 use native.Mathlib.Omega.{arith}

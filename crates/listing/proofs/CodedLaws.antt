@@ -26,7 +26,8 @@ use Rattle.calls.specs.declared.Stop.the-variants.{Length}
 use Rattle.calls.specs.declared.Answer.{Answer}
 use Rattle.calls.specs.declared.Answer.the-variants.{Done, Stopped}
 use Rattle.calls.proofs.TestLaws.{stopped-not, no-length}
-use Rattle.calls.proofs.AdmissionLaws.{not-opened, by-begun, admits, house-taken}
+use Rattle.calls.proofs.AdmissionLaws.{not-opened, by-begun, admits}
+use Rattle.calls.proofs.Taken.{house-taken}
 use Rattle.volume_calls.specs.Writing.{TreeLeft, leaves, writeSized, treeWritten}
 use Rattle.volume_calls.proofs.WritingLaws.{answer-is, when-done}
 use Rattle.listing.specs.Listing.{listing, coded, printed}

@@ -104,7 +104,7 @@ module _ (tbl : List (List (List ℕ))) where
 
 -- ---- the checker
 
--- what a proof is found to be, once it has 12 bytes and the table is well-formed
+-- what a proof is found to be, once it has 12 bytes and the table is taken
 pub data Verdict : Type 0 where
   accepted : Verdict
   wrongHead : Verdict

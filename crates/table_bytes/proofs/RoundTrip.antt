@@ -84,6 +84,13 @@ words-bytes ws s =
     let n : length (bytesOf ws) / 4 ≡ length ws = omega (arith, length-bytesOf ws) in
     ap (words (bytesOf ws)) n ∙ words-of ws (length ws) s (omega arith) ∙ take-length ws
 
+-- as bytes they have a length that fits, where they are not too many
+pub bytes-fit : (ws : List ℕ) → length ws * 4 ≤ maxBytes → lengthFits (length (bytesOf ws)) ≡ true
+unfolding lengthFits
+bytes-fit ws h =
+    let n = length-bytesOf ws in
+    yes-and (le-leb (length (bytesOf ws)) maxBytes (omega arith)) (eq-eqb (length (bytesOf ws) % 4) 0 (omega arith))
+
 -- ---- the words of a table are of 32 bits
 
 pub every-append : (p : ℕ → Bool) (xs ys : List ℕ) → every p xs ≡ true → every p ys ≡ true → every p (xs ++ ys) ≡ true
@@ -128,10 +135,7 @@ module _ (d : ℕ) (tbl : List (List (List ℕ))) (o : TableOk d tbl) (t : depth
   table-word = table-words d tbl o (depth-is d t .1) (omega arith)
 
   pub table-bytes-fit : lengthFits (length (bytesOf (tableWords tbl))) ≡ true
-  unfolding lengthFits
-  table-bytes-fit =
-      let n = length-bytesOf (tableWords tbl) in
-      yes-and (le-leb (length (bytesOf (tableWords tbl))) maxBytes (omega arith)) (eq-eqb (length (bytesOf (tableWords tbl)) % 4) 0 (omega arith))
+  table-bytes-fit = bytes-fit (tableWords tbl) short
 
   pub table-bytes-accepted : readOf d (wordsOf (bytesOf (tableWords tbl))) ≡ Whole
   table-bytes-accepted =

@@ -1,4 +1,4 @@
-//! Tables: well-formed ones or none; and lengths to write one in.
+//! Tables: well-formed ones, covered or not, or none; and lengths to write one in.
 
 use super::Target;
 use differential::input::Input;

@@ -1,4 +1,4 @@
--- `count_members` meets its contract. The loop keeps: the pass from here on comes to what all of it comes to, and some word ends the layer; no symbol
+-- `count_to_end` meets its contract. The loop keeps: the pass from here on comes to what all of it comes to, and some word ends the layer; no symbol
 -- was seen more often than there were words.
 use mathlib.Core.Path.{_≡_, refl, sym, ap, _∙_, subst}
 use mathlib.Core.Bool.{true}
@@ -8,8 +8,8 @@ use native.Mathlib.Omega.{arith}
 use lib.ListN.{length, getD, drop}
 use Rattle.coverage.specs.Counting.{hasEnd, Below, tallied, tally}
 use Rattle.coverage.proofs.Tallies.{end-inside, end-later, noted-length, noted-below, noted-end, tally-end, tally-on}
-use Rattle.coverage.proofs.count_members.Statement.{statement}
-use Rattle.coverage.proofs.count_members.Tie as tie
+use Rattle.coverage.proofs.count_to_end.Statement.{statement}
+use Rattle.coverage.proofs.count_to_end.Tie as tie
 
 abbrev Inv-loop : tie.InvT-loop
 Inv-loop ws at seen₀ end₀ seen end =
@@ -75,8 +75,8 @@ loop-again c =
       ap (λ (x : List ℕ). tally x (drop (l .end + 1) ws)) (n .1) ∙ tally-on (l .seen) ws (l .end) (end-inside ws (l .end) (l .inv .0)) t ∙ l .inv .3,
     )
 
-pub count-members-spec : {M : Type 1} → statement M
-count-members-spec =
+pub count-to-end-spec : {M : Type 1} → statement M
+count-to-end-spec =
     tie.close
     (tie.spec
     Inv-loop
