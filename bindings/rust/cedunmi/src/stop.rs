@@ -73,7 +73,10 @@ impl fmt::Display for Stop {
             Stop::WrongMark { place } => write!(f, ": that of page {place} is the lowest such"),
             Stop::Absent { number } => write!(f, ": number {number}"),
             Stop::Uncovered { layer, symbol } => {
-                write!(f, ": page {symbol} of layer {layer}, counted in that layer, is the first such")
+                write!(
+                    f,
+                    ": page {symbol} of layer {layer}, counted in that layer, is the first such"
+                )
             }
             Stop::Unknown { result } => write!(f, ": {result:#x}"),
             _ => Ok(()),
