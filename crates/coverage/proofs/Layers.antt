@@ -90,13 +90,6 @@ module _ (X : List ℕ) (b : Begins X) where
   end-there : hasEnd X ≡ true
   end-there = ap hasEnd (b .are) ∙ end-here (b .opener) (b .more) (b .ends)
 
-thin-same : (n t : ℕ) → n ≡ 0 + (t + 0) → ltb n 2 ≡ ltb t 2
-thin-same n t e =
-    elim (decLt t 2) [
-      | yes h ↦ lt-ltb n 2 (omega arith) ∙ sym (lt-ltb t 2 h)
-      | no h ↦ le-ltb n 2 (omega arith) ∙ sym (le-ltb t 2 (omega arith))
-    ]
-
 module _ (d : ℕ) (ws : List ℕ) (r : readOf d ws ≡ Whole) where
   abbrev tbl : List (List (List ℕ))
   tbl = tableOf ws
@@ -188,9 +181,8 @@ module _ (d : ℕ) (ws : List ℕ) (r : readOf d ws ≡ Whole) where
     thin-there : (i : ℕ) → i < kOf j → isThin seen i ≡ ltb (times i es) 2
     unfolding isThin
     thin-there i h =
-        thin-same (getD seen i 0) (times i es)
-        (comes .counts i (omega (arith, none-length))
-        ∙ ap (λ (n : ℕ). n + (times i es + 0)) (none-seen i h))
+        let e : getD seen i 0 ≡ times i es = omega (arith, comes .counts i (omega (arith, none-length)), none-seen i h) in
+        ap (λ (n : ℕ). ltb n 2) e
 
     module _ (end low : ℕ) (c : LayerCounted ws (at + 1) (kOf j) end low) where
       pub stands-next : Stands end (j + 1)
