@@ -63,6 +63,23 @@ fn make_with(
     Ok(())
 }
 
+/// A data symbol of a layer: in no equation, in one, in two.
+fn none_one_two(
+    c: &mut Comparisons,
+    name: &str,
+    input: &mut Input,
+    depth: usize,
+    (layer, symbol): (usize, usize),
+) -> Compared {
+    for times in 0..=2 {
+        let mut layers = some_equations(depth, &mut c.random);
+        use_times(&mut layers[layer], &[symbol], times, &mut c.random);
+        let few = (times < 2).then_some((layer, symbol));
+        make_with(c, name, input, &layers, few)?;
+    }
+    Ok(())
+}
+
 /// The first, a middle and the last data symbol of each layer: in no equation, in
 /// one, in two.
 fn few_equations(c: &mut Comparisons, depth: usize) -> Compared {
@@ -71,12 +88,7 @@ fn few_equations(c: &mut Comparisons, depth: usize) -> Compared {
         let layer = turn % depth;
         let k = data_symbols(layer);
         for symbol in [0, k / 2, k - 1] {
-            for times in 0..=2 {
-                let mut layers = some_equations(depth, &mut c.random);
-                use_times(&mut layers[layer], &[symbol], times, &mut c.random);
-                let few = (times < 2).then_some((layer, symbol));
-                make_with(c, "a symbol in few equations", &mut input, &layers, few)?;
-            }
+            none_one_two(c, "a symbol in few equations", &mut input, depth, (layer, symbol))?;
         }
     }
     Ok(())
@@ -178,12 +190,13 @@ pub fn every_symbol(c: &mut Comparisons) -> Compared {
         let mut input = c.good(depth);
         for layer in 0..depth {
             for symbol in 0..data_symbols(layer) {
-                for times in 0..=2 {
-                    let mut layers = some_equations(depth, &mut c.random);
-                    use_times(&mut layers[layer], &[symbol], times, &mut c.random);
-                    let few = (times < 2).then_some((layer, symbol));
-                    make_with(c, "each symbol in few equations", &mut input, &layers, few)?;
-                }
+                none_one_two(
+                    c,
+                    "each symbol in few equations",
+                    &mut input,
+                    depth,
+                    (layer, symbol),
+                )?;
             }
         }
     }
