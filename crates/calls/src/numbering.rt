@@ -28,7 +28,7 @@ fn of_stop(s: Stop) -> Numbers
         Stop::Mark(p) => with(4, p, 0),
         Stop::Number => with(5, 0, 0),
         Stop::Head => with(6, 0, 0),
-        Stop::Hash => with(7, 0, 0),
+        Stop::Hash { layer, position } => with(7, layer, position),
         Stop::NoFault => with(8, 0, 0),
         Stop::Absent(x) => with(9, x, 0),
         Stop::Uncovered { layer, symbol } => with(10, layer, symbol),

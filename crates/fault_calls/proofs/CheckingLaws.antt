@@ -3,23 +3,27 @@ use mathlib.Core.Path.{_≡_, refl, ap}
 use mathlib.Core.Bool.{true}
 use mathlib.Core.List.{List}
 use Prim.Native.Nat.{ℕ, _≤_}
+use native.Mathlib.Omega.{arith}
 use lib.ListN.{length}
 use lib.Dec.{leb}
 use borrow.Author.Tests.{eqb-true, leb-true}
 use Rattle.octets.proofs.Choice.{and-yes}
 use Rattle.table_bytes.specs.Bytes.{wordsOf}
 use Rattle.parity_table.specs.Parse.{tableOf}
+use Rattle.parity_table.proofs.Accepts.{accepted-depth, accepted-table}
 use Rattle.symbol_hash.specs.SymbolHash.{symbolHash}
 use Rattle.symbol_hash.specs.declared.Kind.the-variants.{Plain}
 use Rattle.model.specs.Shape.{tree}
-use Rattle.model.specs.Fault.{Verdict, accepted, wrongHead, wrongLength, broken, noFault, verdict}
+use Rattle.model.specs.Fault.{proofLayer, proofEquation, proofWithheld, proofMembers, proofGiven, Verdict, accepted, wrongHead, wrongLength, broken, noFault, verdict}
+use Rattle.model.proofs.Counts.{length-others}
+use Rattle.model.proofs.Sound.{broken-inside}
 use Rattle.calls.specs.declared.Answer.{Answer}
 use Rattle.calls.specs.declared.Answer.the-variants.{Done}
 use Rattle.calls.specs.Lengths.{rootSized}
 use Rattle.calls.specs.Tests.{_then_, admitted}
 use Rattle.calls.specs.Stops.{Small}
 use Rattle.calls.proofs.TestLaws.{stopped-not, then-done, small-plain, small-then}
-use Rattle.calls.proofs.AdmissionLaws.{Admitted, admission, small-admitted}
+use Rattle.calls.proofs.AdmissionLaws.{TableTaken, Admitted, admission, table-laws-of, small-admitted}
 use Rattle.fault_calls.specs.Checking.{proofSized, judged, proofChecked}
 
 -- the lengths, where their test passes
@@ -30,7 +34,7 @@ done-judged : (v : Verdict) → judged v ≡ Done → v ≡ accepted
 done-judged accepted e = refl
 done-judged wrongHead e = absurd (stopped-not _ e)
 done-judged wrongLength e = absurd (stopped-not _ e)
-done-judged (broken j) e = absurd (stopped-not _ e)
+done-judged (broken l p) e = absurd (stopped-not _ e)
 done-judged noFault e = absurd (stopped-not _ e)
 
 module _ (d : ℕ) (root table b : List ℕ) where
@@ -53,16 +57,21 @@ module _ (d : ℕ) (root table b : List ℕ) where
       let (a, v) = then-done (admitted d (proofSized (length root) (length b)) table) (judged found) e in
       record { admits = admission d (proofSized (length root) (length b)) table a; accepts = done-judged found v }
 
-  -- its value is small
-  small-judged : (v : Verdict) → Small (judged v)
-  small-judged accepted = small-plain refl
-  small-judged wrongHead = small-plain refl
-  small-judged wrongLength = small-plain refl
-  small-judged (broken j) = small-plain refl
-  small-judged noFault = small-plain refl
+  -- its values are small: a layer of the table, and a position among the members of an equation
+  small-judged : TableTaken d table → (v : Verdict) → found ≡ v → Small (judged v)
+  unfolding proofGiven proofMembers
+  small-judged t accepted e = small-plain refl
+  small-judged t wrongHead e = small-plain refl
+  small-judged t wrongLength e = small-plain refl
+  small-judged t (broken l p) e =
+      let (n, x, y) = broken-inside tree (symbolHash Plain) root (tableOf (wordsOf table)) b l p e in
+      let laws = table-laws-of d table (t .accepted) in
+      let few = laws .few-members (proofLayer b) (proofEquation b) (n .layer-ok) (n .equation-ok) in
+      record { first = omega (arith, n .layer-ok, accepted-table d (wordsOf table) (t .accepted) .depth, accepted-depth d (wordsOf table) (t .accepted) .1); second = omega (arith, few, length-others (proofWithheld b) (proofMembers (tableOf (wordsOf table)) b)) }
+  small-judged t noFault e = small-plain refl
 
   pub small : Small (proofChecked d root table b)
   unfolding proofChecked
   small =
       small-then (admitted d (proofSized (length root) (length b)) table) (judged found) (small-admitted d (proofSized (length root) (length b)) table)
-      (λ e. small-judged found)
+      (λ e. small-judged (admission d (proofSized (length root) (length b)) table e .taken) found refl)

@@ -25,7 +25,7 @@ abbrev pub judged : Verdict → Answer
 judged accepted = Done
 judged wrongHead = Stopped Head
 judged wrongLength = Stopped Length
-judged (broken j) = Stopped Hash
+judged (broken l p) = Stopped (Hash l p)
 judged noFault = Stopped NoFault
 
 -- "A proof is tested 1, 2, 3, 6, then 2 again for the length its head demands, 7, 8", and 10 "right after 3"

@@ -18,7 +18,7 @@ fn answer_of(v: Verdict) -> Answer
         Verdict::Accepted => Answer::Done,
         Verdict::WrongHead => Answer::Stopped(Stop::Head),
         Verdict::WrongLength => Answer::Stopped(Stop::Length),
-        Verdict::Broken(_) => Answer::Stopped(Stop::Hash),
+        Verdict::Broken { layer, position } => Answer::Stopped(Stop::Hash { layer, position }),
         Verdict::NoFault => Answer::Stopped(Stop::NoFault),
     }
 }

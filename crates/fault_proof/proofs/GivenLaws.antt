@@ -1,8 +1,9 @@
--- The given members, as they stand in a proof: member by member.
-use mathlib.Core.Path.{_≡_, refl, sym, ap, _∙_}
+-- The given members, as they stand in a proof, member by member: the check of their ways and then of the withheld one's, and their exclusive-or.
+use mathlib.Core.Path.{_≡_, refl, sym, ap, ap₂, _∙_}
 use mathlib.Core.List.{List, [], _∷_}
 use Prim.Native.Nat.{ℕ, suc, _+_, _*_, _≤_, _<_}
 use native.Mathlib.Omega.{arith}
+use native.Mathlib.Numerals.{add-one}
 use lib.ListN.{length, getD, take, drop}
 use Rattle.octets.specs.ByteLists.{xors}
 use Rattle.octets.proofs.ListLaws.{length-part, length-xors}
@@ -11,8 +12,8 @@ use Rattle.symbol_hash.specs.declared.Way.the-variants.{Leads, Breaks}
 use Rattle.symbol_hash.specs.Ways.{climbOf}
 use Rattle.model.specs.Shape.{tree}
 use Rattle.model.specs.Symbols.{symbolIn, zeros, others}
-use Rattle.model.specs.Climb.{Climb, leads, breaks}
-use Rattle.model.specs.Fault.{next, givenXor, firstBreak, wayCheck, givenCheck}
+use Rattle.model.specs.Climb.{Climb, Ways, allLead, breakAt, firstBreak}
+use Rattle.model.specs.Fault.{next, givenXor, wayCheck, pathCheck, waysCheck}
 use Rattle.model.proofs.Bytes.{xors-comm, xors-assoc, sym-zeros, length-zeros}
 use Rattle.model.proofs.Members.{others-skip, others-take, others-end}
 use Rattle.model.proofs.Ways.{next-at}
@@ -33,36 +34,38 @@ module _ (b : List ℕ) (j : ℕ) where
 -- ---- the members other than x, from member i on, which stand in b from byte `from` on
 
 module _ (b ms : List ℕ) (j x : ℕ) where
-  abbrev Room : ℕ → ℕ → Type 0
-  Room i from = from + 256 * (length (others x (drop i ms)) * suc j) ≤ length b
+  -- b has room for them, and for so many bytes after them
+  abbrev Room : ℕ → ℕ → ℕ → Type 0
+  Room i from more = from + 256 * (length (others x (drop i ms)) * suc j) + more ≤ length b
 
-  -- what their check finds, and their exclusive-or
-  abbrev found : (ℕ → ℕ → List ℕ → List ℕ) → List ℕ → ℕ → ℕ → Climb
-  found H root i from = givenCheck tree H root j (others x (drop i ms)) (drop from b)
+  -- what the check of their ways and of x's path finds, the first of them being at position p, and their exclusive-or
+  abbrev found : (ℕ → ℕ → List ℕ → List ℕ) → List ℕ → ℕ → ℕ → ℕ → Ways
+  found H root i from p = waysCheck tree H root j x p (others x (drop i ms)) (drop from b)
 
   abbrev left : ℕ → ℕ → List ℕ
   left i from = givenXor j (others x (drop i ms)) (drop from b)
 
-  -- the members before i lead to the root: what is left decides
-  pub record Led (H : ℕ → ℕ → List ℕ → List ℕ) (root : List ℕ) (at i from : ℕ) : Type 0 where
-    pub room : Room i from
-    pub rest : found H root i from ≡ found H root 0 at
+  -- the members before i, of which p are given, lead to the root: what is left decides
+  pub record Led (H : ℕ → ℕ → List ℕ → List ℕ) (root : List ℕ) (at i from p : ℕ) : Type 0 where
+    pub few : p ≤ i
+    pub room : Room i from (256 * j)
+    pub rest : found H root i from p ≡ found H root 0 at 0
 
   -- acc, with what is left, is the whole
   pub record Gathered (at : ℕ) (acc : List ℕ) (i from : ℕ) : Type 0 where
     pub sized : length acc ≡ 256
-    pub room : Room i from
+    pub room : Room i from 0
     pub rest : xors acc (left i from) ≡ left 0 at
 
-  pub led-start : (H : ℕ → ℕ → List ℕ → List ℕ) (root : List ℕ) (at : ℕ) → Room 0 at → Led H root at 0 at
-  led-start H root at h = record { room = h; rest = refl }
+  pub led-start : (H : ℕ → ℕ → List ℕ → List ℕ) (root : List ℕ) (at : ℕ) → Room 0 at (256 * j) → Led H root at 0 at 0
+  led-start H root at h = record { few = omega arith; room = h; rest = refl }
 
-  pub gathered-start : (at : ℕ) (acc : List ℕ) → acc ≡ zeros → Room 0 at → Gathered at acc 0 at
+  pub gathered-start : (at : ℕ) (acc : List ℕ) → acc ≡ zeros → Room 0 at 0 → Gathered at acc 0 at
   gathered-start at acc e h =
       record {
         sized = ap length e ∙ length-zeros;
         room = h;
-        rest = ap (λ q. xors q (left 0 at)) e ∙ xors-comm zeros (left 0 at) ∙ sym-zeros (left 0 at) (length-xor b j (others x ms) at h);
+        rest = ap (λ q. xors q (left 0 at)) e ∙ xors-comm zeros (left 0 at) ∙ sym-zeros (left 0 at) (length-xor b j (others x ms) at (omega arith));
       }
 
   module _ (i : ℕ) (h : i < length ms) where
@@ -72,11 +75,12 @@ module _ (b ms : List ℕ) (j x : ℕ) where
       none : others x (drop (i + 1) ms) ≡ others x (drop i ms)
       none = sym (others-skip x ms i h e)
 
-      pub led-skip : (H : ℕ → ℕ → List ℕ → List ℕ) (root : List ℕ) (at from : ℕ) → Led H root at i from → Led H root at (i + 1) from
-      led-skip H root at from s =
+      pub led-skip : (H : ℕ → ℕ → List ℕ → List ℕ) (root : List ℕ) (at from p : ℕ) → Led H root at i from p → Led H root at (i + 1) from p
+      led-skip H root at from p s =
           record {
+            few = omega (arith, s .few);
             room = rw none (s .room);
-            rest = ap (λ q. givenCheck tree H root j q (drop from b)) none ∙ s .rest;
+            rest = ap (λ q. waysCheck tree H root j x p q (drop from b)) none ∙ s .rest;
           }
 
       pub gathered-skip : (at : ℕ) (acc : List ℕ) (from : ℕ) → Gathered at acc i from → Gathered at acc (i + 1) from
@@ -89,12 +93,12 @@ module _ (b ms : List ℕ) (j x : ℕ) where
       one : others x (drop i ms) ≡ getD ms i 0 ∷ others x (drop (i + 1) ms)
       one = others-take x ms i h e
 
-      pub way-room : Room i from → from + 256 * suc j ≤ length b
-      way-room r = omega (arith, ap (λ q. length q * suc j) one, r)
+      pub way-room : (more : ℕ) → Room i from more → from + 256 * suc j ≤ length b
+      way-room more r = omega (arith, ap (λ q. length q * suc j) one, r)
 
       module _ (to : ℕ) (et : to ≡ from + 256 * (j + 1)) where
-        rest-room : Room i from → Room (i + 1) to
-        rest-room r = omega (arith, ap (λ q. length q * suc j) one, r, et)
+        rest-room : (more : ℕ) → Room i from more → Room (i + 1) to more
+        rest-room more r = omega (arith, ap (λ q. length q * suc j) one, r, et)
 
         next-to : next j (drop from b) ≡ drop to b
         next-to = next-at b j from ∙ ap (λ o. drop o b) (sym et)
@@ -102,26 +106,28 @@ module _ (b ms : List ℕ) (j x : ℕ) where
       abbrev way : (ℕ → ℕ → List ℕ → List ℕ) → List ℕ → Climb
       way H root = wayCheck tree H root j (getD ms i 0) (drop from b)
 
-      found-one : (H : ℕ → ℕ → List ℕ → List ℕ) (root : List ℕ) (to : ℕ) → to ≡ from + 256 * (j + 1) → found H root i from ≡ firstBreak (way H root) (found H root (i + 1) to)
-      unfolding givenCheck
-      found-one H root to et =
-          ap (λ q. givenCheck tree H root j q (drop from b)) one
-          ∙ ap (λ c. firstBreak (way H root) (givenCheck tree H root j (others x (drop (i + 1) ms)) c)) (next-to to et)
+      module _ (H : ℕ → ℕ → List ℕ → List ℕ) (root : List ℕ) (at p : ℕ) (r : Way) (er : climbOf r ≡ way H root) (s : Led H root at i from p) where
+        found-one : (to : ℕ) → to ≡ from + 256 * (j + 1) → firstBreak p (climbOf r) (found H root (i + 1) to (suc p)) ≡ found H root 0 at 0
+        unfolding waysCheck
+        found-one to et =
+            ap₂ (λ w c. firstBreak p w (waysCheck tree H root j x (suc p) (others x (drop (i + 1) ms)) c)) er (sym (next-to to et))
+            ∙ ap (λ q. waysCheck tree H root j x p q (drop from b)) (sym one)
+            ∙ s .rest
 
-      pub led-on : (H : ℕ → ℕ → List ℕ → List ℕ) (root : List ℕ) (at to : ℕ) (r : Way) → to ≡ from + 256 * (j + 1) → climbOf r ≡ way H root → r ≡ Leads → Led H root at i from
-          → Led H root at (i + 1) to
-      unfolding firstBreak
-      led-on H root at to r et er t s =
-          record {
-            room = rest-room to et (s .room);
-            rest = sym (found-one H root to et ∙ ap (λ w. firstBreak w (found H root (i + 1) to)) (sym er ∙ ap climbOf t)) ∙ s .rest;
-          }
+        pub led-on : (to q : ℕ) → to ≡ from + 256 * (j + 1) → q ≡ p + 1 → r ≡ Leads → Led H root at (i + 1) to q
+        unfolding firstBreak
+        led-on to q et eq t =
+            record {
+              few = omega (arith, s .few);
+              room = rest-room to et (256 * j) (s .room);
+              rest = ap (found H root (i + 1) to) (eq ∙ add-one p) ∙ ap (λ w. firstBreak p w (found H root (i + 1) to (suc p))) (ap climbOf (sym t)) ∙ found-one to et;
+            }
 
-      pub led-off : (H : ℕ → ℕ → List ℕ → List ℕ) (root : List ℕ) (at l : ℕ) (r : Way) → climbOf r ≡ way H root → r ≡ Breaks l → Led H root at i from → breaks l ≡ found H root 0 at
-      unfolding firstBreak
-      led-off H root at l r er t s =
-          let to : ℕ = from + 256 * (j + 1) in
-          sym (found-one H root to refl ∙ ap (λ w. firstBreak w (found H root (i + 1) to)) (sym er ∙ ap climbOf t)) ∙ s .rest
+        pub led-off : (l : ℕ) → r ≡ Breaks l → breakAt l p ≡ found H root 0 at 0
+        unfolding firstBreak
+        led-off l t =
+            let to : ℕ = from + 256 * (j + 1) in
+            ap (λ w. firstBreak p w (found H root (i + 1) to (suc p))) (ap climbOf (sym t)) ∙ found-one to refl
 
       pub gathered-on : (at to : ℕ) (acc sum : List ℕ) → to ≡ from + 256 * (j + 1) → sum ≡ xors acc (take (length acc) (drop from b)) → Gathered at acc i from
           → Gathered at sum (i + 1) to
@@ -130,8 +136,8 @@ module _ (b ms : List ℕ) (j x : ℕ) where
           let here : List ℕ = take 256 (drop from b) in
           let q : sum ≡ xors acc here = es ∙ ap (λ n. xors acc (take n (drop from b))) (s .sized) in
           record {
-            sized = omega (arith, ap length q, length-xors acc here, s .sized, length-part b from 256 (omega (arith, way-room (s .room))));
-            room = rest-room to et (s .room);
+            sized = omega (arith, ap length q, length-xors acc here, s .sized, length-part b from 256 (omega (arith, way-room 0 (s .room))));
+            room = rest-room to et 0 (s .room);
             rest =
                 ap (λ v. xors v (left (i + 1) to)) q ∙ xors-assoc acc here (left (i + 1) to)
                 ∙ ap (xors acc)
@@ -141,9 +147,23 @@ module _ (b ms : List ℕ) (j x : ℕ) where
 
   -- ---- none is left
 
-  pub led-end : (H : ℕ → ℕ → List ℕ → List ℕ) (root : List ℕ) (at i from : ℕ) → length ms ≤ i → Led H root at i from → leads ≡ found H root 0 at
-  unfolding givenCheck
-  led-end H root at i from h s = sym (ap (λ q. givenCheck tree H root j q (drop from b)) (others-end x ms i h)) ∙ s .rest
+  module _ (H : ℕ → ℕ → List ℕ → List ℕ) (root : List ℕ) (at i from p : ℕ) (h : length ms ≤ i) (s : Led H root at i from p) where
+    pub path-room : from + 256 * j ≤ length b
+    path-room = omega (arith, ap (λ q. length q * suc j) (others-end x ms i h), s .room)
+
+    -- r, what the check of x's path finds
+    module _ (r : Way) (er : climbOf r ≡ pathCheck tree H root j x (drop from b)) where
+      led-last : firstBreak p (climbOf r) allLead ≡ found H root 0 at 0
+      unfolding waysCheck
+      led-last = ap (λ w. firstBreak p w allLead) er ∙ sym (ap (λ q. waysCheck tree H root j x p q (drop from b)) (others-end x ms i h)) ∙ s .rest
+
+      pub led-end : r ≡ Leads → allLead ≡ found H root 0 at 0
+      unfolding firstBreak
+      led-end t = ap (λ w. firstBreak p w allLead) (ap climbOf (sym t)) ∙ led-last
+
+      pub led-last-off : (l : ℕ) → r ≡ Breaks l → breakAt l p ≡ found H root 0 at 0
+      unfolding firstBreak
+      led-last-off l t = ap (λ w. firstBreak p w allLead) (ap climbOf (sym t)) ∙ led-last
 
   pub gathered-end : (at : ℕ) (acc : List ℕ) (i from : ℕ) → length ms ≤ i → Gathered at acc i from → acc ≡ left 0 at
   unfolding givenXor

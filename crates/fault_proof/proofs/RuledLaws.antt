@@ -1,5 +1,5 @@
 -- The tests after the head's, one by one.
-use mathlib.Core.Path.{_≡_, sym, ap, ap₂, _∙_}
+use mathlib.Core.Path.{_≡_, sym, ap, _∙_}
 use mathlib.Core.Bool.{Bool, true, false, not}
 use mathlib.Core.List.{List}
 use Prim.Native.Nat.{ℕ, suc, _+_, _-_, _*_, _≤_, _<_}
@@ -11,16 +11,16 @@ use borrow.Author.Tests.{leb-true, ltb-true, eq-eqb, ne-eqb}
 use Rattle.octets.specs.Choice.{pick}
 use Rattle.octets.specs.ByteLists.{same}
 use Rattle.octets.proofs.Choice.{and-yes, pick-yes, pick-no, not-no}
-use Rattle.symbol_hash.specs.declared.Way.{Way}
-use Rattle.symbol_hash.specs.declared.Way.the-variants.{Leads, Breaks}
-use Rattle.symbol_hash.specs.Ways.{climbOf}
 use Rattle.model.specs.Shape.{Shape, Hangs, tree}
 use Rattle.model.specs.Symbols.{count, others}
-use Rattle.model.specs.Climb.{Climb}
-use Rattle.model.specs.Fault.{kindAt, valueAt, proofWithheld, proofLength, body, givenXor, afterGiven, Verdict, accepted, wrongHead, wrongLength, broken, noFault, firstBreak, ruling, pathHash, givenCheck, pathCheck}
+use Rattle.model.specs.Climb.{Ways as FoundWays}
+use Rattle.model.specs.Fault.{kindAt, valueAt, proofWithheld, proofLength, body, givenXor, afterGiven, Verdict, accepted, wrongHead, wrongLength, broken, noFault, ruling, pathHash, waysCheck}
 use Rattle.model.proofs.Counts.{isIt, count-le, every-member, ascending-once, length-others}
 use Rattle.model.proofs.Ways.{after-at}
-use Rattle.model.proofs.Hung.{pathHash-hung, givenCheck-hung, pathCheck-hung}
+use Rattle.model.proofs.Hung.{pathHash-hung, waysCheck-hung}
+use Rattle.fault_proof.specs.declared.Ways.{Ways}
+use Rattle.fault_proof.specs.declared.Ways.the-variants.{Lead, Break}
+use Rattle.fault_proof.specs.Verdicts.{waysOf}
 use Rattle.fault_proof.specs.Lent.{Members}
 use Rattle.fault_proof.specs.Ruled.{withholds, ruled, judged}
 
@@ -60,8 +60,8 @@ module _ (H : ℕ → ℕ → List ℕ → List ℕ) (root : List ℕ) (j x : �
     pub path-starts : length b - 256 * j ≡ 12 + 256 * (length (others x ms) * suc j)
     path-starts = omega (arith, e, same-product)
 
-    pub given-room : 12 + 256 * (length (others x ms) * suc j) ≤ length b
-    given-room = omega (arith, e, same-product)
+    pub ways-room : 12 + 256 * (length (others x ms) * suc j) + 256 * j ≤ length b
+    ways-room = omega (arith, e, same-product)
 
     pub path-room : length b - 256 * j + 256 * j ≤ length b
     path-room = omega (arith, e)
@@ -72,52 +72,42 @@ module _ (H : ℕ → ℕ → List ℕ → List ℕ) (root : List ℕ) (j x : �
 
     -- ---- the hashes
 
-    abbrev given : Climb
-    given = givenCheck tree H root j (others x ms) (drop 12 b)
-
-    abbrev path : Climb
-    path = pathCheck tree H root j x (drop (length b - 256 * j) b)
+    abbrev ways : FoundWays
+    ways = waysCheck tree H root j x 0 (others x ms) (drop 12 b)
 
     abbrev fit : Bool
     fit = same (H j x (givenXor j (others x ms) (drop 12 b))) (pathHash tree root j x (drop (length b - 256 * j) b))
 
-    by-length : ruled tree H root j x ms b ≡ ruling (firstBreak given path) fit
+    by-length : ruled tree H root j x ms b ≡ ruling ways fit
     unfolding ruled proofLength body
     by-length =
         let q : length b ≡ 12 + 256 * ((length ms - 1) * suc j + j) = omega arith in
         pick-no (not (eqb (length b) (12 + 256 * ((length ms - 1) * suc j + j)))) wrongLength _ (ap not (eq-eqb _ _ q))
-        ∙ ap (λ c. ruling (firstBreak given (pathCheck tree H root j x c)) (same (H j x (givenXor j (others x ms) (drop 12 b))) (pathHash tree root j x c))) path-there
+        ∙ ap (λ c. ruling ways (same (H j x (givenXor j (others x ms) (drop 12 b))) (pathHash tree root j x c))) path-there
 
-    -- g, what the check of the given members finds
-    module _ (g : Way) (eg : climbOf g ≡ given) where
-      pub given-broken : (l : ℕ) → g ≡ Breaks l → broken l ≡ ruled tree H root j x ms b
-      unfolding ruling firstBreak
-      given-broken l tg = ap (λ c. ruling (firstBreak c path) fit) (ap climbOf (sym tg) ∙ eg) ∙ sym by-length
+    -- w, what the check of the ways finds
+    module _ (w : Ways) (ew : waysOf w ≡ ways) where
+      by-ways : ruling (waysOf w) fit ≡ ruled tree H root j x ms b
+      by-ways = ap (λ z. ruling z fit) ew ∙ sym by-length
 
-      -- p, what the check of the path finds
-      module _ (tg : g ≡ Leads) (p : Way) (ep : climbOf p ≡ path) where
-        by-path : ruling (climbOf p) fit ≡ ruled tree H root j x ms b
-        unfolding firstBreak
-        by-path = ap₂ (λ c d. ruling (firstBreak c d) fit) (ap climbOf (sym tg) ∙ eg) ep ∙ sym by-length
+      pub way-broken : (l p : ℕ) → w ≡ Break l p → broken l p ≡ ruled tree H root j x ms b
+      unfolding ruling
+      way-broken l p t = ap (λ z. ruling (waysOf z) fit) (sym t) ∙ by-ways
 
-        pub path-broken : (l : ℕ) → p ≡ Breaks l → broken l ≡ ruled tree H root j x ms b
+      -- s, the exclusive-or of the given members, and whether its hash is the committed one
+      module _ (t : w ≡ Lead) (s : List ℕ) (es : s ≡ givenXor j (others x ms) (drop 12 b)) (f : Bool)
+          (ef : f ≡ same (H j x s) (pathHash tree root j x (drop (length b - 256 * j) b))) where
+        by-fit : pick f noFault accepted ≡ ruled tree H root j x ms b
         unfolding ruling
-        path-broken l tp = ap (λ q. ruling (climbOf q) fit) (sym tp) ∙ by-path
+        by-fit =
+            ap (λ z. pick z noFault accepted) (ef ∙ ap (λ q. same (H j x q) (pathHash tree root j x (drop (length b - 256 * j) b))) es)
+            ∙ ap (λ z. ruling (waysOf z) fit) (sym t) ∙ by-ways
 
-        -- s, the exclusive-or of the given members, and whether its hash is the committed one
-        module _ (tp : p ≡ Leads) (s : List ℕ) (es : s ≡ givenXor j (others x ms) (drop 12 b)) (f : Bool)
-            (ef : f ≡ same (H j x s) (pathHash tree root j x (drop (length b - 256 * j) b))) where
-          by-fit : pick f noFault accepted ≡ ruled tree H root j x ms b
-          unfolding ruling
-          by-fit =
-              ap (λ t. pick t noFault accepted) (ef ∙ ap (λ q. same (H j x q) (pathHash tree root j x (drop (length b - 256 * j) b))) es)
-              ∙ ap (λ q. ruling (climbOf q) fit) (sym tp) ∙ by-path
+        pub no-fault : f ≡ true → noFault ≡ ruled tree H root j x ms b
+        no-fault u = sym (pick-yes f noFault accepted u) ∙ by-fit
 
-          pub no-fault : f ≡ true → noFault ≡ ruled tree H root j x ms b
-          no-fault t = sym (pick-yes f noFault accepted t) ∙ by-fit
-
-          pub fault-shown : f ≡ false → accepted ≡ ruled tree H root j x ms b
-          fault-shown t = sym (pick-no f noFault accepted t) ∙ by-fit
+        pub fault-shown : f ≡ false → accepted ≡ ruled tree H root j x ms b
+        fault-shown u = sym (pick-no f noFault accepted u) ∙ by-fit
 
 -- ---- a layer of another shape, under the tree's layers
 
@@ -126,7 +116,7 @@ module _ (S : Shape) (H : ℕ → ℕ → List ℕ → List ℕ) (root : List �
   unfolding ruled
   ruled-hung x ms b =
       let c : List ℕ = afterGiven j (others x ms) (body b) in
-      cc (givenCheck-hung S H root j h (others x ms) (body b), pathCheck-hung S H root j h x c, pathHash-hung S root j h x c)
+      cc (waysCheck-hung S H root j h x 0 (others x ms) (body b), pathHash-hung S root j h x c)
 
   pub judged-hung : (ms b : List ℕ) → judged S H root j ms b ≡ judged tree H root j ms b
   unfolding judged

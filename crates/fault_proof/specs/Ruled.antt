@@ -8,7 +8,7 @@ use Rattle.octets.specs.Choice.{pick}
 use Rattle.octets.specs.ByteLists.{same}
 use Rattle.model.specs.Shape.{Shape}
 use Rattle.model.specs.Symbols.{count, others}
-use Rattle.model.specs.Fault.{kindAt, proofWithheld, proofLength, body, givenXor, afterGiven, Verdict, wrongHead, wrongLength, firstBreak, ruling, pathHash, givenCheck, pathCheck}
+use Rattle.model.specs.Fault.{kindAt, proofWithheld, proofLength, body, givenXor, afterGiven, Verdict, wrongHead, wrongLength, ruling, pathHash, waysCheck}
 
 -- the third word of the proof b has its kind, with the number of one of the members ms
 unfoldable pub withholds : List ℕ → List ℕ → Bool
@@ -19,8 +19,7 @@ module _ (S : Shape) (H : ℕ → ℕ → List ℕ → List ℕ) (root : List �
   unfoldable pub ruled : ℕ → List ℕ → List ℕ → Verdict
   ruled x ms b =
       pick (not (eqb (length b) (proofLength j (length ms)))) wrongLength
-      (ruling
-      (firstBreak (givenCheck S H root j (others x ms) (body b)) (pathCheck S H root j x (afterGiven j (others x ms) (body b))))
+      (ruling (waysCheck S H root j x 0 (others x ms) (body b))
       (same (H j x (givenXor j (others x ms) (body b))) (pathHash S root j x (afterGiven j (others x ms) (body b)))))
 
   -- what is left of test 6, then those

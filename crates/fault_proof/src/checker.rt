@@ -1,14 +1,14 @@
 // The fault-proof checker.
 use crate::Verdict;
+use crate::Ways;
 use crate::given;
 use crate::head::names;
 use crate::head::value_at;
 use crate::head::withholds;
-use crate::way;
+use crate::members;
 use parity_table::data_count;
 use parity_table::index;
 use symbol_hash::Kind;
-use symbol_hash::Way;
 ghost use mathlib.Core.Path.{_≡_};
 ghost use Prim.Native.Nat.{_≤_};
 ghost use lib.ListN.{length};
@@ -30,15 +30,12 @@ fn rule(kind: Kind, j: usize, x: usize, members: &[u32], root: &[u8], proof: &[u
     if proof.len() != 12 + 256 * ((members.len() - 1) * (j + 1) + j) {
         return Verdict::WrongLength;
     }
-    if let Way::Breaks(l) = given::check(kind, j, members, x, root, proof, 12) {
-        return Verdict::Broken(l);
-    }
-    let path = proof.len() - 256 * j;
-    if let Way::Breaks(l) = way::check_path(kind, j, x, root, proof, path) {
-        return Verdict::Broken(l);
+    if let Ways::Break { layer, position } = members::check(kind, j, members, x, root, proof, 12) {
+        return Verdict::Broken { layer, position };
     }
     let mut formed = [0u8; 256];
     given::gather(&mut formed, j, members, x, proof, 12);
+    let path = proof.len() - 256 * j;
     if symbol_hash::fits(kind, j, x, &formed, root, proof, path) {
         return Verdict::NoFault;
     }

@@ -1,45 +1,11 @@
 // The given members: those of the equation other than the withheld one, each with its path.
-use crate::way;
-use symbol_hash::Kind;
-use symbol_hash::Way;
 ghost use mathlib.Core.Path.{_≡_};
 ghost use Prim.Native.Nat.{suc, _+_, _*_, _≤_};
 ghost use lib.ListN.{length, drop};
-ghost use Rattle.model.specs.Shape.{tree as shape};
 ghost use Rattle.model.specs.Symbols.{zeros, others};
-ghost use Rattle.model.specs.Fault.{givenCheck, givenXor};
-ghost use Rattle.symbol_hash.specs.SymbolHash.{symbolHash};
-ghost use Rattle.symbol_hash.specs.Ways.{climbOf};
-ghost use Rattle.fault_proof.specs.Lent.{Members};
+ghost use Rattle.model.specs.Fault.{givenXor};
 
-// Checks the members of layer j other than x, which stand with their paths in b from byte at on.
-pub fn check(
-    kind: Kind,
-    j: usize,
-    members: &[u32],
-    x: usize,
-    root: &[u8],
-    b: &[u8],
-    at: usize,
-) -> Way
-    requires { ⌜ Members j (now members) (now root)
-        × (at + 256 * (length (others x (now members)) * suc j) ≤ length (now b)) ⌝ }
-    ensures { λ r. ⌜ climbOf r ≡ givenCheck shape (symbolHash kind) (now (root .entry)) j (others x (now (members .entry))) (drop at (now (b .entry))) ⌝ }
-{
-    let mut from = at;
-    for i in 0..members.len() {
-        let y = members[i] as usize;
-        if y != x {
-            if let Way::Breaks(l) = way::check(kind, j, y, root, b, from) {
-                return Way::Breaks(l);
-            }
-            from += 256 * (j + 1);
-        }
-    }
-    Way::Leads
-}
-
-// acc, 256 zero bytes, becomes the exclusive-or of these members.
+// acc, 256 zero bytes, becomes the exclusive-or of the members of layer j other than x, which stand with their paths in b from byte at on.
 pub fn gather(acc: &mut [u8], j: usize, members: &[u32], x: usize, b: &[u8], at: usize)
     requires { ⌜ (now acc ≡ zeros) × (at + 256 * (length (others x (now members)) * suc j) ≤ length (now b)) ⌝ }
     ensures { λ r. ⌜ now (acc .exit) ≡ givenXor j (others x (now (members .entry))) (drop at (now (b .entry))) ⌝ }

@@ -1,7 +1,8 @@
 // The fault-proof checker's core, for a table and a root that are known to be right: tests 6, 2, 7, 8.
 mod checker; // the whole check
-mod given; // the given members, each with its path
+mod given; // the given members' exclusive-or
 mod head; // the three words in front
+mod members; // all members in proof order, with their paths
 mod way; // a symbol and its path
 
 pub use checker::check;
@@ -17,8 +18,16 @@ pub enum Verdict {
     WrongHead,
     // the length isn't the one that the head demands
     WrongLength,
-    // a hash doesn't lead to the root: the layer of the first that doesn't
-    Broken(usize),
+    // a hash doesn't lead to the root: the first such layer on the way up from the first such member, and that member's position
+    Broken { layer: usize, position: usize },
     // the withheld hash fits
     NoFault,
+}
+
+// What the ways of a proof come to, one after another.
+pub enum Ways {
+    // each leads to the root
+    Lead,
+    // the first that doesn't: the layer where it breaks, and its position, the withheld member's being the last
+    Break { layer: usize, position: usize },
 }

@@ -1,13 +1,13 @@
--- What the answer of a climb says, when it is that the way leads to the root, and the climb symbol by symbol, as a loop meets it.
+-- What the answer of a climb says, that no other says it, and the climb symbol by symbol, as a loop meets it.
 use mathlib.Core.Path.{_≡_, refl, sym, ap, _∙_}
 use mathlib.Core.Bool.{Bool, true, false}
 use Prim.Native.Nat.{ℕ, zero, suc, _+_, _-_, _≤_, _<_}
 use native.Mathlib.Numerals.{add-one}
 use native.Mathlib.Omega.{arith}
-use lib.Dec.{eqb}
-use borrow.Author.Tests.{eqb-true, eqb-false}
-use Rattle.octets.proofs.Choice.{by-test, pick-yes, pick-no, pick-ind}
-use Rattle.model.specs.Climb.{Climb, leads, breaks, climb, Says}
+use lib.Dec.{eqb, ltb}
+use borrow.Author.Tests.{eqb-true, eqb-false, ltb-true, ltb-false}
+use Rattle.octets.proofs.Choice.{by-test, pick-yes, pick-no, pick-ind, both}
+use Rattle.model.specs.Climb.{Climb, leads, breaks, climb, First, Says}
 
 module _ (fits : ℕ → Bool) (layer : ℕ → ℕ) where
   -- one symbol more in front, which fits
@@ -31,10 +31,21 @@ module _ (fits : ℕ → Bool) (layer : ℕ → ℕ) where
       pick-ind (Says fits layer x (suc m)) (fits x) (λ t. more x m t (climb fits layer (suc x) m) (climb-says m (suc x)))
       (λ t. (x, record { from = omega arith; upto = omega arith; unfit = t; before = λ z a b. absurd (omega arith) }, refl))
 
-  pub climb-leads : (m x : ℕ) → ((y : ℕ) → x ≤ y → y < x + m → fits y ≡ true) → climb fits layer x m ≡ leads
-  unfolding climb
-  climb-leads zero x h = refl
-  climb-leads (suc m) x h = pick-yes (fits x) _ _ (h x (omega arith) (omega arith)) ∙ climb-leads m (suc x) (λ y a b. h y (omega arith) (omega arith))
+  -- a first one is the only one
+  first-one : (x m y z : ℕ) → First fits x m y → First fits x m z → y ≡ z
+  first-one x m y z f g =
+      by-test (ltb y z) (λ t. both (g .before y (f .from) (ltb-true y z t)) (f .unfit))
+      (λ t. by-test (ltb z y) (λ u. both (f .before z (g .from) (ltb-true z y u)) (g .unfit)) (λ u. omega (arith, ltb-false y z t, ltb-false z y u)))
+
+  says-one : (x m : ℕ) (c e : Climb) → Says fits layer x m c → Says fits layer x m e → c ≡ e
+  says-one x m leads leads s t = refl
+  says-one x m leads (breaks j) s (y, f, e) = both (s y (f .from) (f .upto)) (f .unfit)
+  says-one x m (breaks i) leads (y, f, e) t = both (t y (f .from) (f .upto)) (f .unfit)
+  says-one x m (breaks i) (breaks j) (y, f, e) (z, g, h) = ap breaks (sym e ∙ ap layer (first-one x m y z f g) ∙ h)
+
+  -- what is so is what the climb says
+  pub climb-is : (m x : ℕ) (c : Climb) → Says fits layer x m c → climb fits layer x m ≡ c
+  climb-is m x c s = says-one x m (climb fits layer x m) c (climb-says m x) s
 
 -- ---- from symbol x on, with e symbols in all
 

@@ -17,8 +17,8 @@ use Rattle.octets.proofs.Choice.{pick-no, and-yes, yes-and}
 use Rattle.model.specs.Shape.{Shape, ShapeOk}
 use Rattle.octets.specs.ByteLists.{same, xors}
 use Rattle.model.specs.Symbols.{symbolIn, xorOf, others, count, slot, committed}
-use Rattle.model.specs.Climb.{leads}
-use Rattle.model.specs.Fault.{reached, wayBytes, givenBytes, pathBytes, proofBytes, kindAt, valueAt, proofLayer, proofEquation, proofWithheld, proofLength, body, next, givenXor, afterGiven, proofMembers, proofGiven, layerOk, equationOk, memberOk, headOk, accepted, firstBreak, ruling, wayCheck, givenCheck, pathCheck, pathHash, proofCheck, withheldFits, verdict}
+use Rattle.model.specs.Climb.{leads, allLead, firstBreak}
+use Rattle.model.specs.Fault.{reached, wayBytes, givenBytes, pathBytes, proofBytes, kindAt, valueAt, proofLayer, proofEquation, proofWithheld, proofLength, body, next, givenXor, afterGiven, proofMembers, proofGiven, layerOk, equationOk, memberOk, headOk, accepted, ruling, wayCheck, pathCheck, waysCheck, pathHash, proofCheck, withheldFits, verdict}
 use Rattle.model.proofs.Bytes.{no-same, joined-length, joined-piece}
 use Rattle.model.proofs.Counts.{isIt, ascending-once, every-member, length-others}
 use Rattle.model.proofs.Shapes.{up-lt}
@@ -201,14 +201,16 @@ module _ (S : Shape) (sh : ShapeOk S) (f : ℕ → ℕ → List ℕ) (j : ℕ) (
     path-hash (suc l) i r h = ap (λ (s : List ℕ). slot s (i / S .k l)) (way-first l (i % S .k l) (omega arith) (up-lt S sh l i) r)
 
     module _ (p : ℕ → Bool) (below : (y : ℕ) → p y ≡ true → y < S .n j) (mine : (y : ℕ) → p y ≡ true → H j y (f j y) ≡ committed S root f j y) where
-      given-leads : (ys r : List ℕ) → every p ys ≡ true → givenCheck S H root j ys (givenBytes S f j ys ++ r) ≡ leads
-      unfolding givenCheck every firstBreak
-      given-leads [] r a = refl
-      given-leads (y ∷ ys) r a =
+      ways-lead : (x n : ℕ) (ys : List ℕ) → every p ys ≡ true → waysCheck S H root j x n ys (givenBytes S f j ys ++ pathBytes S f j x) ≡ allLead
+      unfolding waysCheck every firstBreak givenBytes
+      ways-lead x n [] a =
+          ap (λ c. firstBreak n c allLead) (ap (pathCheck S H root j x) (sym (append-nil (pathBytes S f j x))) ∙ path-leads j x [] (omega arith))
+      ways-lead x n (y ∷ ys) a =
+          let r : List ℕ = pathBytes S f j x in
           let (u, v) = and-yes (p y) (every p ys) a in
-          ap₂ firstBreak
+          ap₂ (firstBreak n)
           (ap (wayCheck S H root j y) (given-split p below y ys r) ∙ way-leads j y (omega arith) (below y u) (mine y u) (givenBytes S f j ys ++ r))
-          (ap (givenCheck S H root j ys) (given-next p below y ys r u) ∙ given-leads ys r v)
+          (ap (waysCheck S H root j x (suc n) ys) (given-next p below y ys r u) ∙ ways-lead x (suc n) ys v)
 
     -- ---- the whole proof
 
@@ -292,11 +294,9 @@ module _ (S : Shape) (sh : ShapeOk S) (f : ℕ → ℕ → List ℕ) (j : ℕ) (
       after : afterGiven j (others x ms) rest ≡ pathBytes S f j x ++ []
       after = given-after p below (others x ms) (pathBytes S f j x) good ∙ sym (append-nil (pathBytes S f j x))
 
-      lead : proofCheck S H root tbl bytes ≡ leads
-      unfolding proofCheck firstBreak
-      lead =
-          at-parts (λ l y ys c. firstBreak (givenCheck S H root l ys c) (pathCheck S H root l y (afterGiven l ys c)))
-          ∙ ap₂ firstBreak (given-leads p below mine (others x ms) (pathBytes S f j x) good) (ap (pathCheck S H root j x) after ∙ path-leads j x [] (omega arith))
+      lead : proofCheck S H root tbl bytes ≡ allLead
+      unfolding proofCheck
+      lead = at-parts (λ l y ys c. waysCheck S H root l y 0 ys c) ∙ ways-lead p below mine x 0 (others x ms) good
 
       unfits : withheldFits S H root tbl bytes ≡ false
       unfolding withheldFits

@@ -13,8 +13,8 @@ use Rattle.parity_table.specs.Members.{lastOf}
 use Rattle.parity_table.specs.Table.{layerOf, equationOf}
 use Rattle.model.specs.Shape.{Shape, Hangs, tree, places, place}
 use Rattle.model.specs.Symbols.{joined, symbolIn, count, firstOf, lowest, others, xorOf, zeros, committed, symAt, putAt}
-use Rattle.model.specs.Climb.{breaks, climb}
-use Rattle.model.specs.Fault.{reached, wayBytes, givenBytes, pathBytes, proofBytes, next, firstBreak, pathHash, wayFits, wayCheck, givenCheck, pathCheck}
+use Rattle.model.specs.Climb.{breaks, climb, allLead, firstBreak}
+use Rattle.model.specs.Fault.{reached, wayBytes, givenBytes, pathBytes, proofBytes, next, pathHash, wayFits, wayCheck, pathCheck, waysCheck}
 use Rattle.model.specs.Repair.{St, absentAt, storeSym, eraseSym, restOf, fitsAt, sweepAt, sweep, form, refute, act, takeable, lowestEq, step, peel}
 use Rattle.model.proofs.Shapes.{tree-root}
 
@@ -125,16 +125,16 @@ module _ (S : Shape) (H : ℕ → ℕ → List ℕ → List ℕ) (root : List �
   unfolding wayCheck
   wayCheck-hung j h i c = climb-cong _ _ _ (suc j) 0 (λ x a b. wayFits-hung j h i c x (omega arith))
 
-  pub givenCheck-hung : (j : ℕ) → Hangs S j → (ms c : List ℕ) → givenCheck S H root j ms c ≡ givenCheck tree H root j ms c
-  unfolding givenCheck
-  givenCheck-hung j h [] c = refl
-  givenCheck-hung j h (y ∷ ys) c = ap₂ firstBreak (wayCheck-hung j h y c) (givenCheck-hung j h ys (next j c))
-
   pub pathCheck-hung : (j : ℕ) → Hangs S j → (i : ℕ) (c : List ℕ) → pathCheck S H root j i c ≡ pathCheck tree H root j i c
   unfolding pathCheck
   pathCheck-hung zero h i c = refl
   pathCheck-hung (suc j) h i c =
       wayCheck-hung j (hangs-above S (suc j) j (omega arith) h) _ c ∙ ap (λ m. wayCheck tree H root j m c) (cc (h .k-above j (omega arith)))
+
+  pub waysCheck-hung : (j : ℕ) → Hangs S j → (x p : ℕ) (ys c : List ℕ) → waysCheck S H root j x p ys c ≡ waysCheck tree H root j x p ys c
+  unfolding waysCheck
+  waysCheck-hung j h x p [] c = ap (λ w. firstBreak p w allLead) (pathCheck-hung j h x c)
+  waysCheck-hung j h x p (y ∷ ys) c = ap₂ (firstBreak p) (wayCheck-hung j h y c) (waysCheck-hung j h x (suc p) ys (next j c))
 
 -- ---- a layer of a repair
 

@@ -13,6 +13,7 @@ pub mod Climbs
 pub mod Samples
 pub mod Counts
 pub mod Ways
+pub mod ProofWays
 pub mod Sound
 pub mod FaultWriter
 pub mod Steps

@@ -9,18 +9,18 @@ use native.Mathlib.Omega.{arith}
 use lib.ListN.{length}
 use lib.Dec.{eqb}
 use borrow.Author.Tests.{eqb-true, eqb-false, eq-eqb, ne-eqb}
-use Rattle.octets.proofs.Choice.{by-test, pick-yes, pick-no}
+use Rattle.octets.proofs.Choice.{by-test, pick-yes, pick-no, both}
 use Rattle.model.specs.Shape.{Shape, TreeOk}
 use Rattle.model.specs.Symbols.{symbolIn, committed}
 use Rattle.model.specs.Coded.{Digests, InTree, Agrees}
-use Rattle.model.specs.Climb.{leads, Says}
+use Rattle.model.specs.Climb.{leads, breaks, Says}
 use Rattle.model.specs.Sampling.{sampleSize, sampleLayer, dataNo, parityNo, sampleNumber, sampleBytes}
 use Rattle.model.specs.SampleCheck.{sampleData, sampleParity, sampleHas, sampleFits, sampleCheck, SampleLeads, SampleTrue, SampleCollision}
 use Rattle.model.proofs.Bytes.{same-yes, yes-same, joined-length, joined-piece}
 use Rattle.model.proofs.Shapes.{k-double, up-lt}
 use Rattle.model.proofs.Binding.{same-or-collide, all-or, hashes}
 use Rattle.model.proofs.Ways.{committed-same}
-use Rattle.model.proofs.Climbs.{climb-says, climb-leads}
+use Rattle.model.proofs.Climbs.{climb-says, climb-is}
 
 -- ---- the places of a sample
 
@@ -94,11 +94,11 @@ module _ (S : Shape) (d i : ℕ) where
 
 module _ (S : Shape) (H : ℕ → ℕ → List ℕ → List ℕ) (root : List ℕ) (d i : ℕ) (pos : 1 ≤ d) (s : List ℕ) where
   -- symbol x of the sample has the hash that the sample has for symbol m of layer l
-  abbrev Fit : ℕ → ℕ → ℕ → Type 0
+  abbrev pub Fit : ℕ → ℕ → ℕ → Type 0
   Fit x l m = H l m (symbolIn s x) ≡ sampleHas S root d s l m
 
   -- the check says whether all fit
-  all-fit : sampleCheck S H root d i s ≡ leads → (x : ℕ) → x < sampleSize d → Fit x (sampleLayer d x) (sampleNumber S d i x)
+  pub all-fit : sampleCheck S H root d i s ≡ leads → (x : ℕ) → x < sampleSize d → Fit x (sampleLayer d x) (sampleNumber S d i x)
   unfolding sampleCheck sampleFits
   all-fit e x h =
       let says : Says (sampleFits S H root d i s) (sampleLayer d) 0 (sampleSize d) leads =
@@ -107,7 +107,7 @@ module _ (S : Shape) (H : ℕ → ℕ → List ℕ → List ℕ) (root : List �
 
   fit-all : ((x : ℕ) → x < sampleSize d → Fit x (sampleLayer d x) (sampleNumber S d i x)) → sampleCheck S H root d i s ≡ leads
   unfolding sampleCheck sampleFits
-  fit-all all = climb-leads (sampleFits S H root d i s) (sampleLayer d) (sampleSize d) 0 (λ x a h. yes-same (all x (omega arith)))
+  fit-all all = climb-is (sampleFits S H root d i s) (sampleLayer d) (sampleSize d) 0 leads (λ x a h. yes-same (all x (omega arith)))
 
   -- only when
   pub accepted-leads : sampleCheck S H root d i s ≡ leads → SampleLeads S H root d i s
@@ -125,11 +125,33 @@ module _ (S : Shape) (H : ℕ → ℕ → List ℕ → List ℕ) (root : List �
   unfolding sampleData sampleParity
   leads-accepted w = fit-all (sample-ind S d i Fit pos (w .base) (w .data-symbol) (w .parity-symbol))
 
+  -- ---- it breaks at layer l: one of its symbols has another hash, and every symbol of a layer nearer the base has the committed one
+
+  pub record SampleBreaks (l : ℕ) : Type 0 where
+    pub index : ℕ
+    pub inside : index < sampleSize d
+    pub at-layer : sampleLayer d index ≡ l
+    pub broken : Fit index (sampleLayer d index) (sampleNumber S d i index) → ⊥
+    pub below : (x : ℕ) → x < sampleSize d → l < sampleLayer d x → Fit x (sampleLayer d x) (sampleNumber S d i x)
+
+  pub sample-breaks : (l : ℕ) → sampleCheck S H root d i s ≡ breaks l → SampleBreaks l
+  unfolding sampleCheck sampleFits sampleLayer
+  sample-breaks l e =
+      let (y, first, at) =
+      subst (Says (sampleFits S H root d i s) (sampleLayer d) 0 (sampleSize d)) e (climb-says (sampleFits S H root d i s) (sampleLayer d) (sampleSize d) 0) in
+      record {
+        index = y;
+        inside = omega (arith, first .upto);
+        at-layer = at;
+        broken = λ f. both (yes-same f) (first .unfit);
+        below = λ x h k. same-yes _ _ (first .before x (omega arith) (omega arith));
+      }
+
 -- ---- numbers: both symbols of a layer hang under the sample's data symbol of the layer above
 
 module _ (S : Shape) (sh : TreeOk S) (i : ℕ) where
   -- symbol m of layer l hangs there
-  abbrev Under : ℕ → ℕ → Type 0
+  abbrev pub Under : ℕ → ℕ → Type 0
   Under l m = (u : ℕ) → suc u ≡ l → m % S .k u ≡ dataNo S u i
 
   base-under : (l : ℕ) → Under l i
@@ -158,6 +180,15 @@ module _ (S : Shape) (sh : TreeOk S) (i : ℕ) where
   unfolding parityNo
   parity-lt l = omega (arith, mod-lt i {m = 3 * S .k l} (omega (arith, sh .shape .some l)), sh .rate l)
 
+  -- each place of the sample stands for a symbol of the tree, under the data symbol of the layer above
+  pub places-are : (d : ℕ) → 1 ≤ d → i < S .n (d - 1) → (x : ℕ) → x < sampleSize d
+      → ((sampleLayer d x < d) × (sampleNumber S d i x < S .n (sampleLayer d x))) × Under (sampleLayer d x) (sampleNumber S d i x)
+  places-are d pos hi =
+      sample-ind S d i (λ x l m. ((l < d) × (m < S .n l)) × Under l m) pos
+      ((omega arith, hi), base-under (d - 1))
+      (λ j h. ((omega arith, data-lt j), data-under j))
+      (λ j h. ((omega arith, parity-lt j), parity-under j))
+
 -- ---- samples of a tree that agrees
 
 module _ (S : Shape) (sh : TreeOk S) (H : ℕ → ℕ → List ℕ → List ℕ) (digests : Digests H) (tbl : List (List (List ℕ))) (pos : 1 ≤ length tbl) (root : List ℕ)
@@ -165,13 +196,8 @@ module _ (S : Shape) (sh : TreeOk S) (H : ℕ → ℕ → List ℕ → List ℕ)
   abbrev d : ℕ
   d = length tbl
 
-  -- each place of the sample stands for a symbol of the tree, under the data symbol of the layer above
-  places-are : (x : ℕ) → x < sampleSize d → InTree S tbl (sampleLayer d x) (sampleNumber S d i x) × Under S sh i (sampleLayer d x) (sampleNumber S d i x)
-  places-are =
-      sample-ind S d i (λ x l m. InTree S tbl l m × Under S sh i l m) pos
-      ((omega arith, hi), base-under S sh i (d - 1))
-      (λ j h. ((omega arith, data-lt S sh i j), data-under S sh i j))
-      (λ j h. ((omega arith, parity-lt S sh i j), parity-under S sh i j))
+  in-places : (x : ℕ) → x < sampleSize d → InTree S tbl (sampleLayer d x) (sampleNumber S d i x) × Under S sh i (sampleLayer d x) (sampleNumber S d i x)
+  in-places = places-are S sh i d pos hi
 
   -- where the sample's data symbol of the layer above is the tree's, the sample has the committed hash
   has-is : (s : List ℕ) (l m : ℕ) → Under S sh i l m → ((u : ℕ) → suc u ≡ l → sampleData d s u ≡ f u (dataNo S u i)) → sampleHas S root d s l m ≡ committed S root f l m
@@ -184,7 +210,7 @@ module _ (S : Shape) (sh : TreeOk S) (H : ℕ → ℕ → List ℕ → List ℕ)
   taken = sampleBytes S f d i
 
   size : (x : ℕ) → x < sampleSize d → length (f (sampleLayer d (0 + x)) (sampleNumber S d i (0 + x))) ≡ 256
-  size x h = rw zero-add (agr .coded .sized (sampleLayer d x) (sampleNumber S d i x) (places-are x h .0))
+  size x h = rw zero-add (agr .coded .sized (sampleLayer d x) (sampleNumber S d i x) (in-places x h .0))
 
   pub taken-length : length taken ≡ 256 * sampleSize d
   unfolding sampleBytes
@@ -206,7 +232,7 @@ module _ (S : Shape) (sh : TreeOk S) (H : ℕ → ℕ → List ℕ → List ℕ)
       (λ x h.
       let l : ℕ = sampleLayer d x in
       let m : ℕ = sampleNumber S d i x in
-      let (inside, under) = places-are x h in
+      let (inside, under) = in-places x h in
       ap (H l m) (taken-true x h) ∙ hashes S (sh .shape) H digests tbl root f agr l m inside
       ∙ sym (has-is taken l m under (λ u e. data-true taken taken-true u (omega (arith, inside .0)))))
 
@@ -224,7 +250,7 @@ module _ (S : Shape) (sh : TreeOk S) (H : ℕ → ℕ → List ℕ → List ℕ)
     one x h above =
         let l : ℕ = sampleLayer d x in
         let m : ℕ = sampleNumber S d i x in
-        let (inside, under) = places-are x h in
+        let (inside, under) = in-places x h in
         ⊎-elim inl (λ c. inr (record { index = x; inside = h; collide = c }))
         (same-or-collide H l m (symbolIn s x) (f l m)
         (all-fit S H root d i pos s acc x h ∙ has-is s l m under above ∙ sym (hashes S (sh .shape) H digests tbl root f agr l m inside)))
@@ -246,4 +272,4 @@ module _ (S : Shape) (sh : TreeOk S) (H : ℕ → ℕ → List ℕ → List ℕ)
     pub accepted-true : SampleTrue S f d i s ⊎ C
     accepted-true =
         all-or (λ x. symbolIn s x ≡ f (sampleLayer d x) (sampleNumber S d i x)) C (sampleSize d)
-        (λ x h. ⊎-elim (one x h) inr (above-or (sampleLayer d x) (places-are x h .0 .0)))
+        (λ x h. ⊎-elim (one x h) inr (above-or (sampleLayer d x) (in-places x h .0 .0)))

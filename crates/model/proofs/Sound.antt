@@ -17,8 +17,8 @@ use Rattle.model.specs.Shape.{Shape, ShapeOk}
 use Rattle.octets.specs.ByteLists.{xors}
 use Rattle.model.specs.Symbols.{symbolIn, xorOf, others, count, slot, committed}
 use Rattle.model.specs.Coded.{Digests, InTree, Agrees, CollisionWith}
-use Rattle.model.specs.Climb.{Climb, leads, breaks}
-use Rattle.model.specs.Fault.{reached, kindAt, proofLayer, proofEquation, proofWithheld, proofLength, body, next, givenXor, afterGiven, proofMembers, proofGiven, layerOk, equationOk, memberOk, headOk, Verdict, accepted, wrongHead, wrongLength, noFault, firstBreak, ruling, wayCheck, givenCheck, pathCheck, pathHash, proofCheck, withheldFits, verdict, InWay, InGiven, InPath, ProofHolds}
+use Rattle.model.specs.Climb.{Climb, leads, breaks, Ways, allLead, breakAt, firstBreak}
+use Rattle.model.specs.Fault.{reached, kindAt, proofLayer, proofEquation, proofWithheld, proofLength, body, next, givenXor, afterGiven, proofMembers, proofGiven, layerOk, equationOk, memberOk, headOk, Verdict, accepted, wrongHead, wrongLength, broken, noFault, ruling, wayCheck, pathCheck, waysCheck, pathHash, proofCheck, withheldFits, verdict, InWay, InGiven, InPath, ProofHolds}
 use Rattle.model.proofs.Bytes.{yes-same, sym-cancel}
 use Rattle.model.proofs.Members.{length-xorOf}
 use Rattle.model.proofs.Counts.{isIt, ascending-once, xorOf-others, every-others, every-member}
@@ -26,24 +26,31 @@ use Rattle.model.proofs.Shapes.{up-lt}
 use Rattle.model.proofs.Tables.{TableLaws}
 use Rattle.model.proofs.Binding.{same-or-collide, hashes}
 use Rattle.model.proofs.Ways.{reached-up, reached-lt, committed-same, WayFit, way-fits}
+use Rattle.model.proofs.ProofWays.{break-inside}
 
--- ---- the tests that an accepted proof has passed
+-- ---- the tests that a proof has passed which is accepted, or is broken
 
 -- a test that turns away did not
-picked : (b : Bool) (v w : Verdict) → (v ≡ accepted → _≡_ {A = ℕ} 0 1) → pick b v w ≡ accepted → (b ≡ false) × (w ≡ accepted)
+picked : (b : Bool) (v w u : Verdict) → (v ≡ u → _≡_ {A = ℕ} 0 1) → pick b v w ≡ u → (b ≡ false) × (w ≡ u)
 unfolding pick
-picked true v w n e = absurd (omega (arith, n e))
-picked false v w n e = (refl, e)
+picked true v w u n e = absurd (omega (arith, n e))
+picked false v w u n e = (refl, e)
 
-ruled : (c : Climb) (b : Bool) → ruling c b ≡ accepted → (c ≡ leads) × (b ≡ false)
+ruled : (w : Ways) (b : Bool) → ruling w b ≡ accepted → (w ≡ allLead) × (b ≡ false)
 unfolding ruling
-ruled leads b e = (refl, picked b noFault accepted (λ z. cc) e .0)
-ruled (breaks j) b e = absurd (let z : _≡_ {A = ℕ} 0 1 = cc in omega arith)
+ruled allLead b e = (refl, picked b noFault accepted accepted (λ z. cc) e .0)
+ruled (breakAt l p) b e = absurd (let z : _≡_ {A = ℕ} 0 1 = cc in omega arith)
 
-pub both-lead : (a b : Climb) → firstBreak a b ≡ leads → (a ≡ leads) × (b ≡ leads)
+ruled-broken : (w : Ways) (b : Bool) (l p : ℕ) → ruling w b ≡ broken l p → w ≡ breakAt l p
+unfolding ruling pick
+ruled-broken allLead true l p e = absurd (let z : _≡_ {A = ℕ} 0 1 = cc in omega arith)
+ruled-broken allLead false l p e = absurd (let z : _≡_ {A = ℕ} 0 1 = cc in omega arith)
+ruled-broken (breakAt m q) b l p e = cc
+
+both-lead : (p : ℕ) (c : Climb) (w : Ways) → firstBreak p c w ≡ allLead → (c ≡ leads) × (w ≡ allLead)
 unfolding firstBreak
-both-lead leads b e = (refl, e)
-both-lead (breaks j) b e = absurd (let z : _≡_ {A = ℕ} 0 1 = cc in omega arith)
+both-lead p leads w e = (refl, e)
+both-lead p (breaks l) w e = absurd (let z : _≡_ {A = ℕ} 0 1 = cc in omega arith)
 
 -- what the head names, where it passes
 pub record Named (tbl : List (List (List ℕ))) (b : List ℕ) : Type 0 where
@@ -66,24 +73,41 @@ module _ (S : Shape) (H : ℕ → ℕ → List ℕ → List ℕ) (root : List �
   pub record Accepted (b : List ℕ) : Type 0 where
     pub named : Named tbl b
     pub exact : length b ≡ proofLength (proofLayer b) (length (proofMembers tbl b))
-    pub given : givenCheck S H root (proofLayer b) (proofGiven tbl b) (body b) ≡ leads
-    pub path : pathCheck S H root (proofLayer b) (proofWithheld b) (afterGiven (proofLayer b) (proofGiven tbl b) (body b)) ≡ leads
+    pub lead : waysCheck S H root (proofLayer b) (proofWithheld b) 0 (proofGiven tbl b) (body b) ≡ allLead
     pub unfit : withheldFits S H root tbl b ≡ false
 
-  pub accepted-is : (b : List ℕ) → verdict S H root tbl b ≡ accepted → Accepted b
-  unfolding verdict proofCheck
-  accepted-is b e =
-      let (a₁, e₁) = picked (not (headOk tbl b)) wrongHead _ (λ z. cc) e in
-      let (a₂, e₂) = picked (not (eqb (length b) (proofLength (proofLayer b) (length (proofMembers tbl b))))) wrongLength _ (λ z. cc) e₁ in
-      let (a₃, a₄) = ruled (proofCheck S H root tbl b) (withheldFits S H root tbl b) e₂ in
-      let (g, p) = both-lead (givenCheck S H root (proofLayer b) (proofGiven tbl b) (body b)) _ a₃ in
+  -- tests 6 and 2: what is left is the ruling
+  record Formed (b : List ℕ) (v : Verdict) : Type 0 where
+    named : Named tbl b
+    exact : length b ≡ proofLength (proofLayer b) (length (proofMembers tbl b))
+    by-ruling : ruling (proofCheck S H root tbl b) (withheldFits S H root tbl b) ≡ v
+
+  formed : (b : List ℕ) (v : Verdict) → (wrongHead ≡ v → _≡_ {A = ℕ} 0 1) → (wrongLength ≡ v → _≡_ {A = ℕ} 0 1) → verdict S H root tbl b ≡ v → Formed b v
+  unfolding verdict
+  formed b v no-head no-length e =
+      let (a₁, e₁) = picked (not (headOk tbl b)) wrongHead _ v no-head e in
+      let (a₂, e₂) = picked (not (eqb (length b) (proofLength (proofLayer b) (length (proofMembers tbl b))))) wrongLength _ v no-length e₁ in
       record {
         named = head-names tbl b (not-no (headOk tbl b) a₁);
         exact = eqb-true _ _ (not-no (eqb (length b) (proofLength (proofLayer b) (length (proofMembers tbl b)))) a₂);
-        given = g;
-        path = p;
-        unfit = a₄;
+        by-ruling = e₂;
       }
+
+  pub accepted-is : (b : List ℕ) → verdict S H root tbl b ≡ accepted → Accepted b
+  unfolding proofCheck
+  accepted-is b e =
+      let f = formed b accepted (λ z. cc) (λ z. cc) e in
+      let (lead, unfit) = ruled (proofCheck S H root tbl b) (withheldFits S H root tbl b) (f .by-ruling) in
+      record { named = f .named; exact = f .exact; lead = lead; unfit = unfit }
+
+  -- where a broken proof breaks: at a layer of the way from its own up, and at the position of a given member or of the withheld one
+  pub broken-inside : (b : List ℕ) (l p : ℕ) → verdict S H root tbl b ≡ broken l p → Named tbl b × (l ≤ proofLayer b) × (p ≤ length (proofGiven tbl b))
+  unfolding proofCheck
+  broken-inside b l p e =
+      let f = formed b (broken l p) (λ z. cc) (λ z. cc) e in
+      let w = ruled-broken (proofCheck S H root tbl b) (withheldFits S H root tbl b) l p (f .by-ruling) in
+      let (x, y) = break-inside S H root (body b) (proofLayer b) (proofWithheld b) (proofGiven tbl b) 0 0 l p w in
+      (f .named, x, omega arith)
 
 -- ---- soundness
 
@@ -128,17 +152,23 @@ module _ (S : Shape) (sh : ShapeOk S) (H : ℕ → ℕ → List ℕ → List ℕ
         let z : j - j ≡ 0 = omega arith in
         subst (λ (x : ℕ). (symbolIn c x ≡ f j (reached S j i x)) ⊎ With (InWay S j i c)) z (way-at j (omega arith))
 
-  given-sound : (j : ℕ) (ys c : List ℕ) → j < length tbl → every (λ x. ltb x (S .n j)) ys ≡ true → givenCheck S H root j ys c ≡ leads
+  given-sound : (j x p : ℕ) (ys c : List ℕ) → j < length tbl → every (λ x. ltb x (S .n j)) ys ≡ true → waysCheck S H root j x p ys c ≡ allLead
       → (givenXor j ys c ≡ xorOf (f j) ys) ⊎ With (InGiven S j ys c)
-  unfolding givenCheck givenXor xorOf InGiven every
-  given-sound j [] c h a t = inl refl
-  given-sound j (y ∷ ys) c h a t =
+  unfolding waysCheck givenXor xorOf InGiven every
+  given-sound j x p [] c h a t = inl refl
+  given-sound j x p (y ∷ ys) c h a t =
       let (u, v) = and-yes (ltb y (S .n j)) (every (λ x. ltb x (S .n j)) ys) a in
-      let (mine, rest) = both-lead (wayCheck S H root j y c) (givenCheck S H root j ys (next j c)) t in
+      let (mine, rest) = both-lead p (wayCheck S H root j y c) (waysCheck S H root j x (suc p) ys (next j c)) t in
       ⊎-elim
-      (λ s. ⊎-elim (λ r. inl (ap₂ xors s r)) (λ w. inr (held-too (InGiven S j ys (next j c)) _ (λ l m s q. inr q) w)) (given-sound j ys (next j c) h v rest))
+      (λ s. ⊎-elim (λ r. inl (ap₂ xors s r)) (λ w. inr (held-too (InGiven S j ys (next j c)) _ (λ l m s q. inr q) w)) (given-sound j x (suc p) ys (next j c) h v rest))
       (λ w. inr (held-too (InWay S j y c) _ (λ l m s q. inl q) w))
       (way-sound j y c h (ltb-true y (S .n j) u) mine)
+
+  -- the withheld one's path is the last way
+  last-leads : (j x p : ℕ) (ys c : List ℕ) → waysCheck S H root j x p ys c ≡ allLead → pathCheck S H root j x (afterGiven j ys c) ≡ leads
+  unfolding waysCheck afterGiven
+  last-leads j x p [] c t = both-lead p (pathCheck S H root j x c) allLead t .0
+  last-leads j x p (y ∷ ys) c t = last-leads j x (suc p) ys (next j c) (both-lead p (wayCheck S H root j y c) _ t .1)
 
   path-sound : (j i : ℕ) (c : List ℕ) → j < length tbl → i < S .n j → pathCheck S H root j i c ≡ leads
       → (pathHash S root j i c ≡ committed S root f j i) ⊎ With (InPath S j i c)
@@ -177,6 +207,6 @@ module _ (S : Shape) (sh : ShapeOk S) (H : ℕ → ℕ → List ℕ → List ℕ
         ∙ hashes S sh H digests tbl root f agr j x (a .named .layer-ok, below) ∙ sym v))
         (a .unfit))
         (λ w. held-too (InPath S j x c) _ (λ l m s q. inr q) w)
-        (path-sound j x c (a .named .layer-ok) below (a .path)))
+        (path-sound j x c (a .named .layer-ok) below (last-leads j x 0 (others x ms) (body b) (a .lead))))
         (λ w. held-too (InGiven S j (others x ms) (body b)) _ (λ l m s q. inl q) w)
-        (given-sound j (others x ms) (body b) (a .named .layer-ok) (every-others _ x ms within) (a .given))
+        (given-sound j x 0 (others x ms) (body b) (a .named .layer-ok) (every-others _ x ms within) (a .lead))

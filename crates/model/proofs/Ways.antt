@@ -1,5 +1,6 @@
 -- The way up from a symbol: the numbers that it reaches, and what its check says.
 use mathlib.Core.Path.{_≡_, refl, ap, ap₂, _∙_, subst}
+use mathlib.Core.Bool.{false}
 use mathlib.Core.List.{List, [], _∷_}
 use Prim.Native.Nat.{ℕ, zero, suc, _+_, _-_, _*_, _/_, _%_, _≤_, _<_}
 use native.Mathlib.Omega.{arith}
@@ -7,11 +8,12 @@ use lib.ListN.{length, drop}
 use lib.Seq.{drop-drop}
 use Rattle.model.specs.Shape.{Shape, ShapeOk}
 use Rattle.model.specs.Symbols.{symbolIn, slot, committed}
-use Rattle.model.specs.Climb.{leads, Says}
+use Rattle.model.specs.Climb.{leads, breaks, Says}
 use Rattle.model.specs.Fault.{reached, next, afterGiven, pathHash, wayFits, wayCheck}
-use Rattle.model.proofs.Bytes.{same-yes, yes-same}
+use Rattle.octets.proofs.Choice.{both}
+use Rattle.model.proofs.Bytes.{same-yes, yes-same, no-same}
 use Rattle.model.proofs.Shapes.{up-lt}
-use Rattle.model.proofs.Climbs.{climb-says, climb-leads}
+use Rattle.model.proofs.Climbs.{climb-says, climb-is}
 
 -- ---- numbers
 
@@ -83,4 +85,28 @@ module _ (S : Shape) (H : ℕ → ℕ → List ℕ → List ℕ) (root : List �
 
   pub fits-way : ((x : ℕ) → x ≤ j → WayFit x (j - x) (reached S j i x)) → wayCheck S H root j i c ≡ leads
   unfolding wayCheck wayFits
-  fits-way all = climb-leads (wayFits S H root j i c) (λ x. j - x) (suc j) 0 (λ x a h. yes-same (all x (omega arith)))
+  fits-way all = climb-is (wayFits S H root j i c) (λ x. j - x) (suc j) 0 leads (λ x a h. yes-same (all x (omega arith)))
+
+  -- it breaks at layer l: the symbols below have their hashes, and that of layer l has not
+  pub record WayBreaks (l : ℕ) : Type 0 where
+    pub layer : l ≤ j
+    pub below : (x : ℕ) → x + l < j → WayFit x (j - x) (reached S j i x)
+    pub broken : WayFit (j - l) (j - (j - l)) (reached S j i (j - l)) → ⊥
+
+  pub way-breaks : (l : ℕ) → wayCheck S H root j i c ≡ breaks l → WayBreaks l
+  unfolding wayCheck wayFits
+  way-breaks l e =
+      let (y, first, at) =
+      subst (Says (wayFits S H root j i c) (λ x. j - x) 0 (suc j)) e (climb-says (wayFits S H root j i c) (λ x. j - x) (suc j) 0) in
+      let up : y ≡ j - l = omega (arith, first .upto) in
+      record {
+        layer = omega arith;
+        below = λ x h. same-yes _ _ (first .before x (omega arith) (omega arith));
+        broken = λ f. both (yes-same f) (subst (λ (z : ℕ). wayFits S H root j i c z ≡ false) up (first .unfit));
+      }
+
+  pub breaks-way : (l : ℕ) → WayBreaks l → wayCheck S H root j i c ≡ breaks l
+  unfolding wayCheck wayFits
+  breaks-way l w =
+      climb-is (wayFits S H root j i c) (λ x. j - x) (suc j) 0 (breaks l)
+      (j - l, record { from = omega arith; upto = omega arith; unfit = no-same (w .broken); before = λ x a h. yes-same (w .below x (omega arith)) }, omega (arith, w .layer))

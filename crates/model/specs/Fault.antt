@@ -12,7 +12,7 @@ use Rattle.parity_table.specs.Table.{word, layerOf, equationOf}
 use Rattle.model.specs.Shape.{Shape}
 use Rattle.octets.specs.ByteLists.{same, xors}
 use Rattle.model.specs.Symbols.{joined, symbolIn, zeros, others, count, slot, committed}
-use Rattle.model.specs.Climb.{Climb, leads, breaks, climb}
+use Rattle.model.specs.Climb.{Climb, leads, climb, Ways, allLead, breakAt, firstBreak}
 
 -- ---- the way up from a symbol: that symbol, then its path
 
@@ -109,18 +109,13 @@ pub data Verdict : Type 0 where
   accepted : Verdict
   wrongHead : Verdict
   wrongLength : Verdict
-  broken : (layer : ℕ) → Verdict
+  broken : (layer position : ℕ) → Verdict
   noFault : Verdict
 
--- one way after another: the first that breaks
-unfoldable pub firstBreak : Climb → Climb → Climb
-firstBreak leads c = c
-firstBreak (breaks j) c = breaks j
-
 -- tests 7 and 8
-unfoldable pub ruling : Climb → Bool → Verdict
-ruling (breaks j) fits = broken j
-ruling leads fits = pick fits noFault accepted
+unfoldable pub ruling : Ways → Bool → Verdict
+ruling (breakAt l p) fits = broken l p
+ruling allLead fits = pick fits noFault accepted
 
 -- the hash that the path c of symbol i of layer j, or the root, has for that symbol
 unfoldable pub pathHash : Shape → List ℕ → ℕ → ℕ → List ℕ → List ℕ
@@ -135,21 +130,21 @@ module _ (S : Shape) (H : ℕ → ℕ → List ℕ → List ℕ) (root : List �
   unfoldable pub wayCheck : ℕ → ℕ → List ℕ → Climb
   wayCheck j i c = climb (wayFits j i c) (λ x. j - x) 0 (suc j)
 
-  unfoldable pub givenCheck : ℕ → List ℕ → List ℕ → Climb
-  givenCheck j [] c = leads
-  givenCheck j (y ∷ ys) c = firstBreak (wayCheck j y c) (givenCheck j ys (next j c))
-
-  -- the path c of symbol i of layer j
+  -- the path c of symbol i of layer j, which starts at layer j−1; of a symbol of layer 0 the hash stands in the root
   unfoldable pub pathCheck : ℕ → ℕ → List ℕ → Climb
   pathCheck zero i c = leads
   pathCheck (suc j) i c = wayCheck j (i % S .k j) c
 
+  -- "the position of the first such member in proof order, the withheld one counting last": the given members, from position p on, with their paths,
+  -- then the path of the withheld one x
+  unfoldable pub waysCheck : ℕ → ℕ → ℕ → List ℕ → List ℕ → Ways
+  waysCheck j x p [] c = firstBreak p (pathCheck j x c) allLead
+  waysCheck j x p (y ∷ ys) c = firstBreak p (wayCheck j y c) (waysCheck j x (suc p) ys (next j c))
+
   module _ (tbl : List (List (List ℕ))) where
-    -- every hash leads to the root: the given members' in their order, then the withheld one's path
-    unfoldable pub proofCheck : List ℕ → Climb
-    proofCheck b =
-        firstBreak (givenCheck (proofLayer b) (proofGiven tbl b) (body b))
-        (pathCheck (proofLayer b) (proofWithheld b) (afterGiven (proofLayer b) (proofGiven tbl b) (body b)))
+    -- "every hash leads to the root"
+    unfoldable pub proofCheck : List ℕ → Ways
+    proofCheck b = waysCheck (proofLayer b) (proofWithheld b) 0 (proofGiven tbl b) (body b)
 
     -- "the hash of the exclusive-or of the given members" is "the hash committed for the withheld one"
     unfoldable pub withheldFits : List ℕ → Bool

@@ -3,6 +3,7 @@ use mathlib.Core.Path.{_≡_, refl, ap, _∙_}
 use mathlib.Core.Bool.{true}
 use mathlib.Core.List.{List}
 use Prim.Native.Nat.{ℕ, _-_, _*_, _<_}
+use native.Mathlib.Omega.{arith}
 use lib.ListN.{length}
 use borrow.Author.Tests.{eqb-true}
 use Rattle.octets.proofs.Choice.{and-yes}
@@ -11,8 +12,9 @@ use Rattle.symbol_hash.specs.SymbolHash.{symbolHash}
 use Rattle.symbol_hash.specs.declared.Kind.the-variants.{Plain}
 use Rattle.model.specs.Shape.{tree}
 use Rattle.model.specs.Climb.{Climb, leads, breaks}
-use Rattle.model.specs.Sampling.{sampleSize}
+use Rattle.model.specs.Sampling.{sampleSize, sampleLayer}
 use Rattle.model.specs.SampleCheck.{sampleCheck}
+use Rattle.model.proofs.Samples.{sample-breaks}
 use Rattle.sampling.specs.Lent.{BaseSymbol}
 use Rattle.calls.specs.declared.Answer.{Answer}
 use Rattle.calls.specs.declared.Answer.the-variants.{Done}
@@ -41,13 +43,15 @@ at-end d i root s f l h =
 
 -- ---- its value is small
 
-small-led : (c : Climb) → Small (led c)
-small-led leads = small-plain refl
-small-led (breaks j) = small-plain refl
+small-led : (d i : ℕ) (root s : List ℕ) → BaseSymbol d i → (c : Climb) → sampleCheck tree (symbolHash Plain) root d i s ≡ c → Small (led c)
+unfolding sampleLayer
+small-led d i root s b leads e = small-plain refl
+small-led d i root s b (breaks l) e =
+    record { first = omega (arith, b .0, b .1, sample-breaks tree (symbolHash Plain) root d i (b .0) s l e .at-layer); second = omega arith }
 
 pub small : (d i : ℕ) (root s : List ℕ) → Small (sampleChecked d i root s)
 unfolding sampleChecked
 small d i root s =
     small-then (checkTested d i (length root) (length s)) (led (sampleCheck tree (symbolHash Plain) root d i s))
     (small-then (opened d (checkSized d (length root) (length s))) (testNumber d i) (small-opened d _) (λ e. small-number d i))
-    (λ e. small-led (sampleCheck tree (symbolHash Plain) root d i s))
+    (λ e. small-led d i root s (passed d i (length root) (length s) e .1) (sampleCheck tree (symbolHash Plain) root d i s) refl)

@@ -22,10 +22,10 @@ checkSized d root s = rootSized root && sampleSized d s
 abbrev pub checkTested : ℕ → ℕ → ℕ → ℕ → Answer
 checkTested d i root s = opened d (checkSized d root s) then testNumber d i
 
--- 7: "a hash doesn't lead to the root"
+-- 7: "a hash doesn't lead to the root", with the layer where it breaks
 abbrev pub led : Climb → Answer
 led leads = Done
-led (breaks j) = Stopped Hash
+led (breaks l) = Stopped (Hash l 0)
 
 -- tests 1, 2, 5, 7
 unfoldable pub sampleChecked : ℕ → ℕ → List ℕ → List ℕ → Answer

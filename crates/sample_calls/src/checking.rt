@@ -41,7 +41,7 @@ fn answer_of(w: Way) -> Answer
 {
     match w {
         Way::Leads => Answer::Done,
-        Way::Breaks(_) => Answer::Stopped(Stop::Hash),
+        Way::Breaks(layer) => Answer::Stopped(Stop::Hash { layer, position: 0 }),
     }
 }
 

@@ -16,11 +16,11 @@ enum-told-2 c = search needs
 enum-told-3 : tie.Need-enum-told-3
 enum-told-3 c = search needs
 
+enum-known-v : tie.Need-enum-known-v
+enum-known-v c = search needs
+
 enum-told-4 : tie.Need-enum-told-4
 enum-told-4 c = search needs
-
-enum-told-5 : tie.Need-enum-told-5
-enum-told-5 c = search needs
 
 returns : tie.Need-returns
 returns c = sym (ap (λ (v : Verdict). judged (verdictOf v)) (c .enum-told .given .1))
@@ -32,10 +32,10 @@ returns-3 : tie.Need-returns-3
 returns-3 c = sym (ap (λ (v : Verdict). judged (verdictOf v)) (c .enum-told3 .given .1))
 
 returns-4 : tie.Need-returns-4
-returns-4 c = sym (ap (λ (v : Verdict). judged (verdictOf v)) (c .enum-told4 .given .1))
+returns-4 c = sym (ap (λ (v : Verdict). judged (verdictOf v)) (c .before .v .given .1))
 
 returns-5 : tie.Need-returns-5
-returns-5 c = sym (ap (λ (v : Verdict). judged (verdictOf v)) (c .enum-told5 .given .1))
+returns-5 c = sym (ap (λ (v : Verdict). judged (verdictOf v)) (c .enum-told4 .given .1))
 
 pub answer-of-spec : {M : Type 1} → statement M
 answer-of-spec =
@@ -44,8 +44,8 @@ answer-of-spec =
     enum-told
     enum-told-2
     enum-told-3
+    enum-known-v
     enum-told-4
-    enum-told-5
     returns
     returns-2
     returns-3

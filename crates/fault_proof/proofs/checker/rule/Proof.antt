@@ -4,7 +4,7 @@ use native.Mathlib.Omega.{arith}
 use borrow.Author.Needs.{needs}
 use Rattle.model.specs.Symbols.{zeros}
 use Rattle.symbol_hash.specs.SymbolHash.{symbolHash}
-use Rattle.fault_proof.proofs.RuledLaws.{some-member, withheld-inside, few-bytes, other-length, given-room, path-room, given-broken, path-broken, no-fault, fault-shown}
+use Rattle.fault_proof.proofs.RuledLaws.{some-member, withheld-inside, few-bytes, other-length, ways-room, path-room, way-broken, no-fault, fault-shown}
 use Rattle.fault_proof.proofs.checker.rule.Statement.{statement}
 use Rattle.fault_proof.proofs.checker.rule.Tie as tie
 
@@ -51,42 +51,19 @@ check-requires : tie.Need-check-requires
 check-requires c κs =
     let a = c .before .before .before .before .args in
     let k = c .before .before .before .before .pre in
-    (k .0, given-room (symbolHash (a .kind)) (a .root .now) (a .j) (a .x) (a .members .now) (a .proof .now) (k .0) (k .1) (c .if1 .left))
+    (k .0, ways-room (symbolHash (a .kind)) (a .root .now) (a .j) (a .x) (a .members .now) (a .proof .now) (k .0) (k .1) (c .if1 .left))
 
-enum-known-l : tie.Need-enum-known-l
-enum-known-l c = search needs
+enum-known-layer : tie.Need-enum-known-layer
+enum-known-layer c = search needs
 
 returns-2 : tie.Need-returns-2
 returns-2 c =
     let a = c .before .before .before .before .before .before .before .before .args in
     let k = c .before .before .before .before .before .before .before .before .pre in
-    given-broken (symbolHash (a .kind)) (a .root .now) (a .j) (a .x) (a .members .now) (a .proof .now) (k .0) (k .1) (c .before .before .before .before .if1 .left) (c .before .before .before .check .result) (c .before .before .before .check .ensures) _ (c .before .l .given .1)
+    way-broken (symbolHash (a .kind)) (a .root .now) (a .j) (a .x) (a .members .now) (a .proof .now) (k .0) (k .1) (c .before .before .before .before .if1 .left) (c .before .before .before .check .result) (c .before .before .before .check .ensures) _ _ (c .before .layer .given .1)
 
 enum-told : tie.Need-enum-told
 enum-told c = search needs
-
-mul-path : tie.Need-mul-path
-mul-path c = search needs
-
-sub-path : tie.Need-sub-path
-sub-path c = search needs
-
-check-path-requires : tie.Need-check-path-requires
-check-path-requires c κs =
-    let k = c .before .before .before .before .before .before .before .pre .0 in
-    (k .layer, λ h. k .hung h .1, search needs)
-
-enum-known-l-2 : tie.Need-enum-known-l-2
-enum-known-l-2 c = search needs
-
-returns-3 : tie.Need-returns-3
-returns-3 c =
-    let a = c .before .before .before .before .before .before .before .before .before .before .before .args in
-    let k = c .before .before .before .before .before .before .before .before .before .before .before .pre in
-    path-broken (symbolHash (a .kind)) (a .root .now) (a .j) (a .x) (a .members .now) (a .proof .now) (k .0) (k .1) (c .before .before .before .before .before .before .before .if1 .left) (c .before .before .before .before .before .before .check .result) (c .before .before .before .before .before .before .check .ensures) (c .before .before .before .before .enum-told .given .1) (c .before .before .before .check-path .result) (c .before .before .before .check-path .ensures) _ (c .before .l2 .given .1)
-
-enum-told-2 : tie.Need-enum-told-2
-enum-told-2 c = search needs
 
 slice-aggregate-gather : tie.Need-slice-aggregate-gather
 slice-aggregate-gather c = search needs
@@ -94,33 +71,38 @@ slice-aggregate-gather c = search needs
 gather-requires : tie.Need-gather-requires
 unfolding zeros
 gather-requires c κs =
-    let a = c .before .before .before .before .before .before .before .before .before .before .before .args in
-    let k = c .before .before .before .before .before .before .before .before .before .before .before .pre in
-    (refl, given-room (symbolHash (a .kind)) (a .root .now) (a .j) (a .x) (a .members .now) (a .proof .now) (k .0) (k .1) (c .before .before .before .before .before .before .before .if1 .left))
+    let a = c .before .before .before .before .before .before .before .before .args in
+    let k = c .before .before .before .before .before .before .before .before .pre in
+    (refl, omega (arith, ways-room (symbolHash (a .kind)) (a .root .now) (a .j) (a .x) (a .members .now) (a .proof .now) (k .0) (k .1) (c .before .before .before .before .if1 .left)))
+
+mul-path : tie.Need-mul-path
+mul-path c = search needs
+
+sub-path : tie.Need-sub-path
+sub-path c = search needs
 
 slice-aggregate-fits : tie.Need-slice-aggregate-fits
 slice-aggregate-fits c = search needs
 
 fits-requires : tie.Need-fits-requires
 fits-requires c κs =
-    let a = c .before .before .before .before .before .before .before .before .before .before .before .before .before .before .args in
-    let k = c .before .before .before .before .before .before .before .before .before .before .before .before .before .before .pre in
+    let a = c .before .before .before .before .before .before .before .before .before .before .before .args in
+    let k = c .before .before .before .before .before .before .before .before .before .before .before .pre in
     let inside = withheld-inside (symbolHash (a .kind)) (a .root .now) (a .j) (a .x) (a .members .now) (a .proof .now) (k .0) (k .1) in
-    let room = path-room (symbolHash (a .kind)) (a .root .now) (a .j) (a .x) (a .members .now) (a .proof .now) (k .0) (k .1)
-    (c .before .before .before .before .before .before .before .before .before .before .if1 .left) in
+    let room = path-room (symbolHash (a .kind)) (a .root .now) (a .j) (a .x) (a .members .now) (a .proof .now) (k .0) (k .1) (c .before .before .before .before .before .before .before .if1 .left) in
     (k .0 .layer, search needs, inside .0, λ h. (inside .1 h, omega (arith, room, h)))
+
+returns-3 : tie.Need-returns-3
+returns-3 c =
+    let a = c .before .before .before .before .before .before .before .before .before .before .before .before .before .args in
+    let k = c .before .before .before .before .before .before .before .before .before .before .before .before .before .pre in
+    no-fault (symbolHash (a .kind)) (a .root .now) (a .j) (a .x) (a .members .now) (a .proof .now) (k .0) (k .1) (c .before .before .before .before .before .before .before .before .before .if1 .left) (c .before .before .before .before .before .before .before .before .check .result) (c .before .before .before .before .before .before .before .before .check .ensures) (c .before .before .before .before .before .before .enum-told .given .1) _ (c .before .before .before .before .gather .ensures) (c .before .fits2 .result) (c .before .fits2 .ensures) (c .if2 .taken)
 
 returns-4 : tie.Need-returns-4
 returns-4 c =
-    let a = c .before .before .before .before .before .before .before .before .before .before .before .before .before .before .before .before .args in
-    let k = c .before .before .before .before .before .before .before .before .before .before .before .before .before .before .before .before .pre in
-    no-fault (symbolHash (a .kind)) (a .root .now) (a .j) (a .x) (a .members .now) (a .proof .now) (k .0) (k .1) (c .before .before .before .before .before .before .before .before .before .before .before .before .if1 .left) (c .before .before .before .before .before .before .before .before .before .before .before .check .result) (c .before .before .before .before .before .before .before .before .before .before .before .check .ensures) (c .before .before .before .before .before .before .before .before .before .enum-told .given .1) (c .before .before .before .before .before .before .before .before .check-path .result) (c .before .before .before .before .before .before .before .before .check-path .ensures) (c .before .before .before .before .before .before .enum-told2 .given .1) _ (c .before .before .before .before .gather .ensures) (c .before .fits2 .result) (c .before .fits2 .ensures) (c .if2 .taken)
-
-returns-5 : tie.Need-returns-5
-returns-5 c =
-    let a = c .before .before .before .before .before .before .before .before .before .before .before .before .before .before .before .before .args in
-    let k = c .before .before .before .before .before .before .before .before .before .before .before .before .before .before .before .before .pre in
-    fault-shown (symbolHash (a .kind)) (a .root .now) (a .j) (a .x) (a .members .now) (a .proof .now) (k .0) (k .1) (c .before .before .before .before .before .before .before .before .before .before .before .before .if1 .left) (c .before .before .before .before .before .before .before .before .before .before .before .check .result) (c .before .before .before .before .before .before .before .before .before .before .before .check .ensures) (c .before .before .before .before .before .before .before .before .before .enum-told .given .1) (c .before .before .before .before .before .before .before .before .check-path .result) (c .before .before .before .before .before .before .before .before .check-path .ensures) (c .before .before .before .before .before .before .enum-told2 .given .1) _ (c .before .before .before .before .gather .ensures) (c .before .fits2 .result) (c .before .fits2 .ensures) (c .if2 .left)
+    let a = c .before .before .before .before .before .before .before .before .before .before .before .before .before .args in
+    let k = c .before .before .before .before .before .before .before .before .before .before .before .before .before .pre in
+    fault-shown (symbolHash (a .kind)) (a .root .now) (a .j) (a .x) (a .members .now) (a .proof .now) (k .0) (k .1) (c .before .before .before .before .before .before .before .before .before .if1 .left) (c .before .before .before .before .before .before .before .before .check .result) (c .before .before .before .before .before .before .before .before .check .ensures) (c .before .before .before .before .before .before .enum-told .given .1) _ (c .before .before .before .before .gather .ensures) (c .before .fits2 .result) (c .before .fits2 .ensures) (c .if2 .left)
 
 pub rule-spec : {M : Type 1} → statement M
 rule-spec =
@@ -134,18 +116,14 @@ rule-spec =
     add-if1-3
     returns
     check-requires
-    enum-known-l
+    enum-known-layer
     returns-2
     enum-told
-    mul-path
-    sub-path
-    check-path-requires
-    enum-known-l-2
-    returns-3
-    enum-told-2
     slice-aggregate-gather
     gather-requires
+    mul-path
+    sub-path
     slice-aggregate-fits
     fits-requires
-    returns-4
-    returns-5)
+    returns-3
+    returns-4)

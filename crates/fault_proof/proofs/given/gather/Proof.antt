@@ -19,7 +19,7 @@ loop-holds : tie.Need-loop-holds Inv-loop μ-loop
 loop-holds c =
     let a = c .before .before .before .args in
     let pre = c .before .before .before .pre in
-    (omega arith, refl, gathered-start (a .b .now) (a .members .now) (a .j) (a .x) (a .at) (a .acc .now) (pre .0) (pre .1))
+    (omega arith, refl, gathered-start (a .b .now) (a .members .now) (a .j) (a .x) (a .at) (a .acc .now) (pre .0) (omega (arith, pre .1)))
 
 mul-y : tie.Need-mul-y Inv-loop μ-loop
 mul-y c = omega arith
@@ -34,25 +34,25 @@ xor-at-requires : tie.Need-xor-at-requires Inv-loop μ-loop
 xor-at-requires c κs =
     let a = c .before .before .before .before .before .before .before .before .args in
     let l = c .before .before .before .before .loop in
-    omega (arith, l .inv .2 .sized, way-room (a .b .now) (a .members .now) (a .j) (a .x) (l .i) (omega arith) (c .before .if1 .taken) (l .from) (l .inv .2 .room))
+    omega (arith, l .inv .2 .sized, way-room (a .b .now) (a .members .now) (a .j) (a .x) (l .i) (omega arith) (c .before .if1 .taken) (l .from) 0 (l .inv .2 .room))
 
 add-from : tie.Need-add-from Inv-loop μ-loop
 add-from c =
     let a = c .before .before .before .before .before .before .before .before .before .before .before .args in
     let l = c .before .before .before .before .before .before .before .loop in
-    omega (arith, way-room (a .b .now) (a .members .now) (a .j) (a .x) (l .i) (omega arith) (c .before .before .before .before .if1 .taken) (l .from) (l .inv .2 .room))
+    omega (arith, way-room (a .b .now) (a .members .now) (a .j) (a .x) (l .i) (omega arith) (c .before .before .before .before .if1 .taken) (l .from) 0 (l .inv .2 .room))
 
 mul-from : tie.Need-mul-from Inv-loop μ-loop
 mul-from c =
     let a = c .before .before .before .before .before .before .before .before .before .before .before .args in
     let l = c .before .before .before .before .before .before .before .loop in
-    omega (arith, way-room (a .b .now) (a .members .now) (a .j) (a .x) (l .i) (omega arith) (c .before .before .before .before .if1 .taken) (l .from) (l .inv .2 .room))
+    omega (arith, way-room (a .b .now) (a .members .now) (a .j) (a .x) (l .i) (omega arith) (c .before .before .before .before .if1 .taken) (l .from) 0 (l .inv .2 .room))
 
 add-from-2 : tie.Need-add-from-2 Inv-loop μ-loop
 add-from-2 c =
     let a = c .before .before .before .before .before .before .before .before .before .before .before .args in
     let l = c .before .before .before .before .before .before .before .loop in
-    omega (arith, way-room (a .b .now) (a .members .now) (a .j) (a .x) (l .i) (omega arith) (c .before .before .before .before .if1 .taken) (l .from) (l .inv .2 .room))
+    omega (arith, way-room (a .b .now) (a .members .now) (a .j) (a .x) (l .i) (omega arith) (c .before .before .before .before .if1 .taken) (l .from) 0 (l .inv .2 .room))
 
 add-i : tie.Need-add-i Inv-loop μ-loop
 add-i c = omega arith

@@ -10,14 +10,14 @@ use Rattle.sample_calls.proofs.checking.answer_of.Tie as tie
 enum-told : tie.Need-enum-told
 enum-told c = search needs
 
-enum-told-2 : tie.Need-enum-told-2
-enum-told-2 c = search needs
+enum-known-w : tie.Need-enum-known-w
+enum-known-w c = search needs
 
 returns : tie.Need-returns
 returns c = sym (ap (λ (w : Way). led (climbOf w)) (c .enum-told .given .1))
 
 returns-2 : tie.Need-returns-2
-returns-2 c = sym (ap (λ (w : Way). led (climbOf w)) (c .enum-told2 .given .1))
+returns-2 c = sym (ap (λ (w : Way). led (climbOf w)) (c .before .w .given .1))
 
 pub answer-of-spec : {M : Type 1} → statement M
-answer-of-spec = tie.close (tie.spec enum-told enum-told-2 returns returns-2)
+answer-of-spec = tie.close (tie.spec enum-told enum-known-w returns returns-2)
