@@ -65,3 +65,8 @@ module _ {n k : ℕ} {v : ℕ × ℕ} {right : Type 0} {later : ℕ → ℕ × �
 
   pub past-so : right → later n v → test k (unless right) later n v
   past-so r l = holds (λ w x. x .is-not r) l
+
+-- a test that is passed leaves the later ones
+pub left : {n k : ℕ} {v : ℕ × ℕ} {right : Type 0} {later : ℕ → ℕ × ℕ → Type 0} → right → test k (unless right) later n v → later n v
+left r (fails e x) = absurd (x .is-not r)
+left r (holds x l) = l

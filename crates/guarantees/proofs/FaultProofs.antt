@@ -24,13 +24,13 @@ use Rattle.parity_table.proofs.Parse.{formed-rules}
 use Rattle.symbol_hash.specs.SymbolHash.{symbolHash}
 use Rattle.symbol_hash.specs.declared.Kind.the-variants.{Plain}
 use Rattle.model.specs.Shape.{tree}
-use Rattle.model.specs.Climb.{Climb, leads, breaks}
-use Rattle.model.specs.Fault.{proofLayer, proofMembers, proofLength, body, givenXor, afterGiven, headOk, Verdict, accepted, noFault, firstBreak, ruling, givenCheck, pathCheck, pathHash, proofCheck, withheldFits, verdict, InGiven, InPath, ProofHolds}
+use Rattle.model.specs.Climb.{Ways, allLead, breakAt}
+use Rattle.model.specs.Fault.{proofLayer, proofMembers, proofLength, body, givenXor, afterGiven, headOk, Verdict, accepted, noFault, ruling, waysCheck, pathHash, proofCheck, withheldFits, verdict, InGiven, InPath, ProofHolds}
 use Rattle.model.proofs.Bytes.{same-yes, yes-same}
-use Rattle.model.proofs.Sound.{both-lead}
 use Rattle.model.proofs.Ways.{after-at}
+use Rattle.model.proofs.ProofWays.{BreakAt, WaysSay, ways-say, ways-are}
 use Rattle.calls.specs.declared.Stop.{Stop}
-use Rattle.calls.specs.declared.Stop.the-variants.{Length, Head, Hash, NoFault}
+use Rattle.calls.specs.declared.Stop.the-variants.{Length, Head, NoFault}
 use Rattle.calls.specs.declared.Answer.{Answer}
 use Rattle.calls.specs.declared.Answer.the-variants.{Done, Stopped}
 use Rattle.calls.specs.Stops.{numberOf, valuesOf}
@@ -39,15 +39,15 @@ use Rattle.calls.proofs.AdmissionLaws.{TableTaken, admits}
 use Rattle.fault_calls.proofs.CheckingLaws.{sizes, judged-so, passed}
 use Rattle.guarantees.specs.Layouts.{bytesFrom, hashFor, XorOf}
 use Rattle.guarantees.specs.Refusals.{TableLength}
-use Rattle.guarantees.specs.Answers.{Answered, done, test, unless, Just}
+use Rattle.guarantees.specs.Answers.{Answered, done, test, unless, two, Just}
 use Rattle.guarantees.specs.Terms.{equationsOf}
-use Rattle.guarantees.specs.FaultProofs.{givenSymbol, Named, given, Exact, path, AllLead, Fits, ProofLengths, ProofRight, AcceptsProofJustWhen, proofTests, ProofCheckerAnswers, Holds, HoldsExactly, HoldsItsSymbols, FaultProofs}
-use Rattle.guarantees.proofs.Answers.{all-done, stops-unless, passes-unless}
+use Rattle.guarantees.specs.FaultProofs.{givenSymbol, Named, given, Exact, path, AllLead, ProofBreaks, Fits, ProofLengths, ProofRight, AcceptsProofJustWhen, proofTests, ProofCheckerAnswers, Holds, HoldsExactly, HoldsItsSymbols, FaultProofs}
+use Rattle.guarantees.proofs.Answers.{all-done, stops-unless, stops-two, passes-unless, passes-two}
 use Rattle.guarantees.specs.Tables.{AllInTwo}
 use Rattle.guarantees.proofs.Tables.{rules-ok, right-formed, formed-right, covered-all, all-covered}
 use Rattle.guarantees.proofs.Refusals.{depth-fits, table-long, long-table, by-admitted}
 use Rattle.guarantees.proofs.Layouts.{xor-one}
-use Rattle.guarantees.proofs.ProofPlaces.{fromMember, given-xor-of, given-held, held-given, given-lead, lead-given, way-leads, leads-way, way-held, held-way, path-leads, leads-path, path-hash, path-held, held-path}
+use Rattle.guarantees.proofs.ProofPlaces.{fromMember, given-xor-of, given-held, held-given, way-leads, leads-way, way-broken, broken-way, way-held, held-way, path-leads, leads-path, path-broken, broken-path, path-hash, path-held, held-path}
 use Rattle.guarantees.proofs.ProofHeads.{named-fitting, as-named, as-read, length-named, named-ok, ok-named}
 use Rattle.guarantees.proofs.ProofWritten.{writes-layout}
 
@@ -89,25 +89,70 @@ module _ (depth : ℕ) (tbl : List (List (List ℕ))) (b : List ℕ) (shallow : 
   -- ---- its hashes
 
   module _ (root : List ℕ) where
-    checks : ℕ → ℕ → List ℕ → Type 0
-    checks i y ys =
-        firstBreak (givenCheck tree (symbolHash Plain) root i ys (drop 12 b)) (pathCheck tree (symbolHash Plain) root i y (afterGiven i ys (drop 12 b))) ≡ leads
+    abbrev checks : Ways → ℕ → ℕ → List ℕ → Type 0
+    checks w i y ys = waysCheck tree (symbolHash Plain) root i y 0 ys (drop 12 b) ≡ w
 
-    lead-named : proofCheck tree (symbolHash Plain) root tbl b ≡ leads → AllLead root h
-    unfolding proofCheck body checks
+    -- what the check says of the ways that are named, and what they say of it
+    abbrev Say : Ways → Type 0
+    Say w = WaysSay tree (symbolHash Plain) root b j (h .withheld) (given h) 12 0 w
+
+    say-named : (w : Ways) → proofCheck tree (symbolHash Plain) root tbl b ≡ w → Say w
+    unfolding proofCheck body
+    say-named w e =
+        subst Say (as-named depth tbl b shallow o h (checks w) e) (ways-say tree (symbolHash Plain) root b j (h .withheld) (given h) 12 0)
+
+    named-say : (w : Ways) → Say w → proofCheck tree (symbolHash Plain) root tbl b ≡ w
+    unfolding proofCheck body
+    named-say w s = as-read depth tbl b shallow o h (checks w) (ways-are tree (symbolHash Plain) root b j (h .withheld) (given h) 12 0 w s)
+
+    lead-named : proofCheck tree (symbolHash Plain) root tbl b ≡ allLead → AllLead root h
     lead-named e =
-        let (a, c) = both-lead (givenCheck tree (symbolHash Plain) root j (given h) (drop 12 b)) _ (as-named depth tbl b shallow o h checks e) in
+        let s = say-named allLead e in
         record {
-          given-lead = λ p k. way-leads root b j p (getD (given h) p 0) (given-lead b j root (given h) 12 a p k);
-          withheld-leads = path-leads root b j g (h .withheld) (ap (pathCheck tree (symbolHash Plain) root j (h .withheld)) (sym path-there) ∙ c);
+          given-lead = λ p k. way-leads root b j p (getD (given h) p 0) (s .given p k);
+          withheld-leads = path-leads root b j g (h .withheld) (s .path);
         }
 
-    named-lead : AllLead root h → proofCheck tree (symbolHash Plain) root tbl b ≡ leads
-    unfolding proofCheck body checks firstBreak
+    named-lead : AllLead root h → proofCheck tree (symbolHash Plain) root tbl b ≡ allLead
     named-lead a =
-        as-read depth tbl b shallow o h checks
-        (ap₂ firstBreak (lead-given b j root (given h) 12 (λ p k. leads-way root b j p (getD (given h) p 0) (a .given-lead p k)))
-        (ap (pathCheck tree (symbolHash Plain) root j (h .withheld)) path-there ∙ leads-path root b j g (h .withheld) (a .withheld-leads)))
+        named-say allLead
+        (record {
+          given = λ p k. leads-way root b j p (getD (given h) p 0) (a .given-lead p k);
+          path = leads-path root b j g (h .withheld) (a .withheld-leads);
+        })
+
+    break-named : (l p : ℕ) → proofCheck tree (symbolHash Plain) root tbl b ≡ breakAt l p → ProofBreaks root h l p
+    break-named l p e =
+        let (q, at, t) = say-named (breakAt l p) e in
+        let is : q ≡ p = omega arith in
+        let s = subst (BreakAt tree (symbolHash Plain) root b j (h .withheld) (given h) 12 l) is t in
+        record {
+          lead-before = λ r k. way-leads root b j r (getD (given h) r 0) (s .before r k);
+          breaks =
+              ⊎-elim (λ (k, c). inl (k, way-broken root b j p (getD (given h) p 0) l c))
+              (λ (k, c). let (a, w) = path-broken root b j g (h .withheld) l c in inr (k, a, w)) (s .here);
+        }
+
+    named-break : (l p : ℕ) → ProofBreaks root h l p → proofCheck tree (symbolHash Plain) root tbl b ≡ breakAt l p
+    named-break l p x =
+        named-say (breakAt l p) (
+          p,
+          omega arith,
+          record {
+            before = λ r k. leads-way root b j r (getD (given h) r 0) (x .lead-before r k);
+            here =
+                ⊎-elim (λ (k, c). inl (k, broken-way root b j p (getD (given h) p 0) l c))
+                (λ (k, a, w). inr (k, broken-path root b j g (h .withheld) l (a, w))) (x .breaks);
+          },
+        )
+
+    -- one or the other
+    pub leads-or-breaks : AllLead root h ⊎ ((l : ℕ) × (p : ℕ) × ProofBreaks root h l p)
+    leads-or-breaks = go (proofCheck tree (symbolHash Plain) root tbl b) refl
+      where
+        go : (w : Ways) → proofCheck tree (symbolHash Plain) root tbl b ≡ w → AllLead root h ⊎ ((l : ℕ) × (p : ℕ) × ProofBreaks root h l p)
+        go allLead e = inl (lead-named e)
+        go (breakAt l p) e = inr (l, p, break-named l p e)
 
     -- ---- its exclusive-or
 
@@ -134,6 +179,18 @@ module _ (depth : ℕ) (tbl : List (List (List ℕ))) (b : List ℕ) (shallow : 
       unfolding withheldFits body equals symbolHash
       named-fits f = as-read depth tbl b shallow o h equals (yes-same (f _ xor-is ∙ sym committed-is))
 
+-- two readings of one head
+module _ (depth : ℕ) (tbl : List (List (List ℕ))) (b : List ℕ) (shallow : depth ≤ 5) (o : TableOk depth tbl) (h z : Named depth tbl b) (root : List ℕ) (l p : ℕ) where
+  pub breaks-as : ProofBreaks root h l p → ProofBreaks root z l p
+  breaks-as k = break-named depth tbl b shallow o z root l p (named-break depth tbl b shallow o h root l p k)
+
+  pub never-both : AllLead root h → ProofBreaks root z l p → ⊥
+  never-both a k =
+      let e = named-lead depth tbl b shallow o h root a in
+      let f = named-break depth tbl b shallow o z root l p k in
+      let zero-one : _≡_ {A = ℕ} 0 1 = cc in
+      omega arith
+
 -- ---- the checker
 
 module _ (depth : ℕ) (root table b : List ℕ) where
@@ -148,7 +205,7 @@ module _ (depth : ℕ) (root table b : List ℕ) where
   from8 = test 8 (unless ((h : Named depth tbl b) × (Fits root h → ⊥))) done
 
   abbrev from7 : Answered
-  from7 = test 7 (unless ((h : Named depth tbl b) × AllLead root h)) from8
+  from7 = test 7 (two (λ l p. (h : Named depth tbl b) × ProofBreaks root h l p)) from8
 
   abbrev from2 : Answered
   from2 = test 2 (unless ((h : Named depth tbl b) × Exact h)) from7
@@ -193,14 +250,20 @@ module _ (depth : ℕ) (root table b : List ℕ) where
             only = λ e. record { depth-right = dr; lengths-right = lr; table-right = formed-right depth ws f; table-covered = covers; named = h; exact = exact-of h; all-lead = a; differs = n };
           }))
 
-      at-7 : (c : Climb) → proofCheck tree (symbolHash Plain) root tbl b ≡ c → Judged from7 (ruling c (withheldFits tree (symbolHash Plain) root tbl b))
+      at-7 : (w : Ways) → proofCheck tree (symbolHash Plain) root tbl b ≡ w → Judged from7 (ruling w (withheldFits tree (symbolHash Plain) root tbl b))
       unfolding ruling
-      at-7 leads e =
-          let a : AllLead root h = lead-named depth tbl b (dr .1) rules h root e in
-          pass _ 7 _ from8 (h, a) (at-8 a)
-      at-7 (breaks l) e =
-          stop Hash 6 _ from8 refl refl
-          (λ (z, a). let q = named-lead depth tbl b (dr .1) rules z root a in let zero-one : _≡_ {A = ℕ} 0 1 = cc in omega arith)
+      at-7 allLead e =
+          let rest = at-8 (lead-named depth tbl b (dr .1) rules h root e) in
+          record {
+            just = passes-two (λ l p (z, k). let q = named-break depth tbl b (dr .1) rules z root l p k in let zero-one : _≡_ {A = ℕ} 0 1 = cc in omega arith) (rest .just);
+            only = rest .only;
+          }
+      at-7 (breakAt l p) e =
+          record {
+            just = stops-two l p (h, break-named depth tbl b (dr .1) rules h root l p e)
+                (λ m q (z, k). let t = named-break depth tbl b (dr .1) rules z root m q k in (cc, cc));
+            only = λ f. absurd (omega (arith, ap numberOf f));
+          }
 
     at-6 : Judged from6 (verdict tree (symbolHash Plain) root tbl b)
     unfolding verdict

@@ -10,6 +10,7 @@ pub mod ProofPlaces
 pub mod ProofHeads
 pub mod ProofWritten
 pub mod FaultProofs
+pub mod Passing
 pub mod Demand1
 pub mod Results
 pub mod Demand2
@@ -19,3 +20,5 @@ pub mod RepairCases
 pub mod LongestProof
 pub mod Cases
 pub mod Change1
+pub mod Pages
+pub mod Change4

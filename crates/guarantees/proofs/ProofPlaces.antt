@@ -12,12 +12,11 @@ use Rattle.symbol_hash.specs.SymbolHash.{symbolHash}
 use Rattle.symbol_hash.specs.declared.Kind.the-variants.{Plain}
 use Rattle.model.specs.Shape.{tree}
 use Rattle.model.specs.Symbols.{symbolIn, committed}
-use Rattle.model.specs.Climb.{leads}
-use Rattle.model.specs.Fault.{reached, next, givenXor, firstBreak, wayCheck, givenCheck, pathCheck, pathHash, InWay, InGiven, InPath}
-use Rattle.model.proofs.Sound.{both-lead}
-use Rattle.model.proofs.Ways.{reached-past, next-at, committed-same, path-committed, way-fits, fits-way}
+use Rattle.model.specs.Climb.{leads, breaks}
+use Rattle.model.specs.Fault.{reached, next, givenXor, wayCheck, pathCheck, pathHash, InWay, InGiven, InPath}
+use Rattle.model.proofs.Ways.{reached-past, next-at, committed-same, path-committed, WayFit, way-fits, fits-way, way-breaks, breaks-way}
 use Rattle.guarantees.specs.Layouts.{bytesFrom, hashFor, XorOf, upFrom}
-use Rattle.guarantees.specs.FaultProofs.{givenSymbol, withheldSymbol, Up}
+use Rattle.guarantees.specs.FaultProofs.{givenSymbol, withheldSymbol, BreaksAt, Up}
 use Rattle.guarantees.proofs.Layouts.{hash-for, up-from, xor-none, xor-more}
 
 -- ---- symbols
@@ -84,30 +83,6 @@ module _ (b : List ℕ) (j : ℕ) where
         inr (subst (λ (c : List ℕ). InGiven tree j ys c l m s) (sym (next-at b j from))
         (held-given ys (from + 256 * (j + 1)) p (omega arith) (subst (λ (n : ℕ). InWay tree j (getD ys p 0) (drop n b) l m s) (sym (later from p)) w)))
 
-  -- their check
-  module _ (root : List ℕ) where
-    abbrev check : ℕ → ℕ → Type 0
-    check y from = wayCheck tree (symbolHash Plain) root j y (drop from b) ≡ leads
-
-    pub given-lead : (ys : List ℕ) (from : ℕ) → givenCheck tree (symbolHash Plain) root j ys (drop from b) ≡ leads
-        → (p : ℕ) → p < length ys → wayCheck tree (symbolHash Plain) root j (getD ys p 0) (drop (from + 256 * (p * suc j)) b) ≡ leads
-    unfolding givenCheck
-    given-lead [] from e p h = absurd (omega arith)
-    given-lead (y ∷ ys) from e zero h = subst (check y) (first from) (both-lead _ _ e .0)
-    given-lead (y ∷ ys) from e (suc p) h =
-        subst (check (getD ys p 0)) (later from p)
-        (given-lead ys (from + 256 * (j + 1)) (ap (givenCheck tree (symbolHash Plain) root j ys) (sym (next-at b j from)) ∙ both-lead _ _ e .1) p (omega arith))
-
-    pub lead-given : (ys : List ℕ) (from : ℕ)
-        → ((p : ℕ) → p < length ys → wayCheck tree (symbolHash Plain) root j (getD ys p 0) (drop (from + 256 * (p * suc j)) b) ≡ leads)
-        → givenCheck tree (symbolHash Plain) root j ys (drop from b) ≡ leads
-    unfolding givenCheck firstBreak
-    lead-given [] from all = refl
-    lead-given (y ∷ ys) from all =
-        ap₂ firstBreak (subst (check y) (sym (first from)) (all 0 (omega arith)))
-        (ap (givenCheck tree (symbolHash Plain) root j ys) (next-at b j from)
-        ∙ lead-given ys (from + 256 * (j + 1)) (λ p h. subst (check (getD ys p 0)) (sym (later from p)) (all (suc p) (omega arith))))
-
 -- ---- the hash that symbols above have for a symbol, w by layer and v by layer being the same there
 
 pub hash-above : (root : List ℕ) (w v : ℕ → List ℕ) (l m n : ℕ) → m ≡ n → ((q : ℕ) → suc q ≡ l → w q ≡ v q)
@@ -119,8 +94,9 @@ module _ (root b : List ℕ) (j : ℕ) where
   -- ---- the way up from given member number p, which is symbol i
 
   module _ (p i : ℕ) where
-    abbrev pub Leads : Type 0
-    Leads = (u : ℕ) → u ≤ j → sha256 (givenSymbol b j p u) ≡ hashFor root (λ l m. givenSymbol b j p (j - l)) (j - u) (upFrom j i u)
+    -- the symbol u layers up has the hash that the next one up, or the root, has for it
+    abbrev pub Fits : ℕ → Type 0
+    Fits u = sha256 (givenSymbol b j p u) ≡ hashFor root (λ l m. givenSymbol b j p (j - l)) (j - u) (upFrom j i u)
 
     above : (u : ℕ) → u ≤ j
         → committed tree root (λ q n. symbolIn (fromMember b j p) (j - q)) (j - u) (reached tree j i u)
@@ -129,13 +105,40 @@ module _ (root b : List ℕ) (j : ℕ) where
         hash-above root (λ q. symbolIn (fromMember b j p) (j - q)) (λ q. givenSymbol b j p (j - q)) (j - u) (reached tree j i u) (upFrom j i u)
         (sym (up-from j i u h)) (λ q z. given-symbol b j p (j - q))
 
-    pub way-leads : wayCheck tree (symbolHash Plain) root j i (fromMember b j p) ≡ leads → Leads
-    unfolding symbolHash
-    way-leads e u h = ap sha256 (sym (given-symbol b j p u)) ∙ way-fits tree (symbolHash Plain) root j i (fromMember b j p) e u h ∙ above u h
+    abbrev way : ℕ → Type 0
+    way u = WayFit tree (symbolHash Plain) root j i (fromMember b j p) u (j - u) (reached tree j i u)
 
-    pub leads-way : Leads → wayCheck tree (symbolHash Plain) root j i (fromMember b j p) ≡ leads
+    said : (u : ℕ) → u ≤ j → way u → Fits u
     unfolding symbolHash
-    leads-way all = fits-way tree (symbolHash Plain) root j i (fromMember b j p) (λ u h. ap sha256 (given-symbol b j p u) ∙ all u h ∙ sym (above u h))
+    said u h e = ap sha256 (sym (given-symbol b j p u)) ∙ e ∙ above u h
+
+    seen : (u : ℕ) → u ≤ j → Fits u → way u
+    unfolding symbolHash
+    seen u h e = ap sha256 (given-symbol b j p u) ∙ e ∙ sym (above u h)
+
+    pub way-leads : wayCheck tree (symbolHash Plain) root j i (fromMember b j p) ≡ leads → (u : ℕ) → u ≤ j → Fits u
+    way-leads e u h = said u h (way-fits tree (symbolHash Plain) root j i (fromMember b j p) e u h)
+
+    pub leads-way : ((u : ℕ) → u ≤ j → Fits u) → wayCheck tree (symbolHash Plain) root j i (fromMember b j p) ≡ leads
+    leads-way all = fits-way tree (symbolHash Plain) root j i (fromMember b j p) (λ u h. seen u h (all u h))
+
+    pub way-broken : (l : ℕ) → wayCheck tree (symbolHash Plain) root j i (fromMember b j p) ≡ breaks l → BreaksAt (λ k. Fits (j - k)) j l
+    way-broken l e =
+        let w = way-breaks tree (symbolHash Plain) root j i (fromMember b j p) l e in
+        record {
+          on-way = w .layer;
+          lead-below = λ k a h. said (j - k) (omega arith) (w .below (j - k) (omega arith));
+          broken = λ f. w .broken (seen (j - l) (omega arith) f);
+        }
+
+    pub broken-way : (l : ℕ) → BreaksAt (λ k. Fits (j - k)) j l → wayCheck tree (symbolHash Plain) root j i (fromMember b j p) ≡ breaks l
+    broken-way l w =
+        breaks-way tree (symbolHash Plain) root j i (fromMember b j p) l
+        (record {
+          layer = w .on-way;
+          below = λ u h. let e : j - (j - u) ≡ u = omega arith in seen u (omega arith) (subst Fits e (w .lead-below (j - u) (omega arith) (omega arith)));
+          broken = λ f. w .broken (said (j - l) (omega arith) f);
+        })
 
     -- what it holds
     pub way-held : (l m : ℕ) (s : List ℕ) → InWay tree j i (fromMember b j p) l m s → (u : ℕ) × Up j i u l m × (s ≡ givenSymbol b j p u)
@@ -153,9 +156,9 @@ path-number : (j i x : ℕ) → x ≤ j → reached tree j (i % tree .k j) x ≡
 path-number j i x h = sym (reached-past tree j i x h) ∙ sym (up-from (suc j) i (suc x) (omega arith))
 
 module _ (root b : List ℕ) where
-  abbrev pub PathLeads : ℕ → ℕ → ℕ → Type 0
-  PathLeads j g i =
-      (u : ℕ) → 1 ≤ u → u ≤ j → sha256 (withheldSymbol b j g u) ≡ hashFor root (λ l m. withheldSymbol b j g (j - l)) (j - u) (upFrom j i u)
+  -- its symbol u layers up has the hash that the next one up, or the root, has for it
+  abbrev pub PathFits : ℕ → ℕ → ℕ → ℕ → Type 0
+  PathFits j g i u = sha256 (withheldSymbol b j g u) ≡ hashFor root (λ l m. withheldSymbol b j g (j - l)) (j - u) (upFrom j i u)
 
   path-above : (j g i x : ℕ) → x ≤ j
       → committed tree root (λ q n. symbolIn (fromMember b (suc j) g) (j - q)) (j - x) (reached tree j (i % tree .k j) x)
@@ -169,21 +172,63 @@ module _ (root b : List ℕ) where
       withheld-symbol b (suc j) g (j - q) ∙ ap (withheldSymbol b (suc j) g) k)
       ∙ ap (λ (l : ℕ). hashFor root (λ q m. withheldSymbol b (suc j) g (suc j - q)) l (upFrom (suc j) i (suc x))) e
 
-  pub path-leads : (j g i : ℕ) → pathCheck tree (symbolHash Plain) root j i (fromMember b j g) ≡ leads → PathLeads j g i
-  unfolding pathCheck symbolHash
+  abbrev path-way : ℕ → ℕ → ℕ → ℕ → Type 0
+  path-way j g i x = WayFit tree (symbolHash Plain) root j (i % tree .k j) (fromMember b (suc j) g) x (j - x) (reached tree j (i % tree .k j) x)
+
+  path-said : (j g i x : ℕ) → x ≤ j → path-way j g i x → PathFits (suc j) g i (suc x)
+  unfolding symbolHash
+  path-said j g i x h e = ap sha256 (sym (withheld-symbol b (suc j) g x)) ∙ e ∙ path-above j g i x h
+
+  path-seen : (j g i x : ℕ) → x ≤ j → PathFits (suc j) g i (suc x) → path-way j g i x
+  unfolding symbolHash
+  path-seen j g i x h e = ap sha256 (withheld-symbol b (suc j) g x) ∙ e ∙ sym (path-above j g i x h)
+
+  pub path-leads : (j g i : ℕ) → pathCheck tree (symbolHash Plain) root j i (fromMember b j g) ≡ leads → (u : ℕ) → 1 ≤ u → u ≤ j → PathFits j g i u
+  unfolding pathCheck
   path-leads zero g i e u a h = absurd (omega arith)
   path-leads (suc j) g i e zero a h = absurd (omega arith)
   path-leads (suc j) g i e (suc x) a h =
-      ap sha256 (sym (withheld-symbol b (suc j) g x))
-      ∙ way-fits tree (symbolHash Plain) root j (i % tree .k j) (fromMember b (suc j) g) e x (omega arith)
-      ∙ path-above j g i x (omega arith)
+      path-said j g i x (omega arith) (way-fits tree (symbolHash Plain) root j (i % tree .k j) (fromMember b (suc j) g) e x (omega arith))
 
-  pub leads-path : (j g i : ℕ) → PathLeads j g i → pathCheck tree (symbolHash Plain) root j i (fromMember b j g) ≡ leads
-  unfolding pathCheck symbolHash
+  pub leads-path : (j g i : ℕ) → ((u : ℕ) → 1 ≤ u → u ≤ j → PathFits j g i u) → pathCheck tree (symbolHash Plain) root j i (fromMember b j g) ≡ leads
+  unfolding pathCheck
   leads-path zero g i all = refl
   leads-path (suc j) g i all =
-      fits-way tree (symbolHash Plain) root j (i % tree .k j) (fromMember b (suc j) g)
-      (λ x h. ap sha256 (withheld-symbol b (suc j) g x) ∙ all (suc x) (omega arith) (omega arith) ∙ sym (path-above j g i x h))
+      fits-way tree (symbolHash Plain) root j (i % tree .k j) (fromMember b (suc j) g) (λ x h. path-seen j g i x h (all (suc x) (omega arith) (omega arith)))
+
+  -- it breaks, the path starting at the layer above its symbol
+  abbrev pub PathBreaks : ℕ → ℕ → ℕ → ℕ → Type 0
+  PathBreaks j g i l = (1 ≤ j) × BreaksAt (λ k. PathFits j g i (j - k)) (j - 1) l
+
+  pub path-broken : (j g i l : ℕ) → pathCheck tree (symbolHash Plain) root j i (fromMember b j g) ≡ breaks l → PathBreaks j g i l
+  unfolding pathCheck
+  path-broken zero g i l e = absurd (let z : _≡_ {A = ℕ} 0 1 = cc in omega arith)
+  path-broken (suc j) g i l e =
+      let w = way-breaks tree (symbolHash Plain) root j (i % tree .k j) (fromMember b (suc j) g) l e in (
+        omega arith,
+        record {
+          on-way = omega (arith, w .layer);
+          lead-below = λ k a h.
+              let q : suc (j - k) ≡ suc j - k = omega arith in
+              subst (PathFits (suc j) g i) q (path-said j g i (j - k) (omega arith) (w .below (j - k) (omega arith)));
+          broken = λ f.
+              let q : suc j - l ≡ suc (j - l) = omega (arith, w .layer) in w .broken (path-seen j g i (j - l) (omega arith) (subst (PathFits (suc j) g i) q f));
+        },
+      )
+
+  pub broken-path : (j g i l : ℕ) → PathBreaks j g i l → pathCheck tree (symbolHash Plain) root j i (fromMember b j g) ≡ breaks l
+  unfolding pathCheck
+  broken-path zero g i l (a, w) = absurd (omega arith)
+  broken-path (suc j) g i l (a, w) =
+      breaks-way tree (symbolHash Plain) root j (i % tree .k j) (fromMember b (suc j) g) l
+      (record {
+        layer = omega (arith, w .on-way);
+        below = λ x h.
+            let q : suc j - (j - x) ≡ suc x = omega arith in
+            path-seen j g i x (omega arith) (subst (PathFits (suc j) g i) q (w .lead-below (j - x) (omega arith) (omega arith)));
+        broken = λ f.
+            let q : suc (j - l) ≡ suc j - l = omega (arith, w .on-way) in w .broken (subst (PathFits (suc j) g i) q (path-said j g i (j - l) (omega arith) f));
+      })
 
   -- the hash that it, or the root, has for the withheld member
   pub path-hash : (j g i : ℕ) → pathHash tree root j i (fromMember b j g) ≡ hashFor root (λ l m. withheldSymbol b j g (j - l)) j i

@@ -39,7 +39,7 @@ use Rattle.model.specs.Sampling.{sampleSize, sampleLayer, dataNo, parityNo, sam
 use Rattle.model.specs.SampleCheck.{sampleData, sampleParity, sampleHas, sampleCheck, SampleLeads}
 use Rattle.model.proofs.Counts.{lowest-is}
 use Rattle.model.proofs.Shapes.{place-lt}
-use Rattle.model.proofs.Samples.{accepted-leads, leads-accepted}
+use Rattle.model.proofs.Samples.{Fit, all-fit, SampleBreaks as BrokenSample, sample-breaks}
 use Rattle.symbol_hash.specs.SymbolHash.{symbolHash}
 use Rattle.symbol_hash.specs.declared.Kind.the-variants.{Plain}
 use Rattle.sampling.specs.declared.Found.the-variants.{At, Nothing}
@@ -63,11 +63,11 @@ use Rattle.volume_calls.proofs.WritingLaws.{answer-is as written-answer}
 use Rattle.volume_calls.proofs.ReadingLaws.{answer-is as block-answer}
 use Rattle.sample_calls.proofs.TakingLaws.{answer-is as sample-answer}
 use Rattle.cedunmi_c.specs.Result.{hashAnswer}
-use Rattle.guarantees.specs.Layouts.{bytesFrom, dataSymbols, treeSymbols, markAt, sampledLayer, sampledNumber}
+use Rattle.guarantees.specs.Layouts.{bytesFrom, dataSymbols, treeSymbols, markAt, hashFor, sampledLayer, sampledNumber}
 use Rattle.guarantees.specs.Tables.{TableRight, FirstWrongWord, AllInTwo, FirstNotInTwo}
 use Rattle.guarantees.specs.Answers.{done, test, unless, one, two, Just}
 use Rattle.guarantees.specs.Terms.{equationsOf}
-use Rattle.guarantees.specs.Refusals.{LowestOf, DepthRight, TableLength, TreeLengths, BlockLength, RootLength, SampleLength, BadMark, AbsentSampled, InBase, dataOfSample, AllHashesLead, hashTests, takesWords, takesTable, wordsTests, tableTests, houseTests, WriterLengths, writerTests, blockTests, samplerTests, sampleTests, RepairLengths, repairTests, Refusals}
+use Rattle.guarantees.specs.Refusals.{LowestOf, DepthRight, TableLength, TreeLengths, BlockLength, RootLength, SampleLength, BadMark, AbsentSampled, InBase, dataOfSample, AllHashesLead, HashLeads, SampleBreaks, hashTests, takesWords, takesTable, wordsTests, tableTests, houseTests, WriterLengths, writerTests, blockTests, samplerTests, sampleTests, RepairLengths, repairTests, Refusals}
 use Rattle.guarantees.proofs.Answers.{all-done, stops-unless, stops-one, stops-two, passes-unless, passes-one, passes-two}
 use Rattle.guarantees.proofs.Layouts.{tree-symbols, mark-at, hash-for}
 use Rattle.guarantees.proofs.Marks.{all-right}
@@ -447,6 +447,42 @@ module _ (d i : ℕ) (root s : List ℕ) where
         parity-symbol = λ j h. k .parity-symbol j h ∙ hash-for root (dataOfSample d i root s) j (dataSymbols j + i % (3 * dataSymbols j));
       }
 
+  -- symbol x of the sample has the hash, by either numbering
+  module _ (some : 1 ≤ d) (x : ℕ) where
+    abbrev fit : Type 0
+    fit = Fit tree (symbolHash Plain) root d i some s x (sampleLayer d x) (sampleNumber tree d i x)
+
+    hash-is : sampleHas tree root d s (sampleLayer d x) (sampleNumber tree d i x) ≡ hashFor root (dataOfSample d i root s) (sampledLayer d x) (sampledNumber d i x)
+    unfolding sampleHas sampleData symbolIn bytesFrom
+    hash-is =
+        sym (hash-for root (dataOfSample d i root s) (sampleLayer d x) (sampleNumber tree d i x))
+        ∙ sym (ap₂ (hashFor root (dataOfSample d i root s)) (sampled-layer d x) (sampled-number d i x))
+
+    hash-said : fit → HashLeads d i root s x
+    unfolding symbolIn bytesFrom symbolHash
+    hash-said e = e ∙ hash-is
+
+    hash-seen : HashLeads d i root s x → fit
+    unfolding symbolIn bytesFrom symbolHash
+    hash-seen e = e ∙ sym hash-is
+
+  breaks-so : (some : 1 ≤ d) (l : ℕ) → BrokenSample tree (symbolHash Plain) root d i some s l → SampleBreaks d i root s l
+  breaks-so some l w =
+      record {
+        index = w .index;
+        inside = w .inside;
+        at-layer = sampled-layer d (w .index) ∙ w .at-layer;
+        breaks = λ e. w .broken (hash-seen some (w .index) e);
+        lead-below = λ x h k. hash-said some x (w .below x h (omega (arith, sampled-layer d x)));
+      }
+
+  -- there is one such layer
+  pub breaks-one : (v l : ℕ) → SampleBreaks d i root s v → SampleBreaks d i root s l → v ≡ l
+  breaks-one v l a c =
+      by-test (ltb v l) (λ t. absurd (c .breaks (a .lead-below (c .index) (c .inside) (omega (arith, ltb-true v l t, c .at-layer)))))
+      (λ t. by-test (ltb l v) (λ u. absurd (a .breaks (c .lead-below (a .index) (a .inside) (omega (arith, ltb-true l v u, a .at-layer)))))
+      (λ u. omega (arith, ltb-false v l t, ltb-false l v u)))
+
   sample-checker : Just (sampleChecked d i root s) (sampleTests d i root s)
   unfolding sampleChecked kOf nOf
   sample-checker =
@@ -460,14 +496,11 @@ module _ (d i : ℕ) (root s : List ℕ) where
       (λ f r. by-number d i last (λ h. by-climb (depth-right d f .0) (sampleCheck tree (symbolHash Plain) root d i s) refl)))
     where
       by-climb : 1 ≤ d → (c : Climb) → sampleCheck tree (symbolHash Plain) root d i s ≡ c
-          → Just (led c) (test 7 (unless (AllHashesLead d i root s)) done)
-      by-climb some leads e = passes-unless (leads-so (accepted-leads tree (symbolHash Plain) root d i some s e)) all-done
-      by-climb some (breaks j) e =
-          stops-unless
-          (λ k.
-          let q : sampleCheck tree (symbolHash Plain) root d i s ≡ leads = leads-accepted tree (symbolHash Plain) root d i some s (so-leads k) in
-          let z : _≡_ {A = ℕ} 0 1 = cc in
-          omega arith)
+          → Just (led c) (test 7 (one (SampleBreaks d i root s)) done)
+      by-climb some leads e =
+          passes-one (λ v k. k .breaks (hash-said some (k .index) (all-fit tree (symbolHash Plain) root d i some s e (k .index) (k .inside)))) all-done
+      by-climb some (breaks l) e =
+          let k = breaks-so some l (sample-breaks tree (symbolHash Plain) root d i some s l e) in stops-one l k (λ v z. breaks-one v l z k)
 
 -- ---- repair
 
@@ -511,7 +544,7 @@ done-only (Stopped (Table i)) e = absurd (omega arith)
 done-only (Stopped (Mark p)) e = absurd (omega arith)
 done-only (Stopped Number) e = absurd (omega arith)
 done-only (Stopped Head) e = absurd (omega arith)
-done-only (Stopped Hash) e = absurd (omega arith)
+done-only (Stopped (Hash l p)) e = absurd (omega arith)
 done-only (Stopped NoFault) e = absurd (omega arith)
 done-only (Stopped (Absent x)) e = absurd (omega arith)
 done-only (Stopped (Uncovered j i)) e = absurd (omega arith)

@@ -14,7 +14,7 @@ use Rattle.guarantees.specs.Layouts.{bytesFrom, dataSymbols, allSymbols,
 use Rattle.guarantees.specs.Tables.{TableRules, TableRight, AllInTwo}
 use Rattle.guarantees.specs.Trees.{members}
 use Rattle.guarantees.specs.Refusals.{DepthRight, TableLength, takesTable}
-use Rattle.guarantees.specs.Answers.{Answered, done, test, unless, Just}
+use Rattle.guarantees.specs.Answers.{Answered, done, test, unless, two, Just}
 use Rattle.guarantees.specs.Terms.{equationsOf}
 
 -- ---- the bytes of a proof
@@ -56,27 +56,46 @@ module _ {depth : ℕ} {tbl : List (List (List ℕ))} {b : List ℕ} (h : Named 
   abbrev pub Exact : Type 0
   Exact = length b ≡ 12 + 256 * ((length (members tbl (h .layer) (h .equation)) - 1) * (h .layer + 1) + h .layer)
 
+-- "the first layer, going up from the given symbol, whose hash isn't the committed one" (02, CR 4): a way goes up from layer `from`, and its symbol at
+-- layer i has the committed hash when `fits i`. It has in every layer below l, and not in l.
+pub record BreaksAt (fits : ℕ → Type 0) (from l : ℕ) : Type 0 where
+  pub on-way : l ≤ from
+  pub lead-below : (i : ℕ) → l < i → i ≤ from → fits i
+  pub broken : fits l → ⊥
+
 module _ {depth : ℕ} {tbl : List (List (List ℕ))} {b : List ℕ} (root : List ℕ) (h : Named depth tbl b) where
   -- "every hash leads to the root": each symbol has the hash that the next symbol up, or the root, has for it; on the way up from given member
   -- number p, and above the withheld one
-  abbrev pub GivenLeads : ℕ → Type 0
-  GivenLeads p =
-      (u : ℕ) → u ≤ h .layer
-      → sha256 (givenSymbol b (h .layer) p u)
+  abbrev pub GivenFits : ℕ → ℕ → Type 0
+  GivenFits p u =
+      sha256 (givenSymbol b (h .layer) p u)
       ≡ hashFor root (λ l m. givenSymbol b (h .layer) p (h .layer - l)) (h .layer - u) (upFrom (h .layer) (getD (given h) p 0) u)
+
+  abbrev pub GivenLeads : ℕ → Type 0
+  GivenLeads p = (u : ℕ) → u ≤ h .layer → GivenFits p u
 
   -- the withheld member's path, by layers
   abbrev pub path : ℕ → ℕ → List ℕ
   path l m = withheldSymbol b (h .layer) (length (given h)) (h .layer - l)
 
+  abbrev pub WithheldFits : ℕ → Type 0
+  WithheldFits u =
+      sha256 (withheldSymbol b (h .layer) (length (given h)) u) ≡ hashFor root path (h .layer - u) (upFrom (h .layer) (h .withheld) u)
+
   abbrev pub WithheldLeads : Type 0
-  WithheldLeads =
-      (u : ℕ) → 1 ≤ u → u ≤ h .layer
-      → sha256 (withheldSymbol b (h .layer) (length (given h)) u) ≡ hashFor root path (h .layer - u) (upFrom (h .layer) (h .withheld) u)
+  WithheldLeads = (u : ℕ) → 1 ≤ u → u ≤ h .layer → WithheldFits u
 
   pub record AllLead : Type 0 where
     pub given-lead : (p : ℕ) → p < length (given h) → GivenLeads p
     pub withheld-leads : WithheldLeads
+
+  -- "7 comes back with that layer, and for a proof also with the position of the first such member in proof order, the withheld one counting last and its
+  -- path starting at layer j−1" (02, CR 4): the members before position p lead to the root, and that one breaks at layer l
+  pub record ProofBreaks (l p : ℕ) : Type 0 where
+    pub lead-before : (q : ℕ) → q < p → GivenLeads q
+    pub breaks :
+        ((p < length (given h)) × BreaksAt (λ i. GivenFits p (h .layer - i)) (h .layer) l)
+        ⊎ ((p ≡ length (given h)) × (1 ≤ h .layer) × BreaksAt (λ i. WithheldFits (h .layer - i)) (h .layer - 1) l)
 
   -- "the hash of the exclusive-or of the given members" is "the hash committed for the withheld one"
   abbrev pub Fits : Type 0
@@ -114,7 +133,7 @@ proofTests depth root table b =
     (takesTable depth table
     (test 6 (unless (Named depth (equationsOf table) b))
     (test 2 (unless ((h : Named depth (equationsOf table) b) × Exact h))
-    (test 7 (unless ((h : Named depth (equationsOf table) b) × AllLead root h))
+    (test 7 (two (λ l p. (h : Named depth (equationsOf table) b) × ProofBreaks root h l p))
     (test 8 (unless ((h : Named depth (equationsOf table) b) × (Fits root h → ⊥))) done))))))
 
 abbrev pub ProofCheckerAnswers : Type 0

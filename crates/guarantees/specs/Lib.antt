@@ -13,3 +13,4 @@ pub mod Demand2
 pub mod Demand3
 pub mod Cases
 pub mod Change1
+pub mod Change4

@@ -92,6 +92,19 @@ module _ (d i : ℕ) (root s : List ℕ) where
     pub parity-symbol : (j : ℕ) → suc j < d
         → sha256 (symbolNo s (2 * (d - 1 - j))) ≡ hashFor root dataOfSample j (dataSymbols j + i % (3 * dataSymbols j))
 
+  -- symbol number x of the sample has the hash that the next data symbol up, or the root, has for it
+  abbrev pub HashLeads : ℕ → Type 0
+  HashLeads x = sha256 (symbolNo s x) ≡ hashFor root dataOfSample (sampledLayer d x) (sampledNumber d i x)
+
+  -- 7, with "the first layer, going up from the given symbol, whose hash isn't the committed one; in a sample either symbol of a layer counts" (02, CR 4):
+  -- a symbol of layer l has another hash, and every symbol of a layer nearer the base has that one
+  pub record SampleBreaks (l : ℕ) : Type 0 where
+    pub index : ℕ
+    pub inside : index < 2 * d - 1
+    pub at-layer : sampledLayer d index ≡ l
+    pub breaks : HashLeads index → ⊥
+    pub lead-below : (x : ℕ) → x < 2 * d - 1 → l < sampledLayer d x → HashLeads x
+
 -- ---- the calls
 
 -- "message over the limit": "SHA-256 of a message of 0 to 1,048,576 bytes"; a digest has 32
@@ -139,7 +152,7 @@ samplerTests d i t m s =
 abbrev pub sampleTests : ℕ → ℕ → List ℕ → List ℕ → Answered
 sampleTests d i root s =
     test 1 (unless (DepthRight d))
-    (test 2 (unless (RootLength root × SampleLength d s)) (test 5 (unless (InBase d i)) (test 7 (unless (AllHashesLead d i root s)) done)))
+    (test 2 (unless (RootLength root × SampleLength d s)) (test 5 (unless (InBase d i)) (test 7 (one (SampleBreaks d i root s)) done)))
 
 module _ (d : ℕ) (root table t m o : List ℕ) where
   pub record RepairLengths : Type 0 where

@@ -1,0 +1,258 @@
+-- CR 4: where a path breaks, of both checkers. Their tests are known (`Refusals`, `FaultProofs`); below is what they say of 7.
+use mathlib.Core.Path.{_≡_, refl, sym, _∙_, subst}
+use mathlib.Core.Bool.{true}
+use mathlib.Core.Logic.{_⊎_, _↔_, inl, inr, ⊎-elim}
+use mathlib.Core.List.{List}
+use Prim.Native.Nat.{ℕ, _-_, _*_, _≤_, _<_}
+use native.Mathlib.Omega.{arith}
+use lib.ListN.{length, getD}
+use lib.Dec.{eqb, ltb}
+use borrow.Author.Tests.{eqb-true, eq-eqb, ltb-true, lt-ltb}
+use Rattle.octets.proofs.Choice.{and-yes, yes-and}
+use Rattle.parity_table.specs.Shape.{kOf, nOf}
+use Rattle.parity_table.specs.Members.{every}
+use Rattle.parity_table.specs.Table.{TableOk}
+use Rattle.parity_table.proofs.Parse.{formed-rules}
+use Rattle.table_bytes.specs.Bytes.{wordsOf}
+use Rattle.model.specs.Sampling.{sampleSize}
+use Rattle.model.proofs.Members.{every-below}
+use Rattle.model.specs.Fault.{proofLayer, proofMembers, proofLength, headOk}
+use Rattle.calls.specs.declared.Answer.{Answer}
+use Rattle.calls.specs.Stops.{numberOf, valuesOf}
+use Rattle.calls.specs.Lengths.{rootSized, sampleSized}
+use Rattle.sample_calls.specs.Checking.{checkSized, sampleChecked}
+use Rattle.fault_calls.specs.Checking.{proofSized, proofChecked}
+use Rattle.guarantees.specs.Layouts.{allSymbols}
+use Rattle.guarantees.specs.Answers.{Answered, done, test, fails, holds, unless, one, two}
+use Rattle.guarantees.specs.Tables.{TableRight, AllInTwo}
+use Rattle.guarantees.specs.Refusals.{DepthRight, RootLength, SampleLength, InBase, SampleBreaks, sampleTests}
+use Rattle.guarantees.specs.FaultProofs.{givenSymbol, withheldSymbol, Named, given, Exact, AllLead, ProofBreaks, Fits, ProofLengths, proofTests}
+use Rattle.guarantees.specs.Trees.{AgreesWith}
+use Rattle.guarantees.specs.Terms.{equationsOf}
+use Rattle.guarantees.specs.Change1.{Answers}
+use Rattle.guarantees.specs.Change4.{SampleReady, ProofReady, WayHasThere, Change4}
+use Rattle.guarantees.proofs.Answers.{never, done-never, past, past-so, left}
+use Rattle.guarantees.proofs.Tables.{right-formed}
+use Rattle.guarantees.proofs.ProofHeads.{named-fitting, length-named, named-ok, ok-named}
+use Rattle.guarantees.proofs.Passing.{decided, Stable, past-words, past-words-so, left-words, Front, depth-stable, lengths-front, both-stable}
+use Rattle.guarantees.proofs.Refusals.{depth-fits, refusals}
+use Rattle.guarantees.proofs.Pages.{up-low, sample-fits, way-fits-there}
+use Rattle.guarantees.proofs.FaultProofs.{leads-or-breaks, breaks-as, never-both, fault-proofs, lengths-own, own-lengths}
+
+-- ---- samples
+
+sizes-stable : (d : ℕ) (root s : List ℕ) → Stable (RootLength root × SampleLength d s)
+sizes-stable d root s =
+    decided (checkSized d (length root) (length s))
+    (λ t. let (p, q) = and-yes (rootSized (length root)) (sampleSized d (length s)) t in (eqb-true (length root) 512 p, eqb-true (length s) (256 * sampleSize d) q))
+    (λ (p, q). yes-and (eq-eqb (length root) 512 p) (eq-eqb (length s) (256 * sampleSize d) q))
+
+base-stable : (d i : ℕ) → Stable (InBase d i)
+base-stable d i = decided (ltb i (allSymbols (d - 1))) (ltb-true i _) (lt-ltb i _)
+
+module _ (d i : ℕ) (root s : List ℕ) (l p : ℕ) where
+  sample-found : sampleTests d i root s 7 (l, p) → SampleReady d i root s × SampleBreaks d i root s l × (p ≡ 0)
+  sample-found t =
+      let (dr, t₂) = past (λ e. omega arith) (depth-stable d) t in
+      let (lr, t₅) = past (λ e. omega arith) (sizes-stable d root s) t₂ in
+      let (ib, t₇) = past (λ e. omega arith) (base-stable d i) t₅ in
+      let (k, z) = at-7 t₇ in
+      (record { depth-right = dr; root-length = lr .0; sample-length = lr .1; in-base = ib }, k, z)
+    where
+      at-7 : test 7 (one (SampleBreaks d i root s)) done 7 (l, p) → SampleBreaks d i root s l × (p ≡ 0)
+      at-7 (fails e x) = (x .is, x .alone)
+      at-7 (holds x y) = absurd (done-never (λ e. omega arith) (l, p) y)
+
+  found-sample : SampleReady d i root s → SampleBreaks d i root s l → p ≡ 0 → sampleTests d i root s 7 (l, p)
+  found-sample r k z =
+      past-so (λ e. omega arith) (r .depth-right)
+      (past-so (λ e. omega arith) (r .root-length, r .sample-length)
+      (past-so (λ e. omega arith) (r .in-base) (fails refl (record { is = k; alone = z }))))
+
+-- ---- proofs
+
+module _ (d : ℕ) (root table b : List ℕ) where
+  abbrev tbl : List (List (List ℕ))
+  tbl = equationsOf table
+
+  -- the tests from 8 and from 7 on
+  abbrev from8 : Answered
+  from8 = test 8 (unless ((h : Named d tbl b) × (Fits root h → ⊥))) done
+
+  abbrev from7 : Answered
+  from7 = test 7 (two (λ l p. (h : Named d tbl b) × ProofBreaks root h l p)) from8
+
+  -- the length that the head demands
+  abbrev demanded : ℕ
+  demanded = proofLength (proofLayer b) (length (proofMembers tbl b))
+
+  module _ (dr : DepthRight d) (w : TableRight d (wordsOf table)) where
+    rules : TableOk d tbl
+    rules = formed-rules d (wordsOf table) (right-formed d (wordsOf table) w) (dr .1)
+
+    named-stable : Stable (Named d tbl b)
+    named-stable = decided (headOk tbl b) (ok-named d tbl b (dr .1) rules) (named-ok d tbl b (dr .1) rules)
+
+    exact-of : (h : Named d tbl b) → length b ≡ demanded → Exact h
+    exact-of h e = e ∙ length-named d tbl b (dr .1) rules h
+
+    of-exact : (h : Named d tbl b) → Exact h → length b ≡ demanded
+    of-exact h e = e ∙ sym (length-named d tbl b (dr .1) rules h)
+
+    exact-stable : Named d tbl b → Stable ((h : Named d tbl b) × Exact h)
+    exact-stable h =
+        decided (eqb (length b) demanded) (λ t. (h, exact-of h (eqb-true (length b) demanded t))) (λ (z, e). eq-eqb (length b) demanded (of-exact z e))
+
+  front : {later : Answered} → Front d (DepthRight d × ProofLengths root table b) (test 1 (unless (DepthRight d)) (test 2 (unless (ProofLengths root table b)) later)) later
+  front = lengths-front d (both-stable (proofSized (length root) (length b)) table (lengths-own d root table b) (own-lengths d root table b))
+
+  -- ---- an answer that comes from 7 on
+
+  record Passed (n : ℕ) (v : ℕ × ℕ) : Type 0 where
+    depth-right : DepthRight d
+    lengths-right : ProofLengths root table b
+    table-right : TableRight d (wordsOf table)
+    table-covered : AllInTwo d tbl
+    named : Named d tbl b
+    long : length b ≡ demanded
+    rest : from7 n v
+
+  -- whichever reading of the head
+  as-named : {n : ℕ} {v : ℕ × ℕ} → Passed n v → (P : Named d tbl b → Type 0) → (h : Named d tbl b) → P h → (r : ProofReady d root table b) × P (r .named)
+  as-named x P h y = (
+    record {
+      depth-right = x .depth-right;
+      lengths-right = x .lengths-right;
+      table-right = x .table-right;
+      table-covered = x .table-covered;
+      named = h;
+      exact = exact-of (x .depth-right) (x .table-right) h (x .long);
+    },
+    y,
+  )
+
+  -- the number is none of the tests' before 7
+  module _ {n : ℕ} {v : ℕ × ℕ} (late : (k : ℕ) → 1 ≤ k → k ≤ 6 → k ≡ n → ⊥) (other : 10 ≡ n → ⊥) where
+    into : proofTests d root table b n v → Passed n v
+    into t =
+        let ((dr, lr), t₃) = front .into (late 1 (omega arith) (omega arith)) (late 2 (omega arith) (omega arith)) t in
+        let (w, c, t₆) = past-words d (wordsOf table) (depth-fits d dr) (late 3 (omega arith) (omega arith)) other t₃ in
+        let (h, t₂) = past (late 6 (omega arith) (omega arith)) (named-stable dr w) t₆ in
+        let ((z, e), t₇) = past (late 2 (omega arith) (omega arith)) (exact-stable dr w h) t₂ in
+        record { depth-right = dr; lengths-right = lr; table-right = w; table-covered = c; named = z; long = of-exact dr w z e; rest = t₇ }
+
+    back : (r : ProofReady d root table b) → from7 n v → proofTests d root table b n v
+    back r t =
+        front .back (late 1 (omega arith) (omega arith)) (late 2 (omega arith) (omega arith)) (r .depth-right, r .lengths-right)
+        (past-words-so d (wordsOf table) (depth-fits d (r .depth-right)) (r .table-right) (r .table-covered)
+        (past-so (late 6 (omega arith) (omega arith)) (r .named) (past-so (late 2 (omega arith) (omega arith)) (r .named, r .exact) t)))
+
+  -- 7, and what comes after it
+  found-7 : {l p : ℕ} → from7 7 (l, p) → (h : Named d tbl b) × ProofBreaks root h l p
+  found-7 (fails e x) = x .are
+  found-7 {l} {p} (holds x y) = absurd (never (λ e. omega arith) (done-never (λ e. omega arith)) (l, p) y)
+
+  later-7 : {n : ℕ} {v : ℕ × ℕ} → (7 ≡ n → ⊥) → from7 n v → (l p : ℕ) (h : Named d tbl b) → ProofBreaks root h l p → ⊥
+  later-7 o (fails e x) l p h k = o (sym e)
+  later-7 o (holds x y) l p h k = x (l, p) (record { are = (h, k) })
+
+  from-8 : {n : ℕ} {v : ℕ × ℕ} → from8 n v → (n ≡ 0) ⊎ (n ≡ 8)
+  from-8 (fails e x) = inr e
+  from-8 (holds x (e, y)) = inl e
+
+  from-7 : {n : ℕ} {v : ℕ × ℕ} → ((l p : ℕ) (h : Named d tbl b) → ProofBreaks root h l p → ⊥) → from7 n v → (n ≡ 0) ⊎ (n ≡ 8)
+  from-7 none (fails e x) = let (h, k) = x .are in absurd (none _ _ h k)
+  from-7 none (holds x y) = from-8 y
+
+  -- ---- the statements
+
+  abbrev answer : Answer
+  answer = proofChecked d root table b
+
+  tested : (n : ℕ) (v : ℕ × ℕ) → Answers answer n v ↔ proofTests d root table b n v
+  tested = fault-proofs .checker-answers d root table b .answers
+
+  stops : (l p : ℕ) → Answers answer 7 (l, p) ↔ ((r : ProofReady d root table b) × ProofBreaks root (r .named) l p)
+  stops l p = (
+    λ e. let x = into (λ k a c e. omega arith) (λ e. omega arith) (tested 7 (l, p) .0 e) in let (h, k) = found-7 (x .rest) in as-named x (λ z. ProofBreaks root z l p) h k,
+    λ (r, k). tested 7 (l, p) .1 (back (λ k a c e. omega arith) (λ e. omega arith) r (fails refl (record { are = (r .named, k) }))),
+  )
+
+  -- an answer that comes after 7, and what comes where every way leads
+  later-leads : {n : ℕ} {v : ℕ × ℕ} → (7 ≡ n → ⊥) → Passed n v → (r : ProofReady d root table b) × AllLead root (r .named)
+  later-leads o x =
+      as-named x (AllLead root) (x .named)
+      (⊎-elim (λ a. a) (λ (l, p, k). absurd (later-7 o (x .rest) l p (x .named) k))
+      (leads-or-breaks d tbl b (x .depth-right .1) (rules (x .depth-right) (x .table-right)) (x .named) root))
+
+  leads-then : (r : ProofReady d root table b) → AllLead root (r .named) → (numberOf answer ≡ 0) ⊎ (numberOf answer ≡ 8)
+  leads-then r a =
+      let t = left (r .lengths-right) (left (r .depth-right) (tested (numberOf answer) (valuesOf answer) .0 (refl, refl))) in
+      let t₆ = left-words d (wordsOf table) (depth-fits d (r .depth-right)) (r .table-right) (r .table-covered) t in
+      from-7 (λ l p h k. never-both d tbl b (r .depth-right .1) (rules (r .depth-right) (r .table-right)) (r .named) h root l p a k)
+      (left (r .named, r .exact) (left (r .named) t₆))
+
+  leads : ((numberOf answer ≡ 0) ⊎ (numberOf answer ≡ 8)) ↔ ((r : ProofReady d root table b) × AllLead root (r .named))
+  leads = (
+    ⊎-elim
+        (λ e. later-leads (λ f. omega arith) (into {v = valuesOf answer} (λ k a c f. omega arith) (λ f. omega arith) (tested (numberOf answer) (valuesOf answer) .0 (refl, refl))))
+        (λ e. later-leads (λ f. omega arith) (into {v = valuesOf answer} (λ k a c f. omega arith) (λ f. omega arith) (tested (numberOf answer) (valuesOf answer) .0 (refl, refl)))),
+    λ (r, a). leads-then r a,
+  )
+
+  -- of a proof of layer 0
+  top : (l p : ℕ) → Answers answer 7 (l, p) → (h : Named d tbl b) → h .layer ≡ 0 → (l ≡ 0) × (p < length (given h))
+  top l p e h z =
+      let (r, k) = stops l p .0 e in
+      let k′ = breaks-as d tbl b (r .depth-right .1) (rules (r .depth-right) (r .table-right)) (r .named) h root l p k in
+      ⊎-elim (λ (q, w). (omega (arith, w .on-way), q)) (λ (q, a, w). absurd (omega arith)) (k′ .breaks)
+
+  -- the page that breaks, or the one above it
+  module _ (l p : ℕ) (h : Named d tbl b) (k : ProofBreaks root h l p) (o : TableOk d tbl) (shallow : d ≤ 5) (tb : List (List (List ℕ))) (f : ℕ → ℕ → List ℕ) (agr : AgreesWith d tb root f) where
+    abbrev j : ℕ
+    j = h .layer
+
+    given-page : p < length (given h) → WayHasThere j (getD (given h) p 0) (givenSymbol b j p) f l → ⊥
+    unfolding kOf nOf
+    given-page q t =
+        ⊎-elim
+        (λ (a, w).
+        let z = named-fitting d tbl b shallow o h in
+        let below = every-below (nOf j) (given h) (subst (λ ys. every (λ y. ltb y (nOf j)) ys ≡ true) (z .given-are) (z .given-below)) p q in
+        w .broken (way-fits-there d tb root f agr j (getD (given h) p 0) (givenSymbol b j p) l (w .on-way) (h .has-layer)
+        (up-low j (getD (given h) p 0) l (j - l) (omega (arith, w .on-way))
+        (λ e. let q : j ≡ l = omega (arith, w .on-way) in subst (λ (n : ℕ). getD (given h) p 0 < allSymbols n) q below)) t))
+        (λ (a, c, w). omega arith) (k .breaks)
+
+    withheld-page : p ≡ length (given h) → WayHasThere j (h .withheld) (withheldSymbol b j p) f l → ⊥
+    withheld-page q t =
+        ⊎-elim (λ (a, w). omega arith)
+        (λ (a, c, w).
+        let there = subst (λ (g : ℕ). WayHasThere j (h .withheld) (withheldSymbol b j g) f l) q t in
+        w .broken (way-fits-there d tb root f agr j (h .withheld) (withheldSymbol b j (length (given h))) l (omega (arith, w .on-way)) (h .has-layer)
+        (up-low j (h .withheld) l (j - l) (omega (arith, w .on-way)) (λ e. absurd (omega (arith, w .on-way)))) there))
+        (k .breaks)
+
+pub change-4 : Change4
+change-4 =
+    record {
+      sample-stops = λ d i root s l p. (
+        λ e. sample-found d i root s l p (refusals .sample-checker d i root s .answers 7 (l, p) .0 e),
+        λ (r, k, z). refusals .sample-checker d i root s .answers 7 (l, p) .1 (found-sample d i root s l p r k z),
+      );
+      proof-stops = stops;
+      proof-leads = leads;
+      proof-of-top = top;
+      sample-page = λ d i root s l p e.
+          let (r, k, z) = sample-found d i root s l p (refusals .sample-checker d i root s .answers 7 (l, p) .0 e) in (
+            k .index,
+            k .inside,
+            k .at-layer,
+            λ tbl f agr t. k .breaks (sample-fits d tbl root f agr i s (r .depth-right .0) (r .in-base) (k .index) (k .inside) t),
+          );
+      proof-page = λ d root table b l p e h tb f agr.
+          let (r, k) = stops d root table b l p .0 e in
+          let o = rules d root table b (r .depth-right) (r .table-right) in
+          let k′ = breaks-as d (equationsOf table) b (r .depth-right .1) o (r .named) h root l p k in
+          (given-page d root table b l p h k′ o (r .depth-right .1) tb f agr, withheld-page d root table b l p h k′ o (r .depth-right .1) tb f agr);
+    }

@@ -1,0 +1,73 @@
+-- 02, CR 4: "Where a path breaks." Statements only.
+--
+-- `SampleBreaks` and `ProofBreaks` say where: they are test 7 of the two checkers (Refusals.antt, FaultProofs.antt), whose other answers are as they were.
+use mathlib.Core.Path.{_≡_}
+use mathlib.Core.Logic.{_⊎_, _↔_}
+use mathlib.Core.List.{List}
+use Prim.Native.Nat.{ℕ, suc, _-_, _*_, _%_, _<_}
+use lib.ListN.{length, getD}
+use Rattle.table_bytes.specs.Bytes.{wordsOf}
+use Rattle.calls.specs.Stops.{numberOf}
+use Rattle.sample_calls.specs.Checking.{sampleChecked}
+use Rattle.fault_calls.specs.Checking.{proofChecked}
+use Rattle.guarantees.specs.Layouts.{symbolNo, dataSymbols, sampledLayer, sampledNumber, upFrom}
+use Rattle.guarantees.specs.Tables.{TableRight, AllInTwo}
+use Rattle.guarantees.specs.Trees.{AgreesWith}
+use Rattle.guarantees.specs.Refusals.{DepthRight, RootLength, SampleLength, InBase, SampleBreaks}
+use Rattle.guarantees.specs.FaultProofs.{givenSymbol, withheldSymbol, Named, given, Exact, AllLead, ProofBreaks, ProofLengths}
+use Rattle.guarantees.specs.Terms.{equationsOf}
+use Rattle.guarantees.specs.Change1.{Answers}
+
+-- what is tested of a sample before 7
+pub record SampleReady (d i : ℕ) (root s : List ℕ) : Type 0 where
+  pub depth-right : DepthRight d
+  pub root-length : RootLength root
+  pub sample-length : SampleLength d s
+  pub in-base : InBase d i
+
+-- and of a proof
+pub record ProofReady (d : ℕ) (root table b : List ℕ) : Type 0 where
+  pub depth-right : DepthRight d
+  pub lengths-right : ProofLengths root table b
+  pub table-right : TableRight d (wordsOf table)
+  pub table-covered : AllInTwo d (equationsOf table)
+  pub named : Named d (equationsOf table) b
+  pub exact : Exact named
+
+-- ---- a tree's symbols, f, where a path breaks at layer l: the symbol that breaks, and the one above it, which has its hash. At layer 0 the root has it.
+
+-- symbol number x of a sample, and the sample's data symbol of the layer above
+pub record SampleHasThere (d i : ℕ) (s : List ℕ) (f : ℕ → ℕ → List ℕ) (x : ℕ) : Type 0 where
+  pub here : symbolNo s x ≡ f (sampledLayer d x) (sampledNumber d i x)
+  pub above : (u : ℕ) → suc u ≡ sampledLayer d x → symbolNo s (2 * (d - 1 - u) - 1) ≡ f u (i % dataSymbols u)
+
+-- on a way up from symbol y of layer j, whose symbol x layers up is s x
+pub record WayHasThere (j y : ℕ) (s : ℕ → List ℕ) (f : ℕ → ℕ → List ℕ) (l : ℕ) : Type 0 where
+  pub here : s (j - l) ≡ f l (upFrom j y (j - l))
+  pub above : (u : ℕ) → suc u ≡ l → s (j - u) ≡ f u (upFrom j y (j - u))
+
+-- ---- the request
+
+pub record Change4 : Type 0 where
+  -- "The path test now answers with the first layer, going up from the given symbol, whose hash isn't the committed one; in a sample either symbol of a
+  -- layer counts. [..] 7 comes back with that layer": both directions, with no second value
+  pub sample-stops : (d i : ℕ) (root s : List ℕ) (l p : ℕ)
+      → Answers (sampleChecked d i root s) 7 (l, p) ↔ (SampleReady d i root s × SampleBreaks d i root s l × (p ≡ 0))
+  -- ".. and for a proof also with the position of the first such member in proof order, the withheld one counting last and its path starting at layer j−1"
+  pub proof-stops : (d : ℕ) (root table b : List ℕ) (l p : ℕ)
+      → Answers (proofChecked d root table b) 7 (l, p) ↔ ((r : ProofReady d root table b) × ProofBreaks root (r .named) l p)
+  -- accepted, or 8, just when no member breaks
+  pub proof-leads : (d : ℕ) (root table b : List ℕ)
+      → ((numberOf (proofChecked d root table b) ≡ 0) ⊎ (numberOf (proofChecked d root table b) ≡ 8)) ↔ ((r : ProofReady d root table b) × AllLead root (r .named))
+  -- in a proof of layer 0 the withheld one can't break, since its hash stands in the root
+  pub proof-of-top : (d : ℕ) (root table b : List ℕ) (l p : ℕ) → Answers (proofChecked d root table b) 7 (l, p)
+      → (h : Named d (equationsOf table) b) → h .layer ≡ 0 → (l ≡ 0) × (p < length (given h))
+  -- "The bench must know which shop's page to ask for again": whatever tree agrees with the root, a page of layer l, or the page above that has its hash, is
+  -- another than the tree's
+  pub sample-page : (d i : ℕ) (root s : List ℕ) (l p : ℕ) → Answers (sampleChecked d i root s) 7 (l, p)
+      → (x : ℕ) × (x < 2 * d - 1) × (sampledLayer d x ≡ l)
+      × ((tbl : List (List (List ℕ))) (f : ℕ → ℕ → List ℕ) → AgreesWith d tbl root f → SampleHasThere d i s f x → ⊥)
+  pub proof-page : (d : ℕ) (root table b : List ℕ) (l p : ℕ) → Answers (proofChecked d root table b) 7 (l, p) → (h : Named d (equationsOf table) b)
+      → (tbl : List (List (List ℕ))) (f : ℕ → ℕ → List ℕ) → AgreesWith d tbl root f
+      → (p < length (given h) → WayHasThere (h .layer) (getD (given h) p 0) (givenSymbol b (h .layer) p) f l → ⊥)
+      × (p ≡ length (given h) → WayHasThere (h .layer) (h .withheld) (withheldSymbol b (h .layer) p) f l → ⊥)
