@@ -5,6 +5,7 @@
 
 pub mod cover;
 pub mod listing;
+pub mod path;
 pub mod proof;
 pub mod repair;
 pub mod sample;

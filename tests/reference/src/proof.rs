@@ -1,6 +1,7 @@
 //! Fault proofs, written from the sections "Sample and fault proof" and "What
-//! stops a call" of 01.
+//! stops a call" of 01 and from CR 4 of 02.
 
+use crate::path::unbroken;
 use crate::sha256::sha256;
 use crate::stop::Stop;
 use crate::table::{self, byte_length, data_symbols, layers_of, word, Layers};
@@ -101,12 +102,13 @@ pub fn judge(equations: &Layers, root: &[u8], proof: &[u8]) -> Result<(), Stop> 
     let members = &equations[head.layer][head.equation];
     exactly(proof.len(), proof_len(head.layer, members.len()))?;
     let given = &proof[HEAD..];
-    for (index, (layer, symbol)) in head.symbols(members).into_iter().enumerate() {
-        if sha256(symbol_at(given, index)) != hash_for(root, given, layer, symbol, index + 1) {
-            return Err(Stop::Hash);
-        }
-    }
+    // The symbols of a given member. Those of the withheld one are last, and one fewer.
     let height = head.layer + 1;
+    let symbols = head.symbols(members).into_iter().enumerate();
+    let broken = symbols.filter(|&(index, (layer, symbol))| {
+        sha256(symbol_at(given, index)) != hash_for(root, given, layer, symbol, index + 1)
+    });
+    unbroken(broken.map(|(index, (layer, _))| (Some(index / height), layer)))?;
     let others = (0..members.len() - 1).map(|other| symbol_at(given, other * height));
     let withheld_path = (members.len() - 1) * height;
     if sha256(&exclusive_or(others))

@@ -1,6 +1,7 @@
 //! Samples, written from the sections "Sample and fault proof" and "What stops
-//! a call" of 01.
+//! a call" of 01 and from CR 4 of 02.
 
+use crate::path::unbroken;
 use crate::sha256::sha256;
 use crate::stop::Stop;
 use crate::table::{data_symbols, layers_of};
@@ -59,16 +60,15 @@ pub fn check(depth: u64, number: u64, root: &[u8], sample: &[u8]) -> Result<(), 
     exactly(root.len(), ROOT)?;
     exactly(sample.len(), sample_len(layers))?;
     let number = base_number(layers, number)?;
-    for (index, (layer, symbol)) in members(layers, number).into_iter().enumerate() {
+    let members = members(layers, number).into_iter().enumerate();
+    let broken = members.filter(|&(index, (layer, symbol))| {
         let (holder, at) = match committed(layer, symbol) {
             Committed::Root { at } => (root, at),
             Committed::Above { at, .. } => (symbol_at(sample, data_index(layers, layer - 1)), at),
         };
-        if sha256(symbol_at(sample, index)) != holder[at..at + HASH] {
-            return Err(Stop::Hash);
-        }
-    }
-    Ok(())
+        sha256(symbol_at(sample, index)) != holder[at..at + HASH]
+    });
+    unbroken(broken.map(|(_, (layer, _))| (None, layer)))
 }
 
 fn base_number(layers: usize, number: u64) -> Result<usize, Stop> {

@@ -1,5 +1,5 @@
 //! What stops a call, written from the section "What stops a call" of 01 and from
-//! CR 1 of 02.
+//! CRs 1 and 4 of 02.
 
 /// A cause, with the values that are returned beside its number.
 #[derive(Clone, Copy, Debug, PartialEq, Eq)]
@@ -13,7 +13,11 @@ pub enum Stop {
     Mark(usize),
     Number,
     Head,
-    Hash,
+    /// With the layer, and of a proof with the position of the member.
+    Hash {
+        layer: usize,
+        position: Option<usize>,
+    },
     NoFault,
     /// With the index in the sample, or the base number.
     Absent(usize),
@@ -34,7 +38,7 @@ impl Stop {
             Stop::Mark(place) => (4, vec![place]),
             Stop::Number => (5, vec![]),
             Stop::Head => (6, vec![]),
-            Stop::Hash => (7, vec![]),
+            Stop::Hash { layer, position } => (7, [layer].into_iter().chain(position).collect()),
             Stop::NoFault => (8, vec![]),
             Stop::Absent(index) => (9, vec![index]),
             Stop::Uncovered { layer, symbol } => (10, vec![layer, symbol]),

@@ -70,15 +70,72 @@ fn any_member_may_be_withheld() {
     }
 }
 
-/// Any byte of a member or of a path, the withheld member's too.
+fn breaks_in(layer: usize, position: usize) -> Result<(), Stop> {
+    Err(Stop::Hash { layer, position: Some(position) })
+}
+
+/// A proof with one bit changed of each of these bytes, each by the index of its symbol.
+fn damaged(proof: &[u8], bytes: &[(usize, usize)]) -> Vec<u8> {
+    let mut damaged = proof.to_vec();
+    for &(index, byte) in bytes {
+        damaged[HEAD + SYMBOL * index + byte] ^= 1 << (byte % 8);
+    }
+    damaged
+}
+
+/// Any byte of a member or of a path, the withheld member's too. Equation 0 is {0, 1, 16}:
+/// the given members are 0 and 1, and each hash on their paths, and that of layer 1's symbol
+/// 0 on the withheld one's, is the first in the symbol above.
 #[test]
 fn a_damaged_proof_is_refused() {
     let w = replaced(3, 2, 16);
     let proof = proof_of(&w, 2, 0, 16);
-    for at in HEAD..proof.len() {
-        let mut damaged = proof.clone();
-        damaged[at] ^= 1 << (at % 8);
-        assert_eq!(check_of(&w, &damaged), Err(Stop::Hash));
+    let first = [(2, 0), (2, 0), (1, 0), (2, 1), (2, 1), (1, 1), (1, 2), (1, 2)];
+    let others = [(2, 0), (1, 0), (0, 0), (2, 1), (1, 1), (0, 1), (1, 2), (0, 2)];
+    assert_eq!(proof.len(), HEAD + SYMBOL * others.len());
+    for (index, (first, other)) in first.into_iter().zip(others).enumerate() {
+        for byte in 0..SYMBOL {
+            let (layer, position) = if byte < HASH { first } else { other };
+            let result = check_of(&w, &damaged(&proof, &[(index, byte)]));
+            assert_eq!(result, breaks_in(layer, position));
+        }
+    }
+}
+
+/// Equation 5 of layer 2 is {5, 6, 20, 21}. Two paths share symbols: 5 and 21 go up to 5 and
+/// 1. The withheld one is last, whatever its number.
+#[test]
+fn first_broken_member_in_proof_order() {
+    let w = replaced(3, 2, 21);
+    let members = &w.equations()[2][5];
+    assert_eq!(members[..], [5, 6, 20, 21]);
+    for &withheld in members {
+        let proof = proof_of(&w, 2, 5, withheld);
+        let check_with = |bytes: &[(usize, usize)]| check_of(&w, &damaged(&proof, bytes));
+        // Symbols 0 to 8 are those of the given members, 9 and 10 the withheld one's path.
+        // The last byte of none is in a hash of the proof.
+        let last = 255;
+        assert_eq!(check_with(&[(0, last)]), breaks_in(2, 0), "{withheld} withheld");
+        assert_eq!(check_with(&[(9, last), (8, last), (7, last)]), breaks_in(1, 2));
+        assert_eq!(check_with(&[(3, last), (2, last)]), breaks_in(0, 0));
+        assert_eq!(check_with(&[(6, last), (5, last), (4, last)]), breaks_in(1, 1));
+        assert_eq!(check_with(&[(10, last), (9, last)]), breaks_in(1, 3));
+        assert_eq!(check_with(&[(10, last)]), breaks_in(0, 3));
+        assert_eq!(check_with(&[]), Ok(()));
+    }
+}
+
+/// In layer 0 the withheld member has no path.
+#[test]
+fn a_damaged_root() {
+    let w = case_7();
+    let proof = proof_of(&w, 0, 3, 7);
+    for hash in 0..16 {
+        let mut root = w.root.clone();
+        root[HASH * hash + 31 - hash] ^= 0x80;
+        let given = [0, 3, 6].iter().position(|&member| member == hash);
+        let expected = given.map_or(Ok(()), |position| breaks_in(0, position));
+        assert_eq!(check(1, &root, &w.table, &proof), expected);
     }
 }
 
@@ -107,7 +164,8 @@ fn heads() {
     for value in [1, 2, 4, 8, 16, 1 << 16 | 7, (1 << 30) - 1] {
         assert_eq!(with(2, word(END, value)), Err(Stop::Head));
     }
-    assert_eq!(with(2, word(END, 6)), Err(Stop::Hash));
+    // The third given member is 7 then, and 6 is given.
+    assert_eq!(with(2, word(END, 6)), breaks_in(0, 2));
 }
 
 #[test]
@@ -131,7 +189,7 @@ fn tests_in_their_order() {
     assert_eq!(check(1, &w.root, &w.table, &[0; 780]), Err(Stop::Head));
     assert_eq!(check(1, &w.root, &w.table, &proof[..12]), Err(Stop::Length));
     assert_eq!(check(1, &w.root, &w.table, &[&proof[..], &[0]].concat()), Err(Stop::Length));
-    assert_eq!(check(1, &[0; ROOT], &w.table, &proof), Err(Stop::Hash));
+    assert_eq!(check(1, &[0; ROOT], &w.table, &proof), breaks_in(0, 0));
 }
 
 /// The root says nothing of the depth.

@@ -46,20 +46,60 @@ fn samples_of_a_written_tree_pass() {
     }
 }
 
-/// Any byte of any symbol: a hash from below, the hash beside it, or another.
+fn breaks_in(layer: usize) -> Result<(), Stop> {
+    Err(Stop::Hash { layer, position: None })
+}
+
+/// Any byte of any symbol. Where it is one of the hash for another symbol of the sample,
+/// the path breaks there, a layer further down.
 #[test]
 fn a_damaged_sample_is_refused() {
     for depth in 1..=5 {
         let w = written(depth);
         let number = symbols(depth - 1) - 3;
         let sample = sample_of(&w, depth, number);
+        let members = members(depth, number);
         for at in 0..sample.len() {
+            let (layer, symbol) = members[at / SYMBOL];
+            let hash = Committed::Above { symbol, at: at % SYMBOL / HASH * HASH };
+            let holds = |&(below, other): &(usize, usize)| {
+                below == layer + 1 && committed(below, other) == hash
+            };
+            let expected = if members.iter().any(holds) { layer + 1 } else { layer };
             let mut damaged = sample.clone();
             damaged[at] ^= 1 << (at % 8);
             let result = check(depth as u64, number as u64, &w.root, &damaged);
-            assert_eq!(result, Err(Stop::Hash));
+            assert_eq!(result, breaks_in(expected));
         }
     }
+}
+
+/// A sample of symbol 61 at depth 3 has symbol 61 of the base, 5 and 21 of layer 1, 1 and
+/// 5 of layer 0. The hash of 61 is the last in 5, and those of 5 and 21 are numbers 1 and 5
+/// in layer 0's symbol 1.
+#[test]
+fn first_broken_layer_going_up() {
+    let w = written(3);
+    let sample = sample_of(&w, 3, 61);
+    let check_with = |bytes: &[(usize, usize)]| {
+        let mut damaged = sample.clone();
+        bytes.iter().for_each(|&(index, byte)| damaged[SYMBOL * index + byte] ^= 1);
+        check(3, 61, &w.root, &damaged)
+    };
+    let (base, data, parity, top_data, top_parity) = (0, 1, 2, 3, 4);
+    assert_eq!(check_with(&[(base, 0)]), breaks_in(2));
+    assert_eq!(check_with(&[(data, 255)]), breaks_in(2));
+    assert_eq!(check_with(&[(data, 223)]), breaks_in(1));
+    assert_eq!(check_with(&[(parity, 255)]), breaks_in(1));
+    assert_eq!(check_with(&[(top_data, 63)]), breaks_in(1));
+    assert_eq!(check_with(&[(top_data, 160)]), breaks_in(1));
+    assert_eq!(check_with(&[(top_data, 64)]), breaks_in(0));
+    assert_eq!(check_with(&[(top_parity, 32)]), breaks_in(0));
+    assert_eq!(check_with(&[(top_data, 0), (top_parity, 0)]), breaks_in(0));
+    assert_eq!(check_with(&[(top_data, 0), (parity, 0)]), breaks_in(1));
+    assert_eq!(check_with(&[(data, 0), (parity, 0)]), breaks_in(1));
+    assert_eq!(check_with(&[(top_parity, 0), (base, 7)]), breaks_in(2));
+    assert_eq!(check_with(&[]), Ok(()));
 }
 
 /// Of the root only the hashes of the sample's symbols in layer 0 count.
@@ -71,7 +111,7 @@ fn a_damaged_root() {
         let mut damaged = w.root.clone();
         damaged[at] ^= 0x10;
         let counts = at / HASH == 3 || at / HASH == 11;
-        let expected = if counts { Err(Stop::Hash) } else { Ok(()) };
+        let expected = if counts { breaks_in(0) } else { Ok(()) };
         assert_eq!(check(2, 31, &damaged, &sample), expected);
     }
 }
@@ -103,7 +143,7 @@ fn tests_of_the_check_in_their_order() {
     let w = written(2);
     let mut sample = sample_of(&w, 2, 31);
     sample[0] ^= 1;
-    assert_eq!(check(2, 31, &w.root, &sample), Err(Stop::Hash));
+    assert_eq!(check(2, 31, &w.root, &sample), breaks_in(1));
     assert_eq!(check(2, 32, &w.root, &sample), Err(Stop::Number));
     assert_eq!(check(2, 1 << 32 | 31, &w.root, &sample), Err(Stop::Number));
     assert_eq!(check(2, 32, &w.root[1..], &sample), Err(Stop::Length));
