@@ -6,6 +6,7 @@ use crate::comparisons::Comparisons;
 use crate::difference::Compared;
 use crate::input::Input;
 use crate::random::Random;
+use crate::results::values;
 use cedunmi_sys::{Lent, Word};
 use reference::stop::Stop;
 
@@ -77,6 +78,7 @@ pub struct Test {
     pub spoil: fn(&mut Input, &mut Random),
     /// The comparisons that every call with this test has, at each size.
     pub own: &'static [fn(&mut Comparisons, usize) -> Compared],
+    pub sorts: Sorts,
     /// Wrong ways to ask it, each with its name.
     #[cfg(test)]
     pub wrong: &'static [(&'static str, Ask)],
@@ -88,9 +90,19 @@ pub const TEST: Test = Test {
     ask: |_| unreachable!(),
     spoil: |_, _| unreachable!(),
     own: &[],
+    sorts: Sorts { all: |_| vec![], of: |_, _| None },
     #[cfg(test)]
     wrong: &[],
 };
+
+/// The sorts of calls that a test stops, each of which must come.
+#[derive(Clone, Copy)]
+pub struct Sorts {
+    /// Those that there are at a size.
+    pub all: fn(usize) -> Vec<String>,
+    /// That of a call, which stops with these values.
+    pub of: fn(&Input, [usize; 2]) -> Option<String>,
+}
 
 /// A buffer of a description.
 #[derive(Clone, Copy)]
@@ -101,6 +113,19 @@ pub struct Buffer {
 }
 
 impl Call {
+    /// The sorts of all tests and sizes.
+    pub fn sorts(&self) -> impl Iterator<Item = String> + '_ {
+        let of_test =
+            |test: &'static Test| self.sizes.iter().flat_map(|&size| (test.sorts.all)(size));
+        self.tests.iter().flat_map(of_test)
+    }
+
+    /// The sort of a call with this result, if it has one.
+    pub fn sort(&self, input: &Input, result: u64) -> Option<String> {
+        let mut tests = self.tests.iter().filter(|test| test.number == result % 256);
+        tests.find_map(|test| (test.sorts.of)(input, values(result)))
+    }
+
     pub fn buffers(&self) -> impl Iterator<Item = Buffer> {
         self.arguments.iter().filter_map(|argument| match *argument {
             Argument::Number(_) => None,

@@ -8,7 +8,8 @@ use crate::lent::{Lent, ALIGNMENTS};
 use crate::library::{Function, Library};
 use crate::met::Met;
 use crate::random::Random;
-use crate::results::{outcome, same};
+use crate::results::{number, outcome, same};
+use reference::stop::Stop;
 use reference::tree::SYMBOL;
 
 const SEED: u64 = 3141;
@@ -19,8 +20,9 @@ const SETS: usize = 512;
 /// Calls of each size that get other lengths.
 const TURNS: usize = 4;
 
-/// How often each result that a description names must come.
+/// How often each result that a description names must come, and each sort.
 const LEAST: u64 = 40;
+const LEAST_OF_SORT: u64 = 3;
 
 pub struct Comparisons {
     pub call: &'static Call,
@@ -38,8 +40,9 @@ pub fn compare(call: &'static Call, library: &Library) -> Result<Met, Failure> {
         own(&mut comparisons)?;
     }
     let met = comparisons.met;
-    call.tests.iter().for_each(|test| met.demand(&outcome(test.number), LEAST));
-    call.least.iter().for_each(|&(what, least)| met.demand(what, least));
+    call.tests.iter().for_each(|test| met.outcomes.demand(&outcome(test.number), LEAST));
+    call.least.iter().for_each(|&(what, least)| met.outcomes.demand(what, least));
+    call.sorts().for_each(|sort| met.sorts.demand(&sort, LEAST_OF_SORT));
     Ok(met)
 }
 
@@ -173,6 +176,13 @@ impl Comparisons {
         Ok(())
     }
 
+    /// A call that must come to this.
+    pub fn make_so(&mut self, what: &str, input: &Input, expected: Result<(), Stop>) -> Compared {
+        let result = self.make(what, input)?;
+        assert_eq!(result, number(expected), "{what}, {}", input.description());
+        Ok(())
+    }
+
     /// A call with some buffers at chosen alignments.
     pub fn make_at(
         &mut self,
@@ -183,7 +193,10 @@ impl Comparisons {
         self.met.made += 1;
         let mut after = input.clone();
         let result = (self.call.reference)(&mut after);
-        self.met.count(&outcome(result));
+        self.met.outcomes.count(&outcome(result));
+        if let Some(sort) = self.call.sort(input, result) {
+            self.met.sorts.count(&sort);
+        }
         self.lend(input, &after, result, alignment).map_err(|difference| Failure {
             call: format!("{what}: {}", input.description()),
             difference,

@@ -3,7 +3,7 @@
 #[cfg(test)]
 pub mod mutants;
 
-use crate::call::Test;
+use crate::call::{Test, TEST};
 use crate::comparisons::Comparisons;
 use crate::difference::Compared;
 use crate::random::Random;
@@ -16,6 +16,7 @@ pub const MARKS: Test = Test {
     own: &[bad_marks],
     #[cfg(test)]
     wrong: mutants::WRONG,
+    ..TEST
 };
 
 /// How many bytes are no marks: all from 2 on.

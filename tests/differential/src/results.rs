@@ -48,6 +48,11 @@ pub fn ended(result: u64) -> Option<Repaired> {
     Some(Repaired { end, stored: (result >> 32 & 0xffff) as usize })
 }
 
+/// The values of a result that has a number, 0 where there is none.
+pub fn values(result: u64) -> [usize; 2] {
+    VALUES.map(|bit| (result >> bit) as usize & 0xff_ffff)
+}
+
 /// A result without its values: its number, or, where that is 0, its end.
 pub fn outcome(result: u64) -> String {
     match result % 256 {
@@ -76,5 +81,10 @@ mod tests {
         let stop = Stop::Uncovered { layer: 4, symbol: 63 };
         assert_eq!(number(Err(stop)), 10 + 256 * 4 + (63 << 32));
         assert_eq!(outcome(number(Err(stop))), "10");
+        assert_eq!(values(number(Err(stop))), [4, 63]);
+        let stop = Stop::Hash { layer: 4, position: None };
+        assert_eq!(number(Err(stop)), 7 + 256 * 4);
+        let stop = Stop::Hash { layer: 3, position: Some(7) };
+        assert_eq!(number(Err(stop)), 7 + 256 * 3 + (7 << 32));
     }
 }

@@ -5,7 +5,7 @@ pub mod checking;
 pub mod mutants;
 pub mod taking;
 
-use crate::call::{Length, Test};
+use crate::call::{Length, Test, TEST};
 use crate::comparisons::{large, Comparisons};
 use crate::difference::Compared;
 use crate::input::Input;
@@ -34,6 +34,7 @@ pub const NUMBER: Test = Test {
     own: &[every_wrong_number],
     #[cfg(test)]
     wrong: mutants::WRONG,
+    ..TEST
 };
 
 /// The base symbols of a depth.

@@ -13,7 +13,7 @@ use cover::{every_symbol, every_two_equations, COVER};
 use damaged::damaged_tables;
 
 use crate::call::Argument::{Number, Read, Written};
-use crate::call::{Call, Length, Test, CALL};
+use crate::call::{Call, Length, Test, CALL, TEST};
 use crate::comparisons::{large, Comparisons};
 use crate::difference::Compared;
 use crate::input::Input;
@@ -80,6 +80,7 @@ pub const WORDS: Test = Test {
     own: &[damaged_tables],
     #[cfg(test)]
     wrong: mutants::WRONG,
+    ..TEST
 };
 
 pub fn house_len(depth: usize) -> usize {

@@ -44,7 +44,7 @@ fn shows_fault(c: &mut Comparisons, what: &str, input: &Input, layer: usize) -> 
     match ended(c.make(what, input)?) {
         Some(Repaired { end: End::Fault(len), .. }) => {
             assert!(len > HEAD && len % SYMBOL == HEAD, "a proof of {len} bytes");
-            c.met.count(&format!("layer {layer}"));
+            c.met.outcomes.count(&format!("layer {layer}"));
         }
         other => panic!("{other:?} is no fault: {}", input.description()),
     }

@@ -6,7 +6,7 @@ mod mutants;
 
 use super::lists::some_equations;
 use super::uses::{cover, uncover, use_only_in, use_times};
-use crate::call::Test;
+use crate::call::{Test, TEST};
 use crate::comparisons::Comparisons;
 use crate::difference::Compared;
 use crate::input::Input;
@@ -30,6 +30,7 @@ pub const COVER: Test = Test {
     own: &[few_equations, long_equations, several_symbols, wrong_words, later_tests],
     #[cfg(test)]
     wrong: mutants::WRONG,
+    ..TEST
 };
 
 /// Times that each of the comparisons is made at a size.
