@@ -5,6 +5,7 @@
 
 pub mod call;
 pub mod comparisons;
+mod damage;
 pub mod difference;
 pub mod input;
 mod lent;

@@ -1,5 +1,6 @@
 //! `cmt_proof_check` beside the reference.
 
+mod breaks;
 mod damaged;
 mod foreign;
 mod heads;
@@ -47,6 +48,10 @@ pub static PROOF_CHECK: Call = Call {
         heads::kinds,
         heads::bits,
         damaged::hashes,
+        breaks::damaged_symbols,
+        breaks::damaged_pairs,
+        breaks::damaged_sets,
+        breaks::damaged_roots,
         shown::committed_otherwise,
         damaged::bytes,
         damaged::root_bytes,
@@ -70,6 +75,7 @@ pub static PROOF_CHECK: Call = Call {
         ("7", 10_000),
         ("8", 5000),
         ("10", 1000),
+        ("one of some copies", 1000),
     ],
     ..CALL
 };
@@ -116,6 +122,7 @@ const HASHES: Test = Test {
         let at = HEAD + random.below(i["proof"].len() - HEAD);
         i["proof"][at] ^= 4;
     },
+    sorts: breaks::SORTS,
     ..TEST
 };
 

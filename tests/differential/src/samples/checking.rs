@@ -1,5 +1,6 @@
 //! `cmt_sample_check`: samples of coded trees, and damaged ones.
 
+mod breaks;
 #[cfg(test)]
 mod mutants;
 
@@ -35,7 +36,15 @@ pub static SAMPLE_CHECK: Call = Call {
         let (depth, base) = (i.number("depth"), i.number("number"));
         number(sample::check(depth, base, &i["root"], &i["sample"]))
     },
-    own: &[every_number, every_byte, every_hash, other_numbers, other_symbols],
+    own: &[
+        every_number,
+        every_byte,
+        every_hash,
+        breaks::damaged_sets,
+        breaks::damaged_roots,
+        other_numbers,
+        other_symbols,
+    ],
     least: &[("end 0", 2000), ("5", 300), ("7", 11_000)],
     ..CALL
 };
@@ -49,7 +58,7 @@ const HASHES: Test = Test {
             sample::check(depth as u64, base as u64, &i["root"], &i["sample"])
         };
         match base.map(check) {
-            Some(Err(Stop::Hash)) => Err(Stop::Hash),
+            Some(Err(stop @ Stop::Hash { .. })) => Err(stop),
             _ => Ok(()),
         }
     },
@@ -57,6 +66,7 @@ const HASHES: Test = Test {
         let index = random.below(i["sample"].len() / SYMBOL);
         break_hash(i, index, random.below(HASH));
     },
+    sorts: breaks::SORTS,
     ..TEST
 };
 
@@ -143,7 +153,8 @@ fn every_hash(c: &mut Comparisons) -> Compared {
             for byte in 0..HASH {
                 let mut input = right.clone();
                 break_hash(&mut input, index, byte);
-                c.make("one wrong hash", &input)?;
+                let layer = depth - 1 - (index + 1) / 2;
+                c.make_so("one wrong hash", &input, breaks::breaks_in(Some(layer)))?;
             }
         }
     }

@@ -6,7 +6,7 @@ use reference::stop::Stop;
 use reference::table::{data_symbols, Layers};
 
 /// The most members of an equation.
-const MOST: usize = 8;
+pub const MOST: usize = 8;
 
 /// Puts data symbols into more equations, until each is in enough.
 pub fn cover(layers: &mut Layers, random: &mut Random) {

@@ -164,7 +164,7 @@ fn heads() {
     for value in [1, 2, 4, 8, 16, 1 << 16 | 7, (1 << 30) - 1] {
         assert_eq!(with(2, word(END, value)), Err(Stop::Head));
     }
-    // The third given member is 7 then, and 6 is given.
+    // The third given member is 7 then, and the proof has 6.
     assert_eq!(with(2, word(END, 6)), breaks_in(0, 2));
 }
 
