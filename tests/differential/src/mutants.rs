@@ -8,12 +8,13 @@ use crate::call::{Ask, Call, Test};
 use crate::comparisons::compare;
 use crate::difference::Difference;
 use crate::input::Input;
-use crate::library::{by, Function, Library};
+use crate::library::{by, by_tests, Function, Library};
 use crate::CALLS;
 use std::thread;
 
 /// A test that a wrong function, over a copy of what it is lent, differs as the
-/// pattern says. `CALL` is the call.
+/// pattern says; or in its result, as the patterns say of the number expected and of
+/// the number found, whatever values go with them. `CALL` is the call.
 macro_rules! wrong {
     ($name:ident, $difference:pat, $body:expr) => {
         #[test]
@@ -24,15 +25,23 @@ macro_rules! wrong {
             $crate::mutants::find(&CALL, stringify!($name), function, place).unwrap();
         }
     };
+    ($name:ident, $expected:pat => $found:pat, $body:expr) => {
+        #[test]
+        fn $name() {
+            let body: fn(&mut $crate::input::Input) -> u64 = $body;
+            let place = |expected, found| matches!((expected, found), ($expected, $found));
+            $crate::mutants::find_number(&CALL, stringify!($name), body, place).unwrap();
+        }
+    };
 }
 
 /// The same of a call that asks the test of a number otherwise.
 macro_rules! wrong_test {
     ($name:ident, $number:literal, $difference:pat, $ask:expr) => {
-        wrong!($name, $difference, |i| {
-            let ask: $crate::call::Ask = $ask;
-            $crate::library::by_tests(i, &$crate::mutants::asked(&CALL, $number, ask))
-        });
+        wrong!($name, $difference, |i| $crate::mutants::asking(i, $number, $ask));
+    };
+    ($name:ident, $number:literal, $expected:pat => $found:pat, $ask:expr) => {
+        wrong!($name, $expected => $found, |i| $crate::mutants::asking(i, $number, $ask));
     };
 }
 
@@ -52,6 +61,19 @@ pub fn find(
     }
 }
 
+/// The same where the result is wrong, by the number expected and the number found.
+pub fn find_number(
+    call: &'static Call,
+    name: &str,
+    body: fn(&mut Input) -> u64,
+    place: impl Fn(u64, u64) -> bool,
+) -> Result<(), String> {
+    find(call, name, by(call, body), |difference| match *difference {
+        Difference::Result { expected, found } => place(expected % 256, found % 256),
+        _ => false,
+    })
+}
+
 /// Whether the comparison finds nothing wrong with a function.
 pub fn pass(call: &'static Call, name: &str, function: Function) -> Result<(), String> {
     match compare(call, &Library::right().with(call, function)) {
@@ -69,6 +91,11 @@ pub fn passes(call: &'static Call, body: impl Fn(&mut Input) -> u64 + 'static) {
 pub fn asked(call: &Call, number: u64, ask: Ask) -> Vec<Test> {
     let other = |test: &Test| if test.number == number { Test { ask, ..*test } } else { *test };
     call.tests.iter().map(other).collect()
+}
+
+/// What a call does that asks one of its tests otherwise.
+pub fn asking(input: &mut Input, number: u64, ask: Ask) -> u64 {
+    by_tests(input, &asked(input.call, number, ask))
 }
 
 /// What is wrong with every call, each asked in a thread.

@@ -1,4 +1,5 @@
 //! Wrong proof checks.
 
+mod breaks;
 mod hashes;
 mod heads;

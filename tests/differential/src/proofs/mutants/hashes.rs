@@ -5,59 +5,73 @@ use crate::input::Input;
 use crate::library::{right, stopped};
 use crate::mutants::{passes, wrong};
 use crate::proofs::PROOF_CHECK as CALL;
+use crate::results::number;
 use reference::proof::{hash_for, Head, HEAD};
 use reference::sha256::sha256;
+use reference::stop::Stop;
 use reference::table::{equations, house_equation};
 use reference::tree::{exclusive_or, symbol_at, HASH};
 use std::ops::Range;
 
 /// A hash to be compared: that of which symbol of the proof.
-struct Look {
-    head: Head,
-    index: usize,
-    layer: usize,
-    members: usize,
+pub struct Look<'a> {
+    pub head: Head,
+    pub members: &'a [usize],
+    /// The layer and the number of each symbol of the proof.
+    pub symbols: &'a [(usize, usize)],
+    pub index: usize,
 }
 
-impl Look {
+impl Look<'_> {
+    pub fn layer(&self) -> usize {
+        self.symbols[self.index].0
+    }
+
     /// Whether the symbol is a member, and not one of a path.
-    fn is_member(&self) -> bool {
-        self.layer == self.head.layer
+    pub fn is_member(&self) -> bool {
+        self.layer() == self.head.layer
     }
 
-    fn on_withheld_path(&self) -> bool {
-        self.index >= (self.members - 1) * (self.head.layer + 1)
+    pub fn position(&self) -> usize {
+        self.index / (self.head.layer + 1)
+    }
+
+    pub fn on_withheld_path(&self) -> bool {
+        self.position() == self.members.len() - 1
     }
 }
 
-/// Rules of a check, 01's or others.
-struct Rules {
+/// Rules of a check, those of the papers or others.
+pub struct Rules {
     /// The symbols whose hashes are not compared.
-    skipped: fn(&Look) -> bool,
+    pub skipped: fn(&Look) -> bool,
     /// The bytes of the others' hashes that are compared.
-    compared: Range<usize>,
+    pub compared: Range<usize>,
     /// The members of the equation that the head names, given the table's.
-    members: fn(Head, Vec<usize>) -> Vec<usize>,
+    pub members: fn(Head, Vec<usize>) -> Vec<usize>,
     /// The index in the proof of the symbol with the withheld member's hash,
     /// given the index of its path and the height of a member with its path.
-    withheld_in: fn(usize, usize) -> usize,
+    pub withheld_in: fn(usize, usize) -> usize,
     /// The bytes of the withheld member's hash that are compared.
-    withheld: Range<usize>,
+    pub withheld: Range<usize>,
     /// Whether that comparison comes first.
-    fault_first: bool,
+    pub fault_first: bool,
+    /// The layer and the position that are named, given the hashes that do not fit.
+    pub named: fn(&[Look]) -> (usize, usize),
 }
 
-const RULES: Rules = Rules {
+pub const RULES: Rules = Rules {
     skipped: |_| false,
     compared: 0..HASH,
     members: |_, members| members,
     withheld_in: |path, _| path,
     withheld: 0..HASH,
     fault_first: false,
+    named: |broken| (broken[0].layer(), broken[0].position()),
 };
 
 /// Checks by these rules a proof of the right form.
-fn check_by(rules: &Rules, i: &mut Input) -> u64 {
+pub fn check_by(rules: &Rules, i: &mut Input) -> u64 {
     let in_form = CALL.tests.iter().filter(|test| !matches!(test.number, 7 | 8));
     if let Some(result) = stopped(i, in_form) {
         return result;
@@ -75,20 +89,28 @@ fn check_by(rules: &Rules, i: &mut Input) -> u64 {
     if rules.fault_first && !fault {
         return 8;
     }
-    for (index, (layer, symbol)) in head.symbols(&members).into_iter().enumerate() {
-        let skipped = (rules.skipped)(&Look { head, index, layer, members: members.len() });
-        let hash = sha256(symbol_at(given, index));
-        let expected = hash_for(root, given, layer, symbol, index + 1);
-        let compared = rules.compared.clone();
-        if !skipped && hash[compared.clone()] != expected[compared] {
-            return 7;
-        }
+    let symbols = head.symbols(&members);
+    let looks =
+        (0..symbols.len()).map(|index| Look { head, members: &members, symbols: &symbols, index });
+    let broken: Vec<Look> = looks.filter(|look| breaks(rules, root, given, look)).collect();
+    if !broken.is_empty() {
+        let (layer, position) = (rules.named)(&broken);
+        return number(Err(Stop::Hash { layer, position: Some(position) }));
     }
     if fault {
         0
     } else {
         8
     }
+}
+
+/// Whether a hash is compared, and does not fit.
+fn breaks(rules: &Rules, root: &[u8], given: &[u8], look: &Look) -> bool {
+    let (layer, symbol) = look.symbols[look.index];
+    let hash = sha256(symbol_at(given, look.index));
+    let expected = hash_for(root, given, layer, symbol, look.index + 1);
+    let compared = rules.compared.clone();
+    !(rules.skipped)(look) && hash[compared.clone()] != expected[compared]
 }
 
 #[test]
@@ -98,55 +120,55 @@ fn right_rules_pass() {
 
 // Hashes.
 
-wrong!(no_hash_compared, Difference::Result { expected: 7, found: 0 | 8 }, |i| {
+wrong!(no_hash_compared, 7 => 0 | 8, |i| {
     check_by(&Rules { skipped: |_| true, ..RULES }, i)
 });
 
-wrong!(withheld_path_unchecked, Difference::Result { expected: 7, found: 0 | 8 }, |i| {
+wrong!(withheld_path_unchecked, 7 => 0 | 8, |i| {
     check_by(&Rules { skipped: |look| look.on_withheld_path(), ..RULES }, i)
 });
 
-wrong!(top_of_withheld_path_unchecked, Difference::Result { expected: 7, found: 0 | 8 }, |i| {
-    check_by(&Rules { skipped: |look| look.on_withheld_path() && look.layer == 0, ..RULES }, i)
+wrong!(top_of_withheld_path_unchecked, 7 => 0 | 8, |i| {
+    check_by(&Rules { skipped: |look| look.on_withheld_path() && look.layer() == 0, ..RULES }, i)
 });
 
-wrong!(middle_of_withheld_path_unchecked, Difference::Result { expected: 7, found: 0 | 8 }, |i| {
-    check_by(&Rules { skipped: |look| look.on_withheld_path() && look.layer == 2, ..RULES }, i)
+wrong!(middle_of_withheld_path_unchecked, 7 => 0 | 8, |i| {
+    check_by(&Rules { skipped: |look| look.on_withheld_path() && look.layer() == 2, ..RULES }, i)
 });
 
-wrong!(members_unchecked, Difference::Result { expected: 7, found: 0 | 8 }, |i| {
+wrong!(members_unchecked, 7 => 0 | 8, |i| {
     check_by(&Rules { skipped: |look| look.is_member(), ..RULES }, i)
 });
 
-wrong!(last_given_member_unchecked, Difference::Result { expected: 7, found: 0 | 8 }, |i| {
+wrong!(last_given_member_unchecked, 7 => 0 | 8, |i| {
     let skipped: fn(&Look) -> bool =
-        |look| look.is_member() && look.index == (look.members - 2) * (look.head.layer + 1);
+        |look| look.is_member() && look.position() == look.members.len() - 2;
     check_by(&Rules { skipped, ..RULES }, i)
 });
 
-wrong!(eighth_member_unchecked, Difference::Result { expected: 7, found: 0 }, |i| {
+wrong!(eighth_member_unchecked, 7 => 0, |i| {
     check_by(
         &Rules {
-            skipped: |look| look.index / (look.head.layer + 1) == 6 && look.members == 8,
+            skipped: |look| look.position() == 6 && look.members.len() == 8,
             ..RULES
         },
         i,
     )
 });
 
-wrong!(paths_unchecked, Difference::Result { expected: 7, found: 0 | 8 }, |i| {
+wrong!(paths_unchecked, 7 => 0 | 8, |i| {
     check_by(&Rules { skipped: |look| !look.is_member(), ..RULES }, i)
 });
 
-wrong!(root_unchecked, Difference::Result { expected: 7, found: 0 | 8 }, |i| {
-    check_by(&Rules { skipped: |look| look.layer == 0, ..RULES }, i)
+wrong!(root_unchecked, 7 => 0 | 8, |i| {
+    check_by(&Rules { skipped: |look| look.layer() == 0, ..RULES }, i)
 });
 
-wrong!(one_layer_unchecked, Difference::Result { expected: 7, found: 0 | 8 }, |i| {
-    check_by(&Rules { skipped: |look| look.layer == 3, ..RULES }, i)
+wrong!(one_layer_unchecked, 7 => 0 | 8, |i| {
+    check_by(&Rules { skipped: |look| look.layer() == 3, ..RULES }, i)
 });
 
-wrong!(last_byte_of_a_hash_unchecked, Difference::Result { expected: 7, found: 0 | 8 }, |i| {
+wrong!(last_byte_of_a_hash_unchecked, 7 => 0 | 8, |i| {
     check_by(&Rules { compared: 0..HASH - 1, ..RULES }, i)
 });
 
@@ -169,7 +191,7 @@ wrong!(first_byte_of_the_withheld_hash, Difference::Result { expected: 0, found:
     check_by(&Rules { withheld: 1..HASH, ..RULES }, i)
 });
 
-wrong!(no_fault_before_hashes, Difference::Result { expected: 7, found: 8 }, |i| {
+wrong!(no_fault_before_hashes, 7 => 8, |i| {
     check_by(&Rules { fault_first: true, ..RULES }, i)
 });
 
@@ -211,10 +233,5 @@ wrong!(every_proof_of_a_lower_layer_turned_down, Difference::Result { expected: 
 
 wrong!(no_fault_accepted, Difference::Result { expected: 8, found: 0 }, |i| match right(i) {
     8 => 0,
-    r => r,
-});
-
-wrong!(layer_beside_7, Difference::Result { expected: 7, .. }, |i| match right(i) {
-    7 => 7 + 256 * u64::from(i["proof"][3]),
     r => r,
 });

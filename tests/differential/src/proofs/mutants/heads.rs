@@ -39,11 +39,13 @@ wrong_word!(layer_of_8_bits, 0, |word| word & 0xc000_00ff);
 wrong_word!(equation_of_16_bits, 1, |word| word & 0xc000_ffff);
 wrong_word!(withheld_of_29_bits, 2, |word| word & 0xdfff_ffff);
 
-wrong!(only_the_last_withheld, Difference::Result { expected: 0 | 7 | 8, found: 6 }, |i| {
-    match right(i) {
-        0 | 7 | 8 if word(i, 2) & VALUE != (4 << (word(i, 0) & VALUE)) + (word(i, 1) & VALUE) => 6,
-        result => result,
+wrong!(only_the_last_withheld, 0 | 7 | 8 => 6, |i| {
+    let result = right(i);
+    let in_form = matches!(result % 256, 0 | 7 | 8);
+    if in_form && word(i, 2) & VALUE != (4 << (word(i, 0) & VALUE)) + (word(i, 1) & VALUE) {
+        return 6;
     }
+    result
 });
 
 /// The table with the withheld number among the members of the equation that

@@ -1,10 +1,9 @@
 //! Wrong sample checks.
 
 use super::{base_symbol, SAMPLE_CHECK as CALL};
-use crate::difference::Difference;
 use crate::input::Input;
-use crate::library::{by_tests, right};
-use crate::mutants::{asked, passes, wrong, wrong_test};
+use crate::library::right;
+use crate::mutants::{asking, passes, wrong, wrong_test};
 use reference::sample::{data_index, members};
 use reference::sha256::sha256;
 use reference::stop::Stop;
@@ -19,10 +18,17 @@ struct Look {
     at: usize,
 }
 
-/// Checks a sample, with only those bytes of each hash compared that `bytes`
+impl Look {
+    fn is_parity(&self) -> bool {
+        self.index > 0 && self.index % 2 == 0
+    }
+}
+
+/// The hashes that do not fit, with only those bytes of each compared that `bytes`
 /// gives for it, at the place that it gives.
-fn check_by(i: &Input, bytes: fn(&mut Look) -> Range<usize>) -> Result<(), Stop> {
+fn broken(i: &Input, bytes: fn(&mut Look) -> Range<usize>) -> Vec<Look> {
     let (depth, base) = base_symbol(i).expect("a depth");
+    let mut broken = Vec::new();
     for (index, (layer, symbol)) in members(depth, base).into_iter().enumerate() {
         let (holder, at) = match committed(layer, symbol) {
             Committed::Root { at } => (&i["root"][..], at),
@@ -35,56 +41,114 @@ fn check_by(i: &Input, bytes: fn(&mut Look) -> Range<usize>) -> Result<(), Stop>
         let hash = sha256(symbol_at(&i["sample"], index));
         let found = &holder[look.at..look.at + HASH];
         if hash[compared.clone()] != found[compared] {
-            return Err(Stop::Hash);
+            broken.push(look);
         }
     }
-    Ok(())
+    broken
+}
+
+/// Checks a sample by these hashes.
+fn check_by(i: &Input, bytes: fn(&mut Look) -> Range<usize>) -> Result<(), Stop> {
+    naming(&broken(i, bytes), |broken| broken[0].layer)
+}
+
+/// The layer that is named, where hashes do not fit.
+fn naming(broken: &[Look], layer: fn(&[Look]) -> usize) -> Result<(), Stop> {
+    match broken {
+        [] => Ok(()),
+        _ => Err(Stop::Hash { layer: layer(broken), position: None }),
+    }
 }
 
 #[test]
 fn right_hashes_pass() {
-    passes(&CALL, |i| by_tests(i, &asked(&CALL, 7, |i| check_by(i, |_| 0..HASH))));
+    passes(&CALL, |i| asking(i, 7, |i| check_by(i, |_| 0..HASH)));
 }
 
 /// A test that a check is found which does not compare all hashes.
 macro_rules! skipped {
     ($name:ident, |$look:ident| $skipped:expr) => {
-        wrong_test!($name, 7, Difference::Result { expected: 7, found: 0 }, |i| {
+        wrong_test!($name, 7, 7 => 0, |i| {
             check_by(i, |$look| if $skipped { 0..0 } else { 0..HASH })
         });
     };
 }
 
 skipped!(base_symbol_skipped, |look| look.index == 0);
-skipped!(parity_skipped, |look| look.index > 0 && look.index % 2 == 0);
+skipped!(parity_skipped, |look| look.is_parity());
 skipped!(top_parity_skipped, |look| look.depth == 5 && look.index == 8);
 skipped!(data_skipped, |look| look.index % 2 == 1);
 skipped!(data_of_one_layer_skipped, |look| look.depth == 4 && look.index == 3);
 skipped!(root_skipped, |look| look.layer == 0);
 
-wrong_test!(last_byte_of_a_hash_skipped, 7, Difference::Result { expected: 7, found: 0 }, |i| {
-    check_by(i, |_| 0..HASH - 1)
-});
+wrong_test!(last_byte_of_a_hash_skipped, 7, 7 => 0, |i| check_by(i, |_| 0..HASH - 1));
 
-wrong_test!(one_byte_of_one_hash_skipped, 7, Difference::Result { expected: 7, found: 0 }, |i| {
+wrong_test!(one_byte_of_one_hash_skipped, 7, 7 => 0, |i| {
     check_by(i, |look| if look.depth == 3 && look.index == 4 { 1..HASH } else { 0..HASH })
 });
 
-wrong_test!(parity_by_the_hash_of_data, 7, Difference::Result { expected: 0, found: 7 }, |i| {
+wrong_test!(parity_by_the_hash_of_data, 7, 0 => 7, |i| {
     check_by(i, |look| {
-        if look.layer == 0 && look.index > 0 && look.index % 2 == 0 {
+        if look.layer == 0 && look.is_parity() {
             look.at %= 4 * HASH;
         }
         0..HASH
     })
 });
 
-wrong!(all_refused, Difference::Result { expected: 0, found: 7 }, |i| match right(i) {
+wrong!(all_refused, 0 => 7, |i| match right(i) {
     0 => 7,
     result => result,
 });
 
-wrong!(layer_beside_7, Difference::Result { expected: 7, .. }, |i| match right(i) {
-    7 => 7 + 256 * (i.number("depth") - 1),
+// Where the sample breaks.
+
+/// A test that a check is found which names another layer, given the hashes that do not
+/// fit, from the base up.
+macro_rules! named {
+    ($name:ident, |$broken:pat_param| $layer:expr) => {
+        wrong_test!($name, 7, 7 => 7, |i| naming(&broken(i, |_| 0..HASH), |$broken| $layer));
+    };
+}
+
+/// The layer of the first of these, or, where there is none, of all.
+fn first_of(broken: &[Look], these: fn(&Look) -> bool) -> usize {
+    broken.iter().find(|look| these(look)).unwrap_or(&broken[0]).layer
+}
+
+// Which is the first going down from the root.
+named!(last_broken_layer, |broken| broken[broken.len() - 1].layer);
+named!(layer_of_the_parent, |broken| broken[0].layer.saturating_sub(1));
+named!(layer_below, |broken| broken[0].layer + 1);
+named!(layer_counted_from_the_base, |broken| broken[0].depth - 1 - broken[0].layer);
+named!(index_in_the_sample, |broken| broken[0].index);
+named!(layer_of_the_base, |broken| broken[0].depth - 1);
+named!(layer_of_the_root, |_| 0);
+named!(only_data_names_a_layer, |broken| first_of(broken, |look| !look.is_parity()));
+named!(only_parity_names_a_layer, |broken| first_of(broken, Look::is_parity));
+named!(layers_of_parity_one_off, |broken| { broken[0].layer + usize::from(broken[0].is_parity()) });
+named!(layer_0_only_by_data, |broken| match (broken[0].layer, broken[0].is_parity()) {
+    (0, true) => 1,
+    (layer, _) => layer,
+});
+named!(top_layer_at_depth_5_is_1, |broken| match (broken[0].depth, broken[0].layer) {
+    (5, 0) => 1,
+    (_, layer) => layer,
+});
+
+wrong!(no_layer_beside_7, 7 => 7, |i| match right(i) {
+    result if result % 256 == 7 => 7,
+    result => result,
+});
+
+wrong!(index_as_a_second_value, 7 => 7, |i| match right(i) {
+    result if result % 256 == 7 => {
+        result + ((broken(i, |_| 0..HASH)[0].index as u64) << 32)
+    }
+    result => result,
+});
+
+wrong!(layer_as_the_second_value, 7 => 7, |i| match right(i) {
+    result if result % 256 == 7 => 7 + (result / 256 << 32),
     result => result,
 });
