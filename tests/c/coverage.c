@@ -3,9 +3,9 @@
  * the four calls that take a table: each stops with 10 and its two values, after 3
  * and before all that follows 3, and leaves every buffer as it was.
  */
+#include "parts.h"
 #include "volume.h"
 
-#include <stdio.h>
 #include <string.h>
 
 static struct volume volume, before;
@@ -127,21 +127,11 @@ static int others_come_first(void)
 
 int main(void)
 {
-    static const struct {
-        const char *name;
-        int (*right)(void);
-    } parts[] = {
+    static const struct part parts[] = {
         {"how many equations are needed", two_are_needed},
         {"the page that is named", first_is_named},
         {"the calls that take a table", every_call_stops},
         {"the tests that come first", others_come_first},
     };
-    for (size_t i = 0; i < sizeof parts / sizeof *parts; i++) {
-        if (!parts[i].right()) {
-            printf("coverage: %s: not as it should be\n", parts[i].name);
-            return 1;
-        }
-    }
-    printf("coverage: ok\n");
-    return 0;
+    return run_parts("coverage", parts, sizeof parts / sizeof *parts);
 }
