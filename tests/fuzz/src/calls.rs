@@ -1,7 +1,7 @@
 //! The calls, each with what it is lent by a recipe.
 
-mod repairs;
-mod samples;
+pub mod repairs;
+pub mod samples;
 mod tables;
 mod trees;
 
@@ -37,9 +37,14 @@ impl Target {
     /// Makes the call that a recipe describes, and compares it.
     pub fn make(&self, library: &Library, recipe: &mut Recipe) -> Compared {
         let mut comparisons = Comparisons::of(self.call, library, recipe.random());
+        comparisons.make("fuzzed", &self.lent(recipe)).map(|_| ())
+    }
+
+    /// What the call is lent by the rest of a recipe.
+    pub fn lent(&self, recipe: &mut Recipe) -> Input {
         let mut input = (self.input)(recipe);
         edits::apply(recipe.rest(), &mut input.buffers);
-        comparisons.make("fuzzed", &input).map(|_| ())
+        input
     }
 }
 

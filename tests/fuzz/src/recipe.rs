@@ -6,7 +6,7 @@ use differential::tables::lists::{random_table, table_of};
 use differential::tables::uses::use_times;
 use differential::volumes::Volume;
 use reference::table::{data_symbols, house, listed, write};
-use reference::tree::{symbols, HASH};
+use reference::tree::{symbols, HASH, SYMBOL};
 
 /// The depths that buffers are made for, the smaller ones more often.
 const DEPTHS: [usize; 8] = [1, 1, 1, 2, 2, 3, 4, 5];
@@ -95,6 +95,14 @@ impl<'a> Recipe<'a> {
             volume.break_hash(layer, symbol, self.below(HASH));
         }
         volume
+    }
+
+    /// Changes a bit of up to three symbols.
+    pub fn damage(&mut self, symbols: &mut [u8]) {
+        for _ in 0..self.byte() % 4 {
+            let start = SYMBOL * (usize::from(self.byte()) % (symbols.len() / SYMBOL));
+            symbols[start + usize::from(self.byte())] ^= 1;
+        }
     }
 
     /// A layer, and the number of a symbol of it.

@@ -1,14 +1,18 @@
 //! Recipes reach every number and end of a call but twins, and a function that
-//! is wrong only there is found.
+//! is wrong only there is found; and they reach every sort of stopped calls.
 
+use crate::calls::repairs::PROOF_CHECK;
+use crate::calls::samples::SAMPLE_CHECK;
 use crate::calls::{Target, TARGETS};
 use crate::recipe::Recipe;
 use differential::call::Call;
+use differential::input::Input;
 use differential::library::{by, right, Library};
 use differential::random::Random;
-use differential::results::outcome;
+use differential::results::{outcome, values};
 use differential::tables::cover::COVER;
 use differential::CALLS;
+use reference::table::MAX_DEPTH;
 use std::collections::BTreeSet;
 use std::thread;
 
@@ -25,22 +29,37 @@ fn outcomes(call: &Call) -> BTreeSet<String> {
     ends.chain(call.tests.iter().map(|test| outcome(test.number))).collect()
 }
 
-/// Whether one of many random recipes shows a difference.
-fn differs(target: &Target, library: &Library, tried: usize) -> bool {
+/// Random recipes.
+fn some(tried: usize) -> impl Iterator<Item = Vec<u8>> {
     let mut random = Random::new(8128);
-    (0..tried).any(|_| {
+    (0..tried).map(move |_| {
         let len = random.below(64);
-        target.make(library, &mut Recipe::new(&random.bytes(len))).is_err()
+        random.bytes(len)
     })
 }
 
-/// Whether one of the recipes to begin with does.
-fn seeds_differ(target: &Target, library: &Library) -> bool {
-    let prefix = format!("{} ", target.call.name);
+/// The recipes to begin with of a call.
+fn seeds(call: &'static Call) -> impl Iterator<Item = Vec<u8>> {
     let digits = |seed: &str, at: usize| u8::from_str_radix(&seed[at..at + 2], 16).expect("a byte");
-    SEEDS.lines().filter_map(|line| line.strip_prefix(&prefix)).any(|seed| {
-        let bytes: Vec<u8> = (0..seed.len()).step_by(2).map(|at| digits(seed, at)).collect();
-        target.make(library, &mut Recipe::new(&bytes)).is_err()
+    let seeds = SEEDS.lines().filter_map(|line| line.strip_prefix(call.name)?.strip_prefix(' '));
+    seeds.map(move |seed| (0..seed.len()).step_by(2).map(|at| digits(seed, at)).collect())
+}
+
+/// Whether one of the recipes shows a difference.
+fn differs(target: &Target, library: &Library, mut recipes: impl Iterator<Item = Vec<u8>>) -> bool {
+    recipes.any(|bytes| target.make(library, &mut Recipe::new(&bytes)).is_err())
+}
+
+/// What the call of each recipe is lent, and what it comes to.
+fn called<'a>(
+    target: &'a Target,
+    recipes: impl Iterator<Item = Vec<u8>> + 'a,
+) -> impl Iterator<Item = (Input, u64)> + 'a {
+    recipes.map(|bytes| {
+        // The first byte is for the comparison alone.
+        let input = target.lent(&mut Recipe::new(&bytes[bytes.len().min(1)..]));
+        let result = (target.call.reference)(&mut input.clone());
+        (input, result)
     })
 }
 
@@ -59,7 +78,7 @@ fn every_outcome_is_reached() {
         move || {
             for outcome in outcomes(target.call) {
                 let library = wrong_at(target.call, outcome.clone());
-                assert!(differs(target, &library, TRIED), "{}: {outcome}", target.call.name);
+                assert!(differs(target, &library, some(TRIED)), "{}: {outcome}", target.call.name);
             }
         }
     };
@@ -76,15 +95,61 @@ fn seeds_have_tables_that_are_not_covered() {
     assert_eq!(targets.len(), 4);
     for target in targets {
         let library = wrong_at(target.call, uncovered.clone());
-        assert!(seeds_differ(target, &library), "{}", target.call.name);
-        assert!(!seeds_differ(target, &Library::right()), "{}", target.call.name);
+        assert!(differs(target, &library, seeds(target.call)), "{}", target.call.name);
+    }
+}
+
+#[test]
+fn seeds_pass() {
+    for target in TARGETS {
+        let right = Library::right();
+        assert!(!differs(target, &right, seeds(target.call)), "{}", target.call.name);
+    }
+}
+
+/// The first and the second values of the results of a number.
+fn values_of(number: u64, results: impl Iterator<Item = u64>) -> [BTreeSet<usize>; 2] {
+    let values: Vec<_> = results.filter(|result| result % 256 == number).map(values).collect();
+    [0, 1].map(|value| values.iter().map(|values| values[value]).collect())
+}
+
+/// The recipes to begin with break in each layer, and at each position.
+#[test]
+fn seeds_break_everywhere() {
+    for (target, positions) in [(&SAMPLE_CHECK, 1), (&PROOF_CHECK, 8)] {
+        let results = called(target, seeds(target.call)).map(|(_, result)| result);
+        let expected = [(0..MAX_DEPTH as usize).collect(), (0..positions).collect()];
+        assert_eq!(values_of(7, results), expected, "{}", target.call.name);
+    }
+}
+
+/// Recipes for proofs of equations of each size, in each layer of each depth, one symbol
+/// damaged, in a byte of no hash that a path has. Numbers too large begin again at 0.
+fn damaged_proofs() -> impl Iterator<Item = Vec<u8>> {
+    let depths = [0, 3, 5, 6, 7].into_iter();
+    let sizes = depths.flat_map(|depth| (128..135).map(move |size| [depth, size]));
+    let layers = sizes.flat_map(|[depth, size]| (0..5).map(move |layer| [depth, size, layer]));
+    layers.flat_map(|[depth, size, layer]| {
+        let of = [0, depth, size, 0, 0, 0, layer, 0, 0, 3, 0];
+        (0..39).map(move |index| [&of[..], &[1, index, 128]].concat())
+    })
+}
+
+#[test]
+fn every_sort_is_reached() {
+    for target in TARGETS.iter().filter(|target| target.call.sorts().count() > 0) {
+        let recipes = some(TRIED / 2).chain(damaged_proofs());
+        let sort = |(input, result): (Input, u64)| target.call.sort(&input, result);
+        let met: BTreeSet<String> = called(target, recipes).filter_map(sort).collect();
+        let all: BTreeSet<String> = target.call.sorts().collect();
+        assert_eq!(all.difference(&met).next(), None, "{}", target.call.name);
     }
 }
 
 #[test]
 fn the_library_passes() {
     for target in TARGETS {
-        assert!(!differs(target, &Library::linked(), 300), "{}", target.call.name);
+        assert!(!differs(target, &Library::linked(), some(300)), "{}", target.call.name);
     }
 }
 

@@ -4,7 +4,7 @@ use super::Target;
 use crate::recipe::Recipe;
 use differential::volumes::Volume;
 use differential::{proofs, repairs};
-use reference::proof::Head;
+use reference::proof::{Head, HEAD};
 
 /// A head that the table has.
 fn head(volume: &Volume, recipe: &mut Recipe) -> Head {
@@ -20,6 +20,7 @@ pub static PROOF_CHECK: Target = Target {
         let volume = recipe.volume();
         let proof = volume.proof(head(&volume, recipe));
         let mut input = proofs::of(&volume, proof);
+        recipe.damage(&mut input["proof"][HEAD..]);
         input.set("depth", recipe.asked(volume.depth));
         input
     },

@@ -27,6 +27,7 @@ pub static SAMPLE_CHECK: Target = Target {
         let words = recipe.words(made_for);
         let volume = Volume::new(made_for, &words, &mut recipe.random());
         let mut input = checking::sample_of(&volume, base);
+        recipe.damage(&mut input["sample"]);
         input.numbers = vec![depth, number];
         input
     },
