@@ -101,8 +101,12 @@ named!(withheld_counted_as_the_last_given, |broken| {
 named!(positions_from_1, |broken| (broken[0].layer(), broken[0].position() + 1));
 named!(index_in_the_proof, |broken| (broken[0].layer(), broken[0].index));
 named!(number_of_the_symbol, |broken| (broken[0].layer(), broken[0].symbols[broken[0].index].1));
-named!(seventh_given_is_6_of_8, |broken| match at(&broken[0]) {
+named!(seventh_given_member_of_layer_4_as_the_sixth, |broken| match at(&broken[0]) {
     (layer, 6) if broken[0].head.layer == 4 => (layer, 5),
+    named => named,
+});
+named!(end_of_the_longest_withheld_path_as_its_start, |broken| match at(&broken[0]) {
+    (0, 7) if broken[0].head.layer == 4 => (3, 7),
     named => named,
 });
 
