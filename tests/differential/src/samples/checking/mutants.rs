@@ -149,6 +149,6 @@ wrong!(index_as_a_second_value, 7 => 7, |i| match right(i) {
 });
 
 wrong!(layer_as_the_second_value, 7 => 7, |i| match right(i) {
-    result if result % 256 == 7 => 7 + (result / 256 << 32),
+    result if result % 256 == 7 => 7 + ((result >> 8) << 32),
     result => result,
 });
