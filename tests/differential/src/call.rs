@@ -30,7 +30,8 @@ pub struct Call {
     pub also: fn(&mut Comparisons, &Input, &Input, u64) -> Compared,
     /// The comparisons that this call alone has.
     pub own: &'static [Own],
-    /// How often a result must come, where that is oftener than each must.
+    /// How often a result must come, where that is oftener than each must, or a call
+    /// that is counted.
     pub least: &'static [(&'static str, u64)],
 }
 

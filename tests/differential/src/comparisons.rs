@@ -176,10 +176,11 @@ impl Comparisons {
         Ok(())
     }
 
-    /// A call that must come to this.
+    /// A call that must come to this. Such calls are counted by what they are.
     pub fn make_so(&mut self, what: &str, input: &Input, expected: Result<(), Stop>) -> Compared {
         let result = self.make(what, input)?;
         assert_eq!(result, number(expected), "{what}, {}", input.description());
+        self.met.outcomes.count(what);
         Ok(())
     }
 

@@ -75,7 +75,11 @@ pub static PROOF_CHECK: Call = Call {
         ("7", 10_000),
         ("8", 5000),
         ("10", 1000),
+        ("a symbol damaged", 3000),
         ("one of some copies", 1000),
+        ("two symbols damaged", 1600),
+        ("some symbols damaged", 700),
+        ("a hash of the root", 1400),
     ],
     ..CALL
 };

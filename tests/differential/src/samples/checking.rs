@@ -45,7 +45,14 @@ pub static SAMPLE_CHECK: Call = Call {
         other_numbers,
         other_symbols,
     ],
-    least: &[("end 0", 2000), ("5", 300), ("7", 11_000)],
+    least: &[
+        ("end 0", 2000),
+        ("5", 300),
+        ("7", 11_000),
+        ("one wrong hash", 800),
+        ("some symbols damaged", 600),
+        ("a hash of the root", 400),
+    ],
     ..CALL
 };
 
