@@ -18,7 +18,9 @@
  *   5  stopped: the base has no page of this number
  *   6  stopped: the proof's head has a wrong kind, layer or equation, or the
  *      equation has no such member
- *   7  stopped: a hash doesn't lead to the root
+ *   7  stopped: a hash doesn't lead to the root; the value is the layer of the
+ *      page whose hash is not the committed one; of a proof a second value is the
+ *      position of the member on whose way up that page is
  *   8  stopped: the withheld hash fits: the proof shows no fault
  *   9  stopped: a needed page is absent; the value is the index in the sample
  *      of the first, or, reading a block, its base number
@@ -29,8 +31,8 @@
  * and stops at the first that fails. A call that stops changes no byte of any
  * buffer. The bits above the low eight are the values that go with the number:
  * 24 for the first, or the only one, and 32 above these for the second, which 10
- * alone has; zero where there is none. Read a result with cmt_number(),
- * cmt_value() and cmt_second_value(); of a repair that ended, with
+ * has, and 7 of a proof; zero where there is none. Read a result with
+ * cmt_number(), cmt_value() and cmt_second_value(); of a repair that ended, with
  * cmt_repair_end() and the functions after it. cmt_explain() and
  * cmt_explain_end() have the words for numbers and ends. A compiler that can
  * warns where a result is dropped.
@@ -343,7 +345,12 @@ uint64_t cmt_sample_take(uint64_t depth, uint64_t number,
  * CMT_WRONG_DEPTH   the depth is not 1 to CMT_DEPTH_MAX.
  * CMT_WRONG_LENGTH  a buffer has another length than this depth asks.
  * CMT_WRONG_NUMBER  the base has no page of this number.
- * CMT_WRONG_HASH    a hash doesn't lead to the root.
+ * CMT_WRONG_HASH    a hash doesn't lead to the root. cmt_value() is the first
+ *                   layer, going up from the base, that has a page in the sample
+ *                   whose hash is not the one that the sample's data page of the
+ *                   next layer up, or of layer 0 the root, has for it: its data
+ *                   page, its parity page, or both. Ask for what doesn't fit
+ *                   again; where it comes as it was, for the page above it.
  */
 CMT_CHECKED
 uint64_t cmt_sample_check(uint64_t depth, uint64_t number,
@@ -366,8 +373,16 @@ uint64_t cmt_sample_check(uint64_t depth, uint64_t number,
  * CMT_UNCOVERED     as for cmt_table_check().
  * CMT_WRONG_HEAD    the head has a wrong kind, a layer or an equation that the
  *                   table has not, or withholds no member of the equation.
- * CMT_WRONG_HASH    a hash doesn't lead to the root, on a given member's path
- *                   or on the withheld one's.
+ * CMT_WRONG_HASH    a hash doesn't lead to the root. cmt_second_value() is the
+ *                   position of the first member with such a hash: 0 is the
+ *                   first that is given, and the withheld one comes after all
+ *                   that are. cmt_value() is the first layer, going up from
+ *                   that member, whose page has another hash than the one that
+ *                   the page above it in the path, or of layer 0 the root, has
+ *                   for it. It is the head's layer where that is the given
+ *                   member itself, and less on its path; the withheld one has
+ *                   a path alone, which starts one layer up. Ask for that page
+ *                   again; where it comes as it was, for the page above it.
  * CMT_NO_FAULT      the hashes are equal.
  */
 CMT_CHECKED
