@@ -60,13 +60,13 @@ pub fn take_sample(depth: u64, number: u64, tree: &[u8], marks: &[u8]) -> Result
     Ok(sample)
 }
 
-/// Checks a sample of a base symbol against the root.
+/// Checks a sample of a base symbol against the root. Where a hash does not lead to it, the layer is told.
 pub fn check_sample(depth: u64, number: u64, root: &[u8], sample: &[u8]) -> Result<(), Stop> {
     done(library::cmt_sample_check(depth, number, root, sample))
 }
 
 /// Checks a fault proof against the root and the table: accepted, the volume with this root was not coded as
-/// this table says.
+/// this table says. Where a hash does not lead to the root, layer and position are told.
 pub fn check_proof(depth: u64, root: &[u8], table: &[u8], proof: &[u8]) -> Result<(), Stop> {
     done(library::cmt_proof_check(depth, root, table, proof))
 }

@@ -20,7 +20,7 @@ pub fn done(result: u64) -> Result<(), Stop> {
         4 => Stop::WrongMark { place: value },
         5 => Stop::WrongNumber,
         6 => Stop::WrongHead,
-        7 => Stop::WrongHash,
+        7 => Stop::WrongHash { layer: value, position: second },
         8 => Stop::NoFault,
         9 => Stop::Absent { number: value },
         10 => Stop::Uncovered { layer: value, symbol: second },
@@ -57,7 +57,8 @@ mod tests {
             Stop::WrongTable { word: value }
             | Stop::WrongMark { place: value }
             | Stop::Absent { number: value } => vec![value],
-            Stop::Uncovered { layer, symbol } => vec![layer, symbol],
+            Stop::WrongHash { layer, position: second }
+            | Stop::Uncovered { layer, symbol: second } => vec![layer, second],
             _ => Vec::new(),
         }
     }
@@ -66,7 +67,7 @@ mod tests {
     #[test]
     fn stops_keep_their_numbers_and_values() {
         let most = ((1 << 24) - 1, u64::from(u32::MAX));
-        for (number, count) in (1..).zip([0, 0, 1, 1, 0, 0, 0, 0, 1, 2]) {
+        for (number, count) in (1..).zip([0, 0, 1, 1, 0, 0, 2, 0, 1, 2]) {
             for (first, second) in [(0, 0), (1, 255), (256, 0), (0, 63), (495, 65536), most] {
                 let stop = done(second << 32 | first << 8 | number).expect_err("a stop");
                 assert_eq!(u64::from(stop.number()), number);

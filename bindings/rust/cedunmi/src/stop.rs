@@ -19,7 +19,13 @@ pub enum Stop {
     },
     WrongNumber,
     WrongHead,
-    WrongHash,
+    /// The first layer, going up, with a symbol whose hash is not the one that the symbol above it, or the root, has
+    /// for it: in a sample either of its symbols, in a proof the one on the way up from the member at this position,
+    /// the first such member. The withheld one comes after all that are given. Of a sample the position is 0.
+    WrongHash {
+        layer: u64,
+        position: u64,
+    },
     NoFault,
     /// The index in the sample of the first that is absent, or, reading a block, its base number.
     Absent {
@@ -46,7 +52,7 @@ impl Stop {
             Stop::WrongMark { .. } => 4,
             Stop::WrongNumber => 5,
             Stop::WrongHead => 6,
-            Stop::WrongHash => 7,
+            Stop::WrongHash { .. } => 7,
             Stop::NoFault => 8,
             Stop::Absent { .. } => 9,
             Stop::Uncovered { .. } => 10,
@@ -71,6 +77,9 @@ impl fmt::Display for Stop {
                 write!(f, ": word {word} is the first wrong one, or the table ends there")
             }
             Stop::WrongMark { place } => write!(f, ": that of page {place} is the lowest such"),
+            Stop::WrongHash { layer, position } => {
+                write!(f, ": layer {layer}; in a proof, position {position}")
+            }
             Stop::Absent { number } => write!(f, ": number {number}"),
             Stop::Uncovered { layer, symbol } => {
                 write!(

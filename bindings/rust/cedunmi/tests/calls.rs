@@ -19,11 +19,21 @@ fn a_volume_goes_round() {
         assert_eq!(cedunmi::read_block(depth, &coded.tree, &coded.marks), Ok(volume));
         let sample = cedunmi::take_sample(depth, 13, &coded.tree, &coded.marks).expect("a sample");
         assert_eq!(cedunmi::check_sample(depth, 13, &coded.root, &sample), Ok(()));
-        assert_eq!(cedunmi::check_sample(depth, 12, &coded.root, &sample), Err(Stop::WrongHash));
+        let broken = Err(Stop::WrongHash { layer: 0, position: 0 });
+        assert_eq!(cedunmi::check_sample(depth, 12, &coded.root, &sample), broken);
         for i in 0..2 * depth as usize - 1 {
             let place = Depth::new(depth).expect("a depth").sampled_place(13, i);
             assert_eq!(sample[256 * i..][..256], coded.tree[256 * place..][..256]);
         }
+    }
+}
+
+/// The fault proof that a repair of depth 2 ends with.
+fn proof_of(root: &[u8], table: &[u8], tree: &[u8], marks: &[u8]) -> Vec<u8> {
+    let (mut tree, mut marks) = (tree.to_vec(), marks.to_vec());
+    match cedunmi::repair(2, root, table, &mut tree, &mut marks).expect("an end").end {
+        End::Fault { proof } => proof,
+        other => panic!("{other}"),
     }
 }
 
@@ -33,16 +43,74 @@ fn ends_come_with_what_they_show() {
     let (mut tree, mut marks) = (coded.tree.clone(), vec![0; coded.marks.len()]);
     let end = cedunmi::repair(2, &coded.root, &table, &mut tree, &mut marks).expect("an end");
     assert_eq!((end.stored, end.end), (0, End::Unavailable { layer: 0 }));
-    let (mut tree, mut marks, mut root) = (coded.tree.clone(), coded.marks.clone(), coded.root);
+    let (mut tree, mut root) = (coded.tree.clone(), coded.root);
     tree[256 * 7..][..256].copy_from_slice(&[1; 256]);
     root[32 * 7..][..32].copy_from_slice(&cedunmi::sha256(&[1; 256]).expect("a digest"));
-    let proof = match cedunmi::repair(2, &root, &table, &mut tree, &mut marks).expect("an end").end
-    {
-        End::Fault { proof } => proof,
-        other => panic!("{other}"),
-    };
+    let proof = proof_of(&root, &table, &tree, &coded.marks);
     assert_eq!((proof.len(), cedunmi::check_proof(2, &root, &table, &proof)), (780, Ok(())));
     assert_eq!(cedunmi::check_proof(2, &coded.root, &table, &proof), Err(Stop::NoFault));
+}
+
+/// The bytes with one of them changed.
+fn damaged(bytes: &[u8], at: usize) -> Vec<u8> {
+    let mut damaged = bytes.to_vec();
+    damaged[at] ^= 1;
+    damaged
+}
+
+/// A damaged symbol of a sample breaks it at its own layer; where the hash of the one below is damaged, at that one's.
+#[test]
+fn samples_say_where_they_break() {
+    for depth in 1..=5 {
+        let (_, _, coded) = coded(depth);
+        let sample = cedunmi::take_sample(depth, 13, &coded.tree, &coded.marks).expect("a sample");
+        let layer_of = |index: usize| depth - 1 - (index as u64 + 1) / 2;
+        let breaks = |at, layer| {
+            let found = cedunmi::check_sample(depth, 13, &coded.root, &damaged(&sample, at));
+            assert_eq!(found, Err(Stop::WrongHash { layer, position: 0 }), "byte {at}");
+        };
+        for index in 0..sample.len() / 256 {
+            // The eighth hash is of no symbol in the sample.
+            breaks(256 * index + 255, layer_of(index));
+        }
+        for index in (1..sample.len() / 256).step_by(2) {
+            let below = if index == 1 { 13 } else { 13 % (8 << layer_of(index)) };
+            breaks(256 * index + 32 * (below / (4 << layer_of(index))), layer_of(index) + 1);
+        }
+    }
+}
+
+/// A volume that was coded with 1 in the place of 2 in the table's last equation, which has 2, 7, 30 and 31: the house
+/// table, the volume's root, and a fault proof of layer 1.
+fn fault() -> (Vec<u8>, [u8; 512], Vec<u8>) {
+    let (volume, table, _) = coded(2);
+    let mut other = table.clone();
+    let member = other.len() - 4 * 5 + 3;
+    assert_eq!(std::mem::replace(&mut other[member], 1), 2);
+    let coded = cedunmi::code(2, &other, &volume).expect("a tree");
+    let proof = proof_of(&coded.root, &table, &coded.tree, &coded.marks);
+    (table, coded.root, proof)
+}
+
+/// Each given member, each page of a path, and the hash of a member in it; the withheld one's path comes last.
+#[test]
+fn proofs_say_where_they_break() {
+    let (table, root, proof) = fault();
+    assert_eq!(cedunmi::check_proof(2, &root, &table, &proof), Ok(()));
+    let breaks = |at, layer, position| {
+        let found = cedunmi::check_proof(2, &root, &table, &damaged(&proof, 12 + at));
+        assert_eq!(found, Err(Stop::WrongHash { layer, position }), "byte {at}");
+    };
+    for (position, slot) in (0..).zip([2 / 4, 7 / 4, 30 / 4]) {
+        let member = 512 * position as usize;
+        breaks(member + 9, 1, position);
+        breaks(member + 256 + 32 * slot, 1, position);
+        breaks(member + 256 + 32 * 2, 0, position);
+    }
+    breaks(512 * 3, 0, 3);
+    breaks(512 * 3 + 255, 0, 3);
+    let none = cedunmi::check_proof(2, &[0; 512], &table, &proof);
+    assert_eq!(none, Err(Stop::WrongHash { layer: 0, position: 0 }));
 }
 
 #[test]
