@@ -192,7 +192,10 @@ mod tests {
                 Stop::WrongHead,
                 "the proof's head has a wrong kind, layer or equation, or the equation has no such member",
             ),
-            (Stop::WrongHash, "a hash doesn't lead to the root"),
+            (
+                Stop::WrongHash { layer: 2, position: 3 },
+                "a hash doesn't lead to the root: layer 2; in a proof, position 3",
+            ),
             (Stop::NoFault, "the withheld hash fits: the proof shows no fault"),
             (Stop::Absent { number: 4 }, "a needed page is absent: number 4"),
             (

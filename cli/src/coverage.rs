@@ -1,26 +1,15 @@
 //! Data pages that too few equations of a table have as a member.
 
-/// The low bits of a table's word, which are its value; the two above are its kind.
-const VALUE: u32 = (1 << 30) - 1;
+use crate::members::members;
 
 /// The equations of a layer that have the page of this number as a member, in the bytes of a well-formed table.
-fn equations_with(table: &[u8], layer: u64, page: u64) -> Vec<u32> {
-    let (mut at, mut equation, mut found) = (0, 0, Vec::new());
-    for word in table.chunks_exact(4) {
-        let word = u32::from_be_bytes([word[0], word[1], word[2], word[3]]);
-        let value = word & VALUE;
-        match word >> 30 {
-            0 if at == layer && page == u64::from(value) => found.push(equation),
-            1 => at = u64::from(value),
-            2 => equation = value,
-            _ => {}
-        }
-    }
-    found
+fn equations_with(table: &[u8], layer: usize, page: usize) -> Vec<usize> {
+    let those = members(table).filter(|member| (member.layer, member.page) == (layer, page));
+    those.map(|member| member.equation).collect()
 }
 
 /// Of a table that leaves a page in fewer than two equations: what becomes of the page.
-pub fn open_to_loss(name: &str, table: &[u8], layer: u64, page: u64) -> Option<String> {
+pub fn open_to_loss(name: &str, table: &[u8], layer: usize, page: usize) -> Option<String> {
     match equations_with(table, layer, page)[..] {
         [] => Some(format!(
             "{name} has it in no equation: once it is lost, no repair brings it back"

@@ -98,7 +98,7 @@ impl Input {
     }
 
     /// Of a table that leaves this page in fewer than two equations, what becomes of the page.
-    fn uncovered(&self, layer: u64, page: u64) -> Option<String> {
+    fn uncovered(&self, layer: usize, page: usize) -> Option<String> {
         let table = Some(&self.bytes).filter(|_| self.kind == Kind::Table)?;
         open_to_loss(&self.name, table, layer, page)
     }
@@ -121,7 +121,8 @@ pub fn stopped(stop: Stop, depth: u64, inputs: &[&Input]) -> Failure {
         }
         Stop::WrongTable { .. } => inputs.iter().filter_map(|input| input.other_depth()).collect(),
         Stop::Uncovered { layer, symbol } => {
-            inputs.iter().filter_map(|input| input.uncovered(layer, symbol)).collect()
+            let (layer, page) = (layer as usize, symbol as usize);
+            inputs.iter().filter_map(|input| input.uncovered(layer, page)).collect()
         }
         Stop::WrongMark { .. } => inputs.iter().filter_map(|input| input.characters()).collect(),
         Stop::WrongNumber => Depth::new(depth).map(base_numbers).into_iter().collect(),

@@ -4,6 +4,7 @@ use super::{told, Done};
 use crate::arguments::{decimal, Arguments};
 use crate::input::{stopped, Reader};
 use crate::kind::Kind;
+use crate::paths;
 
 pub fn run(arguments: &Arguments) -> Done {
     let [depth, root, table, proof] = arguments.take()?;
@@ -12,7 +13,9 @@ pub fn run(arguments: &Arguments) -> Done {
     let root = reader.read(root, Kind::Root)?;
     let table = reader.read(table, Kind::Table)?;
     let proof = reader.read(proof, Kind::Proof)?;
+    let inputs = [&root, &table, &proof];
+    let broken = |stop| paths::of_proof(stop, depth, &root.bytes, &table.bytes, &proof.bytes);
     cedunmi::check_proof(depth, &root.bytes, &table.bytes, &proof.bytes)
-        .map_err(|stop| stopped(stop, depth, &[&root, &table, &proof]))?;
+        .map_err(|stop| broken(stop).unwrap_or_else(|| stopped(stop, depth, &inputs)))?;
     told(arguments, "accepted: the volume with this root was not coded as this table says")
 }

@@ -4,6 +4,7 @@ use super::{told, Done};
 use crate::arguments::{decimal, Arguments};
 use crate::input::{stopped, Reader};
 use crate::kind::Kind;
+use crate::paths;
 
 pub fn run(arguments: &Arguments) -> Done {
     let [depth, number, root, sample] = arguments.take()?;
@@ -11,7 +12,8 @@ pub fn run(arguments: &Arguments) -> Done {
     let mut reader = Reader::new(arguments.options.quiet);
     let root = reader.read(root, Kind::Root)?;
     let sample = reader.read(sample, Kind::Sample)?;
+    let broken = |stop| paths::of_sample(stop, depth, number, &root.bytes, &sample.bytes);
     cedunmi::check_sample(depth, number, &root.bytes, &sample.bytes)
-        .map_err(|stop| stopped(stop, depth, &[&root, &sample]))?;
+        .map_err(|stop| broken(stop).unwrap_or_else(|| stopped(stop, depth, &[&root, &sample])))?;
     told(arguments, "accepted: every hash leads to the root")
 }
