@@ -23,7 +23,8 @@ static const char usage[] =
     "\n"
     "DEPTH 1 to 5; NUMBER a decimal number too; the others are files. DEPTH, ROOT and TABLE must come from where\n"
     "they can be trusted. Exit status: 0 accepted; 1 to 8 and 10 not, and why not; 64 bad usage; 66 a\n"
-    "file cannot be read.\n";
+    "file cannot be read. At 7 it says the layer of the page to ask for again, and of a proof the position of the\n"
+    "member on whose way up it is, the withheld one last; cedunmi check-sample and check-proof say which page it is.\n";
 
 struct file {
     uint8_t *bytes;
@@ -117,17 +118,23 @@ static uint64_t check_proof(char **words)
     return result;
 }
 
-/* Says what the result means, and gives the exit status. */
-static int explain(uint64_t result, const char *accepted)
+/* Says what the result means, and gives the exit status; of a proof 7 has a second value. */
+static int explain(uint64_t result, const char *accepted, int is_proof)
 {
     uint64_t status = cmt_number(result);
+    unsigned long long value = cmt_value(result), second = cmt_second_value(result);
     fprintf(stderr, "bench: %s", status == CMT_DONE ? accepted : cmt_explain(status));
     if (status == CMT_WRONG_TABLE) {
-        fprintf(stderr, ", first wrong word %llu", (unsigned long long)cmt_value(result));
+        fprintf(stderr, ", first wrong word %llu", value);
+    }
+    if (status == CMT_WRONG_HASH) {
+        fprintf(stderr, ": layer %llu", value);
+    }
+    if (status == CMT_WRONG_HASH && is_proof) {
+        fprintf(stderr, ", position %llu", second);
     }
     if (status == CMT_UNCOVERED) {
-        fprintf(stderr, ": page %llu of layer %llu, counted in that layer, is the first such", (unsigned long long)cmt_second_value(result),
-                (unsigned long long)cmt_value(result));
+        fprintf(stderr, ": page %llu of layer %llu, counted in that layer, is the first such", second, value);
     }
     fputc('\n', stderr);
     return (int)status;
@@ -136,11 +143,11 @@ static int explain(uint64_t result, const char *accepted)
 int main(int count, char **words)
 {
     if (count == 6 && strcmp(words[1], "sample") == 0) {
-        return explain(check_sample(words + 2), "accepted: every hash in the sample leads to the root");
+        return explain(check_sample(words + 2), "accepted: every hash in the sample leads to the root", 0);
     }
     if (count == 6 && strcmp(words[1], "proof") == 0) {
         return explain(check_proof(words + 2),
-                       "accepted: the proof shows that the volume was not coded as this table says");
+                       "accepted: the proof shows that the volume was not coded as this table says", 1);
     }
     fputs(usage, stderr);
     return WRONG_USE;

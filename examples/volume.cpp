@@ -57,5 +57,6 @@ int main()
     };
     std::cout << "sample: " << check();
     sample[0] ^= 1;
-    std::cout << ", damaged: " << check() << "\n";
+    const std::uint64_t damaged = check();
+    std::cout << ", damaged: " << cmt_number(damaged) << " at layer " << cmt_value(damaged) << "\n";
 }

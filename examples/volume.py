@@ -54,4 +54,5 @@ print("the block is", "as it was" if back == block else "another")
 done("cmt_sample_take", depth, number, tree, marks, sample)
 right = call("cmt_sample_check", depth, number, root, sample)
 sample[0] ^= 1
-print(f"sample: {right}, damaged: {call('cmt_sample_check', depth, number, root, sample)}")
+damaged = call("cmt_sample_check", depth, number, root, sample)
+print(f"sample: {right}, damaged: {damaged % 256} at layer {damaged // 256}")
