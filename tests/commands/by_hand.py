@@ -133,6 +133,85 @@ def sample(depth, number, tree):
     return b"".join(tree[PAGE * p:PAGE * (p + 1)] for p in sample_places(depth, number))
 
 
+def sample_way(depth, number, sample):
+    """The layers of a sample, going up: each with its number, and its pages with theirs, the data
+    page first."""
+    held = [sample[i:i + PAGE] for i in range(0, len(sample), PAGE)]
+    way = [(depth - 1, [(number, held.pop(0))])]
+    for j in reversed(range(depth - 1)):
+        k = 4 << j
+        way.append((j, [(number % k, held.pop(0)), (k + number % (3 * k), held.pop(0))]))
+    return way
+
+
+def proof_ways(table, proof):
+    """The members of a proof in its order, the withheld one last: what is said of the pages of its
+    path, and its way up, as of a sample."""
+    layer, equation, withheld = [word & (1 << 30) - 1 for word in struct.unpack(">3I", proof[:12])]
+    held = [proof[i:i + PAGE] for i in range(12, len(proof), PAGE)]
+    for i in [i for i in equations_of(table)[layer][equation] if i != withheld]:
+        way = [(layer, [(i, held.pop(0))])]
+        way += [(j, [(i % (4 << j), held.pop(0))]) for j in reversed(range(layer))]
+        yield "member %d" % i, way
+    path = [(j, [(withheld % (4 << j), held.pop(0))]) for j in reversed(range(layer))]
+    yield "the withheld member %d" % withheld, path
+
+
+def unfit(way, root):
+    """Of each layer of a way up the numbers of the pages whose hash the data page of the next, or
+    the root, does not have for them."""
+    above = [held[0][1] for _, held in way[1:]] + [root]
+    for (layer, held), hashes in zip(way, above):
+        s = pages(layer) // 8 if layer else 1
+        yield [i for i, page in held if digest(page) != hashes[32 * (i // s):][:32]]
+
+
+def listed(word, numbers):
+    """Numbers after a word, which has an s if there are more than one."""
+    return word + "s" * (len(numbers) > 1) + " " + " and ".join(map(str, numbers))
+
+
+def broken(way, root, whose, right):
+    """What is said of a way up that breaks, or None: where it does, the page above, and which page
+    to ask for again."""
+    wrong = list(unfit(way, root))
+    at = next((at for at, numbers in enumerate(wrong) if numbers), None)
+    if at is None:
+        return None
+    layer, numbers = way[at][0], wrong[at]
+    those = listed("page", [first(layer) + i for i in numbers])
+    hashes = "other hashes for them" if len(numbers) > 1 else "another hash for it"
+    rest = [(j, held[0][0], held[0][0] in bad) for (j, held), bad in zip(way, wrong)][at + 1:]
+    bad = [first(j) + i for j, i, does_not_fit in rest if does_not_fit]
+    if not rest:
+        to_do = "the root has %s: if %s, ask for %s again" % (hashes, right, those)
+    else:
+        to_do = "page %d, number %d of layer %d, has %s, " % (
+            first(rest[0][0]) + rest[0][1], rest[0][1], rest[0][0], hashes)
+        to_do += ("but doesn't lead to the root itself: ask for page %d again first" % bad[-1]
+                  if bad else "and leads to the root: ask for %s again" % those)
+    return ("cedunmi: a hash doesn't lead to the root: %s of the tree, %s of layer %d%s "
+            "(number 7: cedunmi explain 7)\ncedunmi: %s\n" % (
+                those, listed("number", numbers), layer, whose(layer), to_do))
+
+
+def broken_sample(depth, number, root, sample):
+    """What is said of a sample that breaks, or None."""
+    right = "this root is the volume's, and the sample that of base page %d" % number
+    return broken(sample_way(depth, number, sample), root, lambda layer: "", right)
+
+
+def broken_proof(root, table, proof):
+    """What is said of a proof that breaks, or None: of the first member with a way up that does."""
+    layer = proof[3]
+    for member, way in proof_ways(table, proof):
+        said = broken(way, root, lambda j: ", a given member" if j == layer else
+                      ", in the path of " + member, "this root is the volume's")
+        if said:
+            return said
+    return None
+
+
 class Layer:
     """What a repair found and did in one layer."""
 

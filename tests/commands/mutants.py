@@ -29,12 +29,31 @@ to() {
 }
 """
 
+
+def saying(edit):
+    """A program that says something else where it is refused: this edit, by sed."""
+    return ('said=$("$real" "$@" 2>&1 >/dev/null); status=$?; printf "%%s\\n" "$said" | '
+            'sed "%s" >&2; exit $status' % edit)
+
+
 TELLING_LATER = '"$real" "$@" >told; status=$?; cat told 2>/dev/null; exit $status'
 SCRIPTS = [
     ("careless", "basics.numbers", '"$real" "$@"; exit 0'),
     ("miscounting", "basics.uncovered_tables",
-     'said=$("$real" "$@" 2>&1 >/dev/null); status=$?; printf "%s\\n" "$said" | '
-     'sed "s/in equation [0-9]* alone/in no equation/" >&2; exit $status'),
+     saying("s/in equation [0-9]* alone/in no equation/")),
+    ("parent-asking", "paths.samples",
+     saying(r"s/: page \([0-9]*\)\(,.* leads .*ask for page\) [0-9]*/: page \1\2 \1/")),
+    ("unplaced", "paths.samples",
+     saying(r"s/page [0-9]* of the tree, number \([0-9]*\)/page \1 of the tree, number \1/")),
+    ("data-naming", "paths.samples",
+     saying(r"s/page \(5\|9\|13\) of the tree, number [0-9]* /page 1 of the tree, number 1 /")),
+    ("half-naming", "paths.two_pages",
+     saying(r"1s/\(page\|number\)s \([0-9]*\) and [0-9]*/\1 \2/g")),
+    ("trusting-the-page-above", "paths.samples",
+     saying("s/but doesn't lead to the root itself: ask for page .*/and leads to the root/")),
+    ("layer-above", "paths.proofs",
+     saying("1s/of layer 1/of layer 0/; 1s/of layer 2/of layer 1/")),
+    ("all-given", "paths.proofs", saying("s/path of the withheld member/path of member/")),
     ("overwriting", "files.existing",
      'case $command in table | typed | read) exec "$real" --force "$@" ;; esac'),
     ("mode-losing", "files.existing",

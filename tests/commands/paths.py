@@ -1,0 +1,106 @@
+"""Where a path breaks: which page check-sample and check-proof name, beside what is by hand."""
+import random
+
+import by_hand
+from room import Coded, need, put
+
+DEPTHS = (1, 2, 3, 4, 5)
+
+
+def changed(data, *places):
+    """The bytes with these changed."""
+    data = bytearray(data)
+    for place in places:
+        data[place] ^= 1
+    return bytes(data)
+
+
+def sample_broken(room, coded, number, sample, *options):
+    """The lines of a sample that is refused, which are those by hand."""
+    put("damaged", sample)
+    said = room.refused(7, "check-sample", *options, coded.depth, number, "root", "damaged")
+    lines = by_hand.broken_sample(coded.depth, number, coded.root, sample)
+    need(said.err.decode() == lines, str(said) + ", but this should be said:", lines)
+    return lines
+
+
+def proof_broken(room, coded, proof, root="root"):
+    """The lines of a proof that is refused, which are those by hand."""
+    put("damaged", proof)
+    said = room.refused(7, "check-proof", coded.depth, root, "table", "damaged")
+    lines = by_hand.broken_proof(coded.root, coded.table, proof)
+    need(said.err.decode() == lines, str(said) + ", but this should be said:", lines)
+    return lines
+
+
+def test_samples(room):
+    """Each page of a sample with a byte changed in each of its eight hashes, or two pages."""
+    chance, told = random.Random(4), []
+    for depth in DEPTHS:
+        coded = Coded(depth, 15).lay()
+        for number in chance.sample(range(8 << depth), 2):
+            sample = by_hand.sample(depth, number, coded.tree)
+            for slot in range(len(sample) // 32):
+                places = [32 * slot + chance.randrange(32)]
+                places += [chance.randrange(len(sample))] * chance.randrange(2)
+                told.append(sample_broken(room, coded, number, changed(sample, *places)))
+    for layer in range(5):
+        need(sum(" of layer %d (number 7" % layer in lines for lines in told) > 10, "layer", layer)
+    for words in ("the root has", "and leads to the root", "but doesn't lead to the root"):
+        need(sum(words in lines for lines in told) > 10, words)
+
+
+def test_two_pages(room):
+    """Data page and parity page of each layer at once, by the page above or by themselves; with
+    another root; with another number."""
+    for depth in DEPTHS:
+        coded = Coded(depth, 16).lay()
+        for number in (0, 5, (8 << depth) - 1):
+            sample = by_hand.sample(depth, number, coded.tree)
+            for index in range(1, 2 * depth - 1, 2):
+                at = 256 * index
+                both = changed(sample, at + 3, at + 256)
+                gone = sample[:at] + bytes(256) + sample[at + 256:]
+                sample_broken(room, coded, number, both)
+                lines = sample_broken(room, coded, number, gone, "--quiet")
+                need(index == 1 or ": pages " in lines, lines)
+            sample_broken(room, coded, (number + 1) % (8 << depth), sample)
+        coded.root = Coded(depth, 17).root
+        put("root", coded.root)
+        sample_broken(room, coded, 5, by_hand.sample(depth, 5, coded.tree))
+
+
+def test_proofs(room):
+    """Each page of a proof with a byte changed in each hash: members, paths, the withheld one's."""
+    chance, told = random.Random(5), []
+    for depth in DEPTHS:
+        coded = Coded(depth, 18).lay()
+        for layer in sorted({0, depth // 2, depth - 1}):
+            equation = chance.randrange(12 << layer)
+            others = list(by_hand.house_members(layer, equation))
+            withheld = others.pop(chance.randrange(len(others)))
+            proof = coded.repair().prove(layer, equation, withheld, others)
+            for slot in range((len(proof) - 12) // 32):
+                place = 12 + 32 * slot + chance.randrange(32)
+                told.append(proof_broken(room, coded, changed(proof, place)))
+    for words in (", a given member (", ", in the path of member ", "the withheld member ",
+                  "the root has", "and leads to the root", "but doesn't lead to the root"):
+        need(sum(words in lines for lines in told) > 40, words)
+
+
+def test_first_member(room):
+    """Of several members whose ways break, and with another root, the first in the proof's order is
+    named; in a proof of layer 0 the withheld one has no path."""
+    for depth in DEPTHS:
+        wrong = Coded(depth, 19).wrong_seven().lay()
+        proof = wrong.repair().proof
+        proof_broken(room, wrong, changed(proof, 12 + 256, 12 + 512))
+        proof_broken(room, wrong, changed(proof, len(proof) - 1))
+        base = depth - 1
+        members = by_hand.house_members(base, 3)
+        proof = wrong.repair().prove(base, 3, members[1], members[:1] + members[2:])
+        for places in ((len(proof) - 1, 12), (12 + 256 * depth, 12 + 512 * depth), (12, 13)):
+            proof_broken(room, wrong, changed(proof, *places))
+        wrong.root = Coded(depth, 20).root
+        put("root", wrong.root)
+        proof_broken(room, wrong, proof)
