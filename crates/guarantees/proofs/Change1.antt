@@ -1,16 +1,13 @@
 -- CR 1: which tables are taken, and which stop with 10. Every call's tests are known (`Refusals`, `FaultProofs`); below is what they say of its table.
-use mathlib.Core.Path.{_≡_, refl, sym, ap, _∙_, subst}
-use mathlib.Core.Bool.{Bool, true, true≢false, _&&_}
+use mathlib.Core.Path.{_≡_, refl, sym, ap, subst}
+use mathlib.Core.Bool.{true}
 use mathlib.Core.List.{List}
 use Prim.Native.Nat.{ℕ}
 use native.Mathlib.Omega.{arith}
 use lib.ListN.{length}
 use Rattle.octets.specs.BigEndian.{bytesOf}
-use Rattle.octets.proofs.Choice.{by-test, and-yes, yes-and}
 use Rattle.parity_table.specs.Shape.{depthFits}
 use Rattle.parity_table.specs.Parse.{tableOf}
-use Rattle.parity_table.proofs.Parse.{formed-rules}
-use Rattle.table_bytes.specs.Bytes.{lengthFits}
 use Rattle.house_table.specs.House.{houseTable, houseWords}
 use Rattle.house_table.proofs.HouseRules.{house-formed, house-parsed}
 use Rattle.house_table.proofs.HouseCovered.{house-covered}
@@ -22,13 +19,13 @@ use Rattle.calls.proofs.Taken.{house-taken}
 use Rattle.volume_calls.specs.Writing.{writeSized}
 use Rattle.fault_calls.specs.Checking.{proofSized}
 use Rattle.fault_calls.specs.Repairing.{repairSized}
-use Rattle.guarantees.specs.Answers.{done, test, fails, holds, unless, Just}
+use Rattle.guarantees.specs.Answers.{done, fails, holds, Just}
 use Rattle.guarantees.specs.Tables.{TableRight, FirstWrongWord, AllInTwo, FirstNotInTwo}
-use Rattle.guarantees.specs.Refusals.{DepthRight, TableLength, takesWords}
+use Rattle.guarantees.specs.Refusals.{takesWords}
 use Rattle.guarantees.specs.Change1.{Table, Change1}
 use Rattle.guarantees.proofs.Answers.{never, done-never}
 use Rattle.guarantees.proofs.Passing.{right-so, past-words, past-words-so, Front, depth-front, lengths-front, table-stable, both-stable}
-use Rattle.guarantees.proofs.Tables.{right-formed, formed-right, covered-all}
+use Rattle.guarantees.proofs.Tables.{formed-right, covered-all}
 use Rattle.guarantees.proofs.Refusals.{depth-fits, done-only, lengths-own, own-lengths, repair-own, own-repair, refusals}
 use Rattle.guarantees.proofs.FaultProofs.{fault-proofs, lengths-own as proof-own, own-lengths as own-proof}
 

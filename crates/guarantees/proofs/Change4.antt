@@ -20,13 +20,13 @@ use Rattle.model.specs.Fault.{proofLayer, proofMembers, proofLength, headOk}
 use Rattle.calls.specs.declared.Answer.{Answer}
 use Rattle.calls.specs.Stops.{numberOf, valuesOf}
 use Rattle.calls.specs.Lengths.{rootSized, sampleSized}
-use Rattle.sample_calls.specs.Checking.{checkSized, sampleChecked}
+use Rattle.sample_calls.specs.Checking.{checkSized}
 use Rattle.fault_calls.specs.Checking.{proofSized, proofChecked}
 use Rattle.guarantees.specs.Layouts.{allSymbols}
-use Rattle.guarantees.specs.Answers.{Answered, done, test, fails, holds, unless, one, two}
-use Rattle.guarantees.specs.Tables.{TableRight, AllInTwo}
+use Rattle.guarantees.specs.Answers.{Answered, done, test, fails, holds, unless, one}
+use Rattle.guarantees.specs.Tables.{TableRight}
 use Rattle.guarantees.specs.Refusals.{DepthRight, RootLength, SampleLength, InBase, SampleBreaks, sampleTests}
-use Rattle.guarantees.specs.FaultProofs.{givenSymbol, withheldSymbol, Named, given, Exact, AllLead, ProofBreaks, Fits, ProofLengths, proofTests}
+use Rattle.guarantees.specs.FaultProofs.{givenSymbol, withheldSymbol, Named, given, Exact, AllLead, ProofBreaks, ProofLengths, proofTests}
 use Rattle.guarantees.specs.Trees.{AgreesWith}
 use Rattle.guarantees.specs.Terms.{equationsOf}
 use Rattle.guarantees.specs.Change1.{Answers}
@@ -37,7 +37,7 @@ use Rattle.guarantees.proofs.ProofHeads.{named-fitting, length-named, n
 use Rattle.guarantees.proofs.Passing.{decided, Stable, past-words, past-words-so, left-words, Front, depth-stable, lengths-front, both-stable}
 use Rattle.guarantees.proofs.Refusals.{depth-fits, refusals}
 use Rattle.guarantees.proofs.Pages.{up-low, sample-fits, way-fits-there}
-use Rattle.guarantees.proofs.FaultProofs.{leads-or-breaks, breaks-as, never-both, fault-proofs, lengths-own, own-lengths}
+use Rattle.guarantees.proofs.FaultProofs.{from8, from7, leads-or-breaks, breaks-as, never-both, fault-proofs, lengths-own, own-lengths}
 
 -- ---- samples
 
@@ -76,11 +76,11 @@ module _ (d : ℕ) (root table b : List ℕ) where
   tbl = equationsOf table
 
   -- the tests from 8 and from 7 on
-  abbrev from8 : Answered
-  from8 = test 8 (unless ((h : Named d tbl b) × (Fits root h → ⊥))) done
+  abbrev last : Answered
+  last = from8 d root table b
 
-  abbrev from7 : Answered
-  from7 = test 7 (two (λ l p. (h : Named d tbl b) × ProofBreaks root h l p)) from8
+  abbrev hashes : Answered
+  hashes = from7 d root table b
 
   -- the length that the head demands
   abbrev demanded : ℕ
@@ -108,59 +108,50 @@ module _ (d : ℕ) (root table b : List ℕ) where
 
   -- ---- an answer that comes from 7 on
 
-  record Passed (n : ℕ) (v : ℕ × ℕ) : Type 0 where
-    depth-right : DepthRight d
-    lengths-right : ProofLengths root table b
-    table-right : TableRight d (wordsOf table)
-    table-covered : AllInTwo d tbl
-    named : Named d tbl b
-    long : length b ≡ demanded
-    rest : from7 n v
-
-  -- whichever reading of the head
-  as-named : {n : ℕ} {v : ℕ × ℕ} → Passed n v → (P : Named d tbl b → Type 0) → (h : Named d tbl b) → P h → (r : ProofReady d root table b) × P (r .named)
-  as-named x P h y = (
+  -- by whichever reading of the head
+  as-named : ProofReady d root table b → (P : Named d tbl b → Type 0) → (h : Named d tbl b) → P h → (r : ProofReady d root table b) × P (r .named)
+  as-named r P h y = (
     record {
-      depth-right = x .depth-right;
-      lengths-right = x .lengths-right;
-      table-right = x .table-right;
-      table-covered = x .table-covered;
+      depth-right = r .depth-right;
+      lengths-right = r .lengths-right;
+      table-right = r .table-right;
+      table-covered = r .table-covered;
       named = h;
-      exact = exact-of (x .depth-right) (x .table-right) h (x .long);
+      exact = exact-of (r .depth-right) (r .table-right) h (of-exact (r .depth-right) (r .table-right) (r .named) (r .exact));
     },
     y,
   )
 
   -- the number is none of the tests' before 7
   module _ {n : ℕ} {v : ℕ × ℕ} (late : (k : ℕ) → 1 ≤ k → k ≤ 6 → k ≡ n → ⊥) (other : 10 ≡ n → ⊥) where
-    into : proofTests d root table b n v → Passed n v
+    into : proofTests d root table b n v → ProofReady d root table b × hashes n v
     into t =
         let ((dr, lr), t₃) = front .into (late 1 (omega arith) (omega arith)) (late 2 (omega arith) (omega arith)) t in
         let (w, c, t₆) = past-words d (wordsOf table) (depth-fits d dr) (late 3 (omega arith) (omega arith)) other t₃ in
         let (h, t₂) = past (late 6 (omega arith) (omega arith)) (named-stable dr w) t₆ in
         let ((z, e), t₇) = past (late 2 (omega arith) (omega arith)) (exact-stable dr w h) t₂ in
-        record { depth-right = dr; lengths-right = lr; table-right = w; table-covered = c; named = z; long = of-exact dr w z e; rest = t₇ }
+        (record { depth-right = dr; lengths-right = lr; table-right = w; table-covered = c; named = z; exact = e }, t₇)
 
-    back : (r : ProofReady d root table b) → from7 n v → proofTests d root table b n v
+    back : (r : ProofReady d root table b) → hashes n v → proofTests d root table b n v
     back r t =
         front .back (late 1 (omega arith) (omega arith)) (late 2 (omega arith) (omega arith)) (r .depth-right, r .lengths-right)
         (past-words-so d (wordsOf table) (depth-fits d (r .depth-right)) (r .table-right) (r .table-covered)
         (past-so (late 6 (omega arith) (omega arith)) (r .named) (past-so (late 2 (omega arith) (omega arith)) (r .named, r .exact) t)))
 
   -- 7, and what comes after it
-  found-7 : {l p : ℕ} → from7 7 (l, p) → (h : Named d tbl b) × ProofBreaks root h l p
+  found-7 : {l p : ℕ} → hashes 7 (l, p) → (h : Named d tbl b) × ProofBreaks root h l p
   found-7 (fails e x) = x .are
   found-7 {l} {p} (holds x y) = absurd (never (λ e. omega arith) (done-never (λ e. omega arith)) (l, p) y)
 
-  later-7 : {n : ℕ} {v : ℕ × ℕ} → (7 ≡ n → ⊥) → from7 n v → (l p : ℕ) (h : Named d tbl b) → ProofBreaks root h l p → ⊥
+  later-7 : {n : ℕ} {v : ℕ × ℕ} → (7 ≡ n → ⊥) → hashes n v → (l p : ℕ) (h : Named d tbl b) → ProofBreaks root h l p → ⊥
   later-7 o (fails e x) l p h k = o (sym e)
   later-7 o (holds x y) l p h k = x (l, p) (record { are = (h, k) })
 
-  from-8 : {n : ℕ} {v : ℕ × ℕ} → from8 n v → (n ≡ 0) ⊎ (n ≡ 8)
+  from-8 : {n : ℕ} {v : ℕ × ℕ} → last n v → (n ≡ 0) ⊎ (n ≡ 8)
   from-8 (fails e x) = inr e
   from-8 (holds x (e, y)) = inl e
 
-  from-7 : {n : ℕ} {v : ℕ × ℕ} → ((l p : ℕ) (h : Named d tbl b) → ProofBreaks root h l p → ⊥) → from7 n v → (n ≡ 0) ⊎ (n ≡ 8)
+  from-7 : {n : ℕ} {v : ℕ × ℕ} → ((l p : ℕ) (h : Named d tbl b) → ProofBreaks root h l p → ⊥) → hashes n v → (n ≡ 0) ⊎ (n ≡ 8)
   from-7 none (fails e x) = let (h, k) = x .are in absurd (none _ _ h k)
   from-7 none (holds x y) = from-8 y
 
@@ -174,16 +165,15 @@ module _ (d : ℕ) (root table b : List ℕ) where
 
   stops : (l p : ℕ) → Answers answer 7 (l, p) ↔ ((r : ProofReady d root table b) × ProofBreaks root (r .named) l p)
   stops l p = (
-    λ e. let x = into (λ k a c e. omega arith) (λ e. omega arith) (tested 7 (l, p) .0 e) in let (h, k) = found-7 (x .rest) in as-named x (λ z. ProofBreaks root z l p) h k,
+    λ e. let (r, t) = into (λ k a c e. omega arith) (λ e. omega arith) (tested 7 (l, p) .0 e) in let (h, k) = found-7 t in as-named r (λ z. ProofBreaks root z l p) h k,
     λ (r, k). tested 7 (l, p) .1 (back (λ k a c e. omega arith) (λ e. omega arith) r (fails refl (record { are = (r .named, k) }))),
   )
 
   -- an answer that comes after 7, and what comes where every way leads
-  later-leads : {n : ℕ} {v : ℕ × ℕ} → (7 ≡ n → ⊥) → Passed n v → (r : ProofReady d root table b) × AllLead root (r .named)
-  later-leads o x =
-      as-named x (AllLead root) (x .named)
-      (⊎-elim (λ a. a) (λ (l, p, k). absurd (later-7 o (x .rest) l p (x .named) k))
-      (leads-or-breaks d tbl b (x .depth-right .1) (rules (x .depth-right) (x .table-right)) (x .named) root))
+  later-leads : {n : ℕ} {v : ℕ × ℕ} → (7 ≡ n → ⊥) → (r : ProofReady d root table b) → hashes n v → AllLead root (r .named)
+  later-leads o r t =
+      ⊎-elim (λ a. a) (λ (l, p, k). absurd (later-7 o t l p (r .named) k))
+      (leads-or-breaks d tbl b (r .depth-right .1) (rules (r .depth-right) (r .table-right)) (r .named) root)
 
   leads-then : (r : ProofReady d root table b) → AllLead root (r .named) → (numberOf answer ≡ 0) ⊎ (numberOf answer ≡ 8)
   leads-then r a =
@@ -192,11 +182,14 @@ module _ (d : ℕ) (root table b : List ℕ) where
       from-7 (λ l p h k. never-both d tbl b (r .depth-right .1) (rules (r .depth-right) (r .table-right)) (r .named) h root l p a k)
       (left (r .named, r .exact) (left (r .named) t₆))
 
+  after-7 : ((k : ℕ) → 1 ≤ k → k ≤ 6 → k ≡ numberOf answer → ⊥) → (10 ≡ numberOf answer → ⊥) → (7 ≡ numberOf answer → ⊥)
+      → (r : ProofReady d root table b) × AllLead root (r .named)
+  after-7 late other o = let (r, t) = into late other (tested (numberOf answer) (valuesOf answer) .0 (refl, refl)) in (r, later-leads o r t)
+
   leads : ((numberOf answer ≡ 0) ⊎ (numberOf answer ≡ 8)) ↔ ((r : ProofReady d root table b) × AllLead root (r .named))
   leads = (
-    ⊎-elim
-        (λ e. later-leads (λ f. omega arith) (into {v = valuesOf answer} (λ k a c f. omega arith) (λ f. omega arith) (tested (numberOf answer) (valuesOf answer) .0 (refl, refl))))
-        (λ e. later-leads (λ f. omega arith) (into {v = valuesOf answer} (λ k a c f. omega arith) (λ f. omega arith) (tested (numberOf answer) (valuesOf answer) .0 (refl, refl)))),
+    ⊎-elim (λ e. after-7 (λ k a c f. omega arith) (λ f. omega arith) (λ f. omega arith))
+        (λ e. after-7 (λ k a c f. omega arith) (λ f. omega arith) (λ f. omega arith)),
     λ (r, a). leads-then r a,
   )
 

@@ -201,10 +201,10 @@ module _ (depth : ℕ) (root table b : List ℕ) where
   tbl = equationsOf table
 
   -- the tests, from each of them on
-  abbrev from8 : Answered
+  abbrev pub from8 : Answered
   from8 = test 8 (unless ((h : Named depth tbl b) × (Fits root h → ⊥))) done
 
-  abbrev from7 : Answered
+  abbrev pub from7 : Answered
   from7 = test 7 (two (λ l p. (h : Named depth tbl b) × ProofBreaks root h l p)) from8
 
   abbrev from2 : Answered
