@@ -30,7 +30,8 @@ pub enum Stop {
     Number,
     // a proof's head: wrong kind, layer, equation, or no member
     Head,
-    // a hash doesn't lead to the root: the first such layer, going up; of a proof also the position of the first such member, of a sample 0
+    // a hash doesn't lead to the root: the first such layer, going up from the base symbol of a sample, or from the first such member of
+    // a proof, whose position comes second; of a sample that is 0
     Hash { layer: usize, position: usize },
     // a proof whose withheld hash fits: no fault shown
     NoFault,

@@ -23,14 +23,14 @@ use Rattle.calls.specs.Lengths.{rootSized, sampleSized}
 use Rattle.sample_calls.specs.Checking.{checkSized}
 use Rattle.fault_calls.specs.Checking.{proofSized, proofChecked}
 use Rattle.guarantees.specs.Layouts.{allSymbols}
-use Rattle.guarantees.specs.Answers.{Answered, done, test, fails, holds, unless, one}
+use Rattle.guarantees.specs.Answers.{Answered, Answers, done, test, fails, holds, unless, one}
 use Rattle.guarantees.specs.Tables.{TableRight}
 use Rattle.guarantees.specs.Refusals.{DepthRight, RootLength, SampleLength, InBase, SampleBreaks, sampleTests}
-use Rattle.guarantees.specs.FaultProofs.{givenSymbol, withheldSymbol, Named, given, Exact, AllLead, ProofBreaks, ProofLengths, proofTests}
+use Rattle.guarantees.specs.FaultProofs.{givenSymbol, withheldSymbol, Named, given, Exact, AllLead, ProofBreaks, ProofLengths, ProofReady, proofTests}
 use Rattle.guarantees.specs.Trees.{AgreesWith}
+use Rattle.guarantees.specs.Demand2.{SampleReady}
 use Rattle.guarantees.specs.Terms.{equationsOf}
-use Rattle.guarantees.specs.Change1.{Answers}
-use Rattle.guarantees.specs.Change4.{SampleReady, ProofReady, WayHasThere, Change4}
+use Rattle.guarantees.specs.Change4.{WayHasThere, Change4}
 use Rattle.guarantees.proofs.Answers.{never, done-never, past, past-so, left}
 use Rattle.guarantees.proofs.Tables.{right-formed}
 use Rattle.guarantees.proofs.ProofHeads.{named-fitting, length-named, named-ok, ok-named}

@@ -311,21 +311,23 @@ sample-right depth i root s e =
     let (q, l) = then-done (checkTested depth i (length root) (length s)) last e in
     let (k, b) = check-passed depth i (length root) (length s) q in
     record {
-      depth-right = (k .some, k .shallow);
-      root-length = check-sizes depth (length root) (length s) (k .lengths) .0;
-      sample-length = check-sizes depth (length root) (length s) (k .lengths) .1;
-      in-base = b .2;
+      ready = record {
+        depth-right = (k .some, k .shallow);
+        root-length = check-sizes depth (length root) (length s) (k .lengths) .0;
+        sample-length = check-sizes depth (length root) (length s) (k .lengths) .1;
+        in-base = b .2;
+      };
       all-lead = leads-so depth i root s (accepted-leads tree (symbolHash Plain) root depth i (k .some) s (done-led (sampleCheck tree (symbolHash Plain) root depth i s) l));
     }
 
 sample-leads : (depth i : ℕ) (root s : List ℕ) → SampleRight depth i root s → sampleCheck tree (symbolHash Plain) root depth i s ≡ leads
-sample-leads depth i root s r = leads-accepted tree (symbolHash Plain) root depth i (r .depth-right .0) s (so-leads depth i root s (r .all-lead))
+sample-leads depth i root s r = leads-accepted tree (symbolHash Plain) root depth i (r .ready .depth-right .0) s (so-leads depth i root s (r .all-lead))
 
 right-sample : (depth i : ℕ) (root s : List ℕ) → SampleRight depth i root s → sampleChecked depth i root s ≡ Done
 unfolding kOf nOf
 right-sample depth i root s r =
-    sym (at-end depth i root s (depth-fits depth (r .depth-right))
-    (yes-and (eq-eqb (length root) 512 (r .root-length)) (eq-eqb (length s) (256 * sampleSize depth) (r .sample-length))) (r .in-base))
+    sym (at-end depth i root s (depth-fits depth (r .ready .depth-right))
+    (yes-and (eq-eqb (length root) 512 (r .ready .root-length)) (eq-eqb (length s) (256 * sampleSize depth) (r .ready .sample-length))) (r .ready .in-base))
     ∙ ap led (sample-leads depth i root s r)
 
 -- a sample that was taken is of a symbol of the base of a tree of its lengths, at a depth that fits
@@ -398,7 +400,8 @@ accepts-taken depth i root t m s tbl r a e =
 accepted-is-true : AcceptedIsTrue
 unfolding kOf nOf symbolIn bytesFrom
 accepted-is-true depth i root s tbl r e f a =
-    let k = sample-right depth i root s e in
+    let z = sample-right depth i root s e in
+    let k = z .ready in
     let keeps = rules-ok depth tbl r in
     let base : BaseSymbol depth i = (k .depth-right .0, k .depth-right .1, k .in-base) in
     ⊎-elim (λ same. inl (λ x h. same x h ∙ sym (sampled-symbol depth i x f)))
@@ -416,7 +419,7 @@ accepted-is-true depth i root s tbl r e f a =
           (a .correctly-coded .sized l n (there .0) (there .1)) (x .collide));
     }))
     (accepted-good depth i root tbl keeps f (with-agrees depth tbl keeps root f a) (depth-fits depth (k .depth-right)) (k .in-base) s
-    (sample-leads depth i root s k))
+    (sample-leads depth i root s z))
 
 -- ---- the demand
 

@@ -66,7 +66,7 @@ checker depth root table f agr b e =
     let ok = rules depth table (p .admits .taken) in
     let x = checker-sound depth root table b e f (with-agrees depth tbl ok root f agr) in
     let y = x .collision in
-    let n = fault-proofs .accepts-just-when depth root table b .0 e .named in
+    let n = fault-proofs .accepts-just-when depth root table b .0 e .ready .named in
     let shallow = accepted-depth depth (wordsOf table) (p .admits .taken .accepted) .1 in
     let hj : y .layer < depth = omega (arith, y .inside .0, ok .depth) in
     record {

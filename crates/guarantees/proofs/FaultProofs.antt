@@ -28,7 +28,7 @@ use Rattle.model.specs.Climb.{Ways, allLead, breakAt}
 use Rattle.model.specs.Fault.{proofLayer, proofMembers, proofLength, body, givenXor, afterGiven, headOk, Verdict, accepted, noFault, ruling, waysCheck, pathHash, proofCheck, withheldFits, verdict, InGiven, InPath, ProofHolds}
 use Rattle.model.proofs.Bytes.{same-yes, yes-same}
 use Rattle.model.proofs.Ways.{after-at}
-use Rattle.model.proofs.ProofWays.{BreakAt, WaysSay, ways-say, ways-are}
+use Rattle.model.proofs.ProofWays.{FirstBreaks, WaysSay, ways-say, ways-are}
 use Rattle.calls.specs.declared.Stop.{Stop}
 use Rattle.calls.specs.declared.Stop.the-variants.{Length, Head, NoFault}
 use Rattle.calls.specs.declared.Answer.{Answer}
@@ -125,7 +125,7 @@ module _ (depth : ℕ) (tbl : List (List (List ℕ))) (b : List ℕ) (shallow : 
     break-named l p e =
         let (q, at, t) = say-named (breakAt l p) e in
         let is : q ≡ p = omega arith in
-        let s = subst (BreakAt tree (symbolHash Plain) root b j (h .withheld) (given h) 12 l) is t in
+        let s = subst (FirstBreaks tree (symbolHash Plain) root b j (h .withheld) (given h) 12 l) is t in
         record {
           lead-before = λ r k. way-leads root b j r (getD (given h) r 0) (s .before r k);
           breaks =
@@ -247,7 +247,11 @@ module _ (depth : ℕ) (root table b : List ℕ) where
           pass Done 8 _ done (h, n)
           (record {
             just = all-done;
-            only = λ e. record { depth-right = dr; lengths-right = lr; table-right = formed-right depth ws f; table-covered = covers; named = h; exact = exact-of h; all-lead = a; differs = n };
+            only = λ e. record {
+              ready = record { depth-right = dr; lengths-right = lr; table-right = formed-right depth ws f; table-covered = covers; named = h; exact = exact-of h };
+              all-lead = a;
+              differs = n;
+            };
           }))
 
       at-7 : (w : Ways) → proofCheck tree (symbolHash Plain) root tbl b ≡ w → Judged from7 (ruling w (withheldFits tree (symbolHash Plain) root tbl b))
@@ -311,14 +315,15 @@ module _ (depth : ℕ) (root table b : List ℕ) where
   -- a right proof is accepted
   right-done : ProofRight depth root table b → proofChecked depth root table b ≡ Done
   unfolding verdict ruling
-  right-done r =
+  right-done x =
+      let r = x .ready in
       let t : depthFits depth ≡ true = depth-fits depth (r .depth-right) in
       let lr = r .lengths-right in
       let whole : readOf depth ws ≡ Whole = formed-accepted depth ws t (right-formed depth ws (r .table-right)) in
       let o : TableOk depth tbl = formed-rules depth ws (right-formed depth ws (r .table-right)) (r .depth-right .1) in
       let h = r .named in
       let unfit : withheldFits tree (symbolHash Plain) root tbl b ≡ false =
-      by-test (withheldFits tree (symbolHash Plain) root tbl b) (λ u. absurd (r .differs (fits-named depth tbl b (r .depth-right .1) o h root (r .exact) u))) (λ u. u) in
+      by-test (withheldFits tree (symbolHash Plain) root tbl b) (λ u. absurd (x .differs (fits-named depth tbl b (r .depth-right .1) o h root (r .exact) u))) (λ u. u) in
       let k : TableTaken depth table = record {
         deep = t;
         length-fits = long-table table (lr .table-length);
@@ -329,7 +334,7 @@ module _ (depth : ℕ) (root table b : List ℕ) where
       ∙ ap judged
       (pick-no _ _ _ (ap not (named-ok depth tbl b (r .depth-right .1) o h))
       ∙ pick-no _ _ _ (ap not (eq-eqb (length b) _ (r .exact ∙ sym (length-named depth tbl b (r .depth-right .1) o h))))
-      ∙ ap₂ ruling (named-lead depth tbl b (r .depth-right .1) o h root (r .all-lead)) unfit
+      ∙ ap₂ ruling (named-lead depth tbl b (r .depth-right .1) o h root (x .all-lead)) unfit
       ∙ pick-no false _ _ refl)
 
 accepts-just-when : AcceptsProofJustWhen

@@ -12,7 +12,7 @@ use Rattle.model.proofs.Shapes.{tree-ok}
 use Rattle.model.proofs.Samples.{places-are}
 use Rattle.guarantees.specs.Layouts.{bytesFrom, symbolNo, allSymbols, spread, hashFor, sampledLayer, sampledNumber, upFrom}
 use Rattle.guarantees.specs.Trees.{AgreesWith}
-use Rattle.guarantees.specs.Refusals.{InBase, HashLeads}
+use Rattle.guarantees.specs.Refusals.{InBase, SampleFits}
 use Rattle.guarantees.specs.Change4.{SampleHasThere, WayHasThere}
 use Rattle.guarantees.proofs.Layouts.{spread-is}
 use Rattle.guarantees.proofs.Refusals.{sampled-layer, sampled-number}
@@ -45,7 +45,7 @@ module _ (d : ℕ) (tbl : List (List (List ℕ))) (root : List ℕ) (f : ℕ →
   -- ---- a symbol of a sample
 
   module _ (i : ℕ) (s : List ℕ) (some : 1 ≤ d) (base : InBase d i) (x : ℕ) (h : x < 2 * d - 1) where
-    pub sample-fits : SampleHasThere d i s f x → HashLeads d i root s x
+    pub sample-fits : SampleHasThere d i s f x → SampleFits d i root s x
     unfolding dataNo kOf nOf
     sample-fits t =
         let l : ℕ = sampledLayer d x in

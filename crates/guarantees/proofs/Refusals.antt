@@ -39,7 +39,7 @@ use Rattle.model.specs.Sampling.{sampleSize, sampleLayer, dataNo, parityNo, sam
 use Rattle.model.specs.SampleCheck.{sampleData, sampleParity, sampleHas, sampleCheck, SampleLeads}
 use Rattle.model.proofs.Counts.{lowest-is}
 use Rattle.model.proofs.Shapes.{place-lt}
-use Rattle.model.proofs.Samples.{Fit, all-fit, SampleBreaks as BrokenSample, sample-breaks}
+use Rattle.model.proofs.Samples.{Fit, all-fit, BrokenSample, sample-breaks}
 use Rattle.symbol_hash.specs.SymbolHash.{symbolHash}
 use Rattle.symbol_hash.specs.declared.Kind.the-variants.{Plain}
 use Rattle.sampling.specs.declared.Found.the-variants.{At, Nothing}
@@ -67,7 +67,7 @@ use Rattle.guarantees.specs.Layouts.{bytesFrom, dataSymbols, treeSymbols
 use Rattle.guarantees.specs.Tables.{TableRight, FirstWrongWord, AllInTwo, FirstNotInTwo}
 use Rattle.guarantees.specs.Answers.{done, test, unless, one, two, Just}
 use Rattle.guarantees.specs.Terms.{equationsOf}
-use Rattle.guarantees.specs.Refusals.{LowestOf, DepthRight, TableLength, TreeLengths, BlockLength, RootLength, SampleLength, BadMark, AbsentSampled, InBase, dataOfSample, AllHashesLead, HashLeads, SampleBreaks, hashTests, takesWords, takesTable, wordsTests, tableTests, houseTests, WriterLengths, writerTests, blockTests, samplerTests, sampleTests, RepairLengths, repairTests, Refusals}
+use Rattle.guarantees.specs.Refusals.{LowestOf, DepthRight, TableLength, TreeLengths, BlockLength, RootLength, SampleLength, BadMark, AbsentSampled, InBase, dataOfSample, AllHashesLead, SampleFits, SampleBreaks, hashTests, takesWords, takesTable, wordsTests, tableTests, houseTests, WriterLengths, writerTests, blockTests, samplerTests, sampleTests, RepairLengths, repairTests, Refusals}
 use Rattle.guarantees.proofs.Answers.{all-done, stops-unless, stops-one, stops-two, passes-unless, passes-one, passes-two}
 use Rattle.guarantees.proofs.Layouts.{tree-symbols, mark-at, hash-for}
 use Rattle.guarantees.proofs.Marks.{all-right}
@@ -458,11 +458,11 @@ module _ (d i : ℕ) (root s : List ℕ) where
         sym (hash-for root (dataOfSample d i root s) (sampleLayer d x) (sampleNumber tree d i x))
         ∙ sym (ap₂ (hashFor root (dataOfSample d i root s)) (sampled-layer d x) (sampled-number d i x))
 
-    hash-said : fit → HashLeads d i root s x
+    hash-said : fit → SampleFits d i root s x
     unfolding symbolIn bytesFrom symbolHash
     hash-said e = e ∙ hash-is
 
-    hash-seen : HashLeads d i root s x → fit
+    hash-seen : SampleFits d i root s x → fit
     unfolding symbolIn bytesFrom symbolHash
     hash-seen e = e ∙ sym hash-is
 

@@ -9,6 +9,10 @@ use Rattle.calls.specs.Stops.{numberOf, valuesOf}
 abbrev pub Answered : Type 1
 Answered = ℕ → ℕ × ℕ → Type 0
 
+-- a call answers with this number and these values
+abbrev pub Answers : Answer → Answered
+Answers a n v = (numberOf a ≡ n) × (valuesOf a ≡ v)
+
 -- no test fails: done, or accepted
 abbrev pub done : Answered
 done n v = (n ≡ 0) × (v ≡ (0, 0))

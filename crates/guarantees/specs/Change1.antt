@@ -13,19 +13,15 @@ use Rattle.parity_table.specs.Parse.{tableOf}
 use Rattle.house_table.specs.House.{houseTable, houseWords}
 use Rattle.calls.specs.declared.Answer.{Answer}
 use Rattle.calls.specs.declared.Answer.the-variants.{Done}
-use Rattle.calls.specs.Stops.{numberOf, valuesOf}
 use Rattle.calls.specs.Tests.{wordsTested, admitted}
 use Rattle.volume_calls.specs.Writing.{treeWritten}
 use Rattle.fault_calls.specs.Checking.{proofChecked}
 use Rattle.fault_calls.specs.Repairing.{repairTested}
+use Rattle.guarantees.specs.Answers.{Answers}
 use Rattle.guarantees.specs.Tables.{TableRight, FirstWrongWord, AllInTwo, FirstNotInTwo}
 use Rattle.guarantees.specs.Refusals.{DepthRight, TableLength, WriterLengths, RepairLengths}
 use Rattle.guarantees.specs.FaultProofs.{ProofLengths}
 use Rattle.guarantees.specs.Terms.{equationsOf}
-
--- a call answers with this number and these values
-abbrev pub Answers : Answer → ℕ → ℕ × ℕ → Type 0
-Answers a n v = (numberOf a ≡ n) × (valuesOf a ≡ v)
 
 -- ---- a call that gives the answer a, at depth d, lent the words ws of a table; `before` is what the tests before 3 ask
 

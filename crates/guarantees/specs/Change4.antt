@@ -6,33 +6,16 @@ use mathlib.Core.Logic.{_⊎_, _↔_}
 use mathlib.Core.List.{List}
 use Prim.Native.Nat.{ℕ, suc, _-_, _*_, _%_, _<_}
 use lib.ListN.{length, getD}
-use Rattle.table_bytes.specs.Bytes.{wordsOf}
 use Rattle.calls.specs.Stops.{numberOf}
 use Rattle.sample_calls.specs.Checking.{sampleChecked}
 use Rattle.fault_calls.specs.Checking.{proofChecked}
 use Rattle.guarantees.specs.Layouts.{symbolNo, dataSymbols, sampledLayer, sampledNumber, upFrom}
-use Rattle.guarantees.specs.Tables.{TableRight, AllInTwo}
 use Rattle.guarantees.specs.Trees.{AgreesWith}
-use Rattle.guarantees.specs.Refusals.{DepthRight, RootLength, SampleLength, InBase, SampleBreaks}
-use Rattle.guarantees.specs.FaultProofs.{givenSymbol, withheldSymbol, Named, given, Exact, AllLead, ProofBreaks, ProofLengths}
+use Rattle.guarantees.specs.Refusals.{SampleBreaks}
+use Rattle.guarantees.specs.FaultProofs.{givenSymbol, withheldSymbol, Named, given, AllLead, ProofBreaks, ProofReady}
+use Rattle.guarantees.specs.Demand2.{SampleReady}
 use Rattle.guarantees.specs.Terms.{equationsOf}
-use Rattle.guarantees.specs.Change1.{Answers}
-
--- what is tested of a sample before 7
-pub record SampleReady (d i : ℕ) (root s : List ℕ) : Type 0 where
-  pub depth-right : DepthRight d
-  pub root-length : RootLength root
-  pub sample-length : SampleLength d s
-  pub in-base : InBase d i
-
--- and of a proof
-pub record ProofReady (d : ℕ) (root table b : List ℕ) : Type 0 where
-  pub depth-right : DepthRight d
-  pub lengths-right : ProofLengths root table b
-  pub table-right : TableRight d (wordsOf table)
-  pub table-covered : AllInTwo d (equationsOf table)
-  pub named : Named d (equationsOf table) b
-  pub exact : Exact named
+use Rattle.guarantees.specs.Answers.{Answers}
 
 -- ---- a tree's symbols, f, where a path breaks at layer l: the symbol that breaks, and the one above it, which has its hash. At layer 0 the root has it.
 

@@ -110,12 +110,16 @@ ReadsOriginal =
 
 -- ---- "and a sample is accepted just when its hashes lead to the root"
 
--- root and sample have their lengths, the base has the symbol, and every hash in the sample leads to the root
-pub record SampleRight (depth i : ℕ) (root s : List ℕ) : Type 0 where
+-- root and sample have their lengths, and the base has the symbol: what is tested before the hashes
+pub record SampleReady (depth i : ℕ) (root s : List ℕ) : Type 0 where
   pub depth-right : DepthRight depth
   pub root-length : RootLength root
   pub sample-length : SampleLength depth s
   pub in-base : InBase depth i
+
+-- and every hash in the sample leads to the root
+pub record SampleRight (depth i : ℕ) (root s : List ℕ) : Type 0 where
+  pub ready : SampleReady depth i root s
   pub all-lead : AllHashesLead depth i root s
 
 abbrev pub AcceptsJustWhen : Type 0

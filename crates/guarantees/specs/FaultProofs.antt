@@ -78,12 +78,12 @@ module _ {depth : ℕ} {tbl : List (List (List ℕ))} {b : List ℕ} (root : Lis
   abbrev pub path : ℕ → ℕ → List ℕ
   path l m = withheldSymbol b (h .layer) (length (given h)) (h .layer - l)
 
-  abbrev pub WithheldFits : ℕ → Type 0
-  WithheldFits u =
+  abbrev pub PathFits : ℕ → Type 0
+  PathFits u =
       sha256 (withheldSymbol b (h .layer) (length (given h)) u) ≡ hashFor root path (h .layer - u) (upFrom (h .layer) (h .withheld) u)
 
   abbrev pub WithheldLeads : Type 0
-  WithheldLeads = (u : ℕ) → 1 ≤ u → u ≤ h .layer → WithheldFits u
+  WithheldLeads = (u : ℕ) → 1 ≤ u → u ≤ h .layer → PathFits u
 
   pub record AllLead : Type 0 where
     pub given-lead : (p : ℕ) → p < length (given h) → GivenLeads p
@@ -95,7 +95,7 @@ module _ {depth : ℕ} {tbl : List (List (List ℕ))} {b : List ℕ} (root : Lis
     pub lead-before : (q : ℕ) → q < p → GivenLeads q
     pub breaks :
         ((p < length (given h)) × BreaksAt (λ i. GivenFits p (h .layer - i)) (h .layer) l)
-        ⊎ ((p ≡ length (given h)) × (1 ≤ h .layer) × BreaksAt (λ i. WithheldFits (h .layer - i)) (h .layer - 1) l)
+        ⊎ ((p ≡ length (given h)) × (1 ≤ h .layer) × BreaksAt (λ i. PathFits (h .layer - i)) (h .layer - 1) l)
 
   -- "the hash of the exclusive-or of the given members" is "the hash committed for the withheld one"
   abbrev pub Fits : Type 0
@@ -110,17 +110,21 @@ pub record ProofLengths (root table b : List ℕ) : Type 0 where
   pub table-length : TableLength table
   pub head-there : 12 ≤ length b
 
--- "It is accepted when every hash leads to the root and the hash of the exclusive-or of the given members differs from the hash committed for
--- the withheld one."
-pub record ProofRight (depth : ℕ) (root table b : List ℕ) : Type 0 where
+-- what is tested before the hashes
+pub record ProofReady (depth : ℕ) (root table b : List ℕ) : Type 0 where
   pub depth-right : DepthRight depth
   pub lengths-right : ProofLengths root table b
   pub table-right : TableRight depth (wordsOf table)
   pub table-covered : AllInTwo depth (equationsOf table)
   pub named : Named depth (equationsOf table) b
   pub exact : Exact named
-  pub all-lead : AllLead root named
-  pub differs : Fits root named → ⊥
+
+-- "It is accepted when every hash leads to the root and the hash of the exclusive-or of the given members differs from the hash committed for
+-- the withheld one."
+pub record ProofRight (depth : ℕ) (root table b : List ℕ) : Type 0 where
+  pub ready : ProofReady depth root table b
+  pub all-lead : AllLead root (ready .named)
+  pub differs : Fits root (ready .named) → ⊥
 
 abbrev pub AcceptsProofJustWhen : Type 0
 AcceptsProofJustWhen = (depth : ℕ) (root table b : List ℕ) → (proofChecked depth root table b ≡ Done) ↔ ProofRight depth root table b

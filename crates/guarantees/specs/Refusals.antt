@@ -80,8 +80,8 @@ AbsentData d m = LowestOf (λ i. markAt m (d - 1) i ≡ 0) (dataSymbols (d - 1))
 abbrev pub AbsentSampled : ℕ → ℕ → List ℕ → ℕ → Type 0
 AbsentSampled d i m = LowestOf (λ x. markAt m (sampledLayer d x) (sampledNumber d i x) ≡ 0) (2 * d - 1)
 
--- 7, of a sample: "Every hash in it is checked: both symbols of a layer against the next data symbol up, the top ones against the root." Layer j's data
--- symbol is number 2(D−1−j)−1 of the sample, its parity symbol the one after it.
+-- A sample: "Every hash in it is checked: both symbols of a layer against the next data symbol up, the top ones against the root." Layer j's data symbol is
+-- number 2(D−1−j)−1 of the sample, its parity symbol the one after it.
 module _ (d i : ℕ) (root s : List ℕ) where
   abbrev pub dataOfSample : ℕ → ℕ → List ℕ
   dataOfSample j m = symbolNo s (2 * (d - 1 - j) - 1)
@@ -93,17 +93,17 @@ module _ (d i : ℕ) (root s : List ℕ) where
         → sha256 (symbolNo s (2 * (d - 1 - j))) ≡ hashFor root dataOfSample j (dataSymbols j + i % (3 * dataSymbols j))
 
   -- symbol number x of the sample has the hash that the next data symbol up, or the root, has for it
-  abbrev pub HashLeads : ℕ → Type 0
-  HashLeads x = sha256 (symbolNo s x) ≡ hashFor root dataOfSample (sampledLayer d x) (sampledNumber d i x)
+  abbrev pub SampleFits : ℕ → Type 0
+  SampleFits x = sha256 (symbolNo s x) ≡ hashFor root dataOfSample (sampledLayer d x) (sampledNumber d i x)
 
   -- 7, with "the first layer, going up from the given symbol, whose hash isn't the committed one; in a sample either symbol of a layer counts" (02, CR 4):
-  -- a symbol of layer l has another hash, and every symbol of a layer nearer the base has that one
+  -- a symbol of layer l has another hash, and every symbol of a layer nearer the base has the committed one
   pub record SampleBreaks (l : ℕ) : Type 0 where
     pub index : ℕ
     pub inside : index < 2 * d - 1
     pub at-layer : sampledLayer d index ≡ l
-    pub breaks : HashLeads index → ⊥
-    pub lead-below : (x : ℕ) → x < 2 * d - 1 → l < sampledLayer d x → HashLeads x
+    pub breaks : SampleFits index → ⊥
+    pub lead-below : (x : ℕ) → x < 2 * d - 1 → l < sampledLayer d x → SampleFits x
 
 -- ---- the calls
 

@@ -26,19 +26,19 @@ module _ (S : Shape) (H : ℕ → ℕ → List ℕ → List ℕ) (root b : List 
   abbrev pub lastWay : List ℕ → ℕ → Climb
   lastWay ys from = pathCheck S H root j x (drop (from + 256 * (length ys * suc j)) b)
 
-  pub record AllLead (ys : List ℕ) (from : ℕ) : Type 0 where
+  pub record EachLeads (ys : List ℕ) (from : ℕ) : Type 0 where
     pub given : (q : ℕ) → q < length ys → givenWay ys from q ≡ leads
     pub path : lastWay ys from ≡ leads
 
   -- the way at position q breaks at layer l, the withheld one counting last, and those before it lead
-  pub record BreakAt (ys : List ℕ) (from l q : ℕ) : Type 0 where
+  pub record FirstBreaks (ys : List ℕ) (from l q : ℕ) : Type 0 where
     pub before : (r : ℕ) → r < q → givenWay ys from r ≡ leads
     pub here : ((q < length ys) × (givenWay ys from q ≡ breaks l)) ⊎ ((q ≡ length ys) × (lastWay ys from ≡ breaks l))
 
   -- what an answer says, positions counting from n
   abbrev pub WaysSay : List ℕ → ℕ → ℕ → Ways → Type 0
-  WaysSay ys from n allLead = AllLead ys from
-  WaysSay ys from n (breakAt l p) = (q : ℕ) × (p ≡ n + q) × BreakAt ys from l q
+  WaysSay ys from n allLead = EachLeads ys from
+  WaysSay ys from n (breakAt l p) = (q : ℕ) × (p ≡ n + q) × FirstBreaks ys from l q
 
   -- the way of member q+1 is that of member q of those after the first
   way-later : (y : ℕ) (ys : List ℕ) (from q : ℕ) → givenWay ys (from + 256 * (j + 1)) q ≡ givenWay (y ∷ ys) from (suc q)
@@ -113,17 +113,17 @@ module _ (S : Shape) (H : ℕ → ℕ → List ℕ → List ℕ) (root b : List 
   -- ---- no other answer says so
 
   module _ (ys : List ℕ) (from : ℕ) where
-    none-breaks : (l q : ℕ) → AllLead ys from → BreakAt ys from l q → ⊥
+    none-breaks : (l q : ℕ) → EachLeads ys from → FirstBreaks ys from l q → ⊥
     none-breaks l q a s =
         ⊎-elim (λ (h, k). let e = a .given q h in let z : _≡_ {A = ℕ} 0 1 = cc in omega arith) (λ (h, k). let e = a .path in let z : _≡_ {A = ℕ} 0 1 = cc in omega arith)
         (s .here)
 
-    earlier : (l m q u : ℕ) → BreakAt ys from l q → BreakAt ys from m u → q < u → ⊥
+    earlier : (l m q u : ℕ) → FirstBreaks ys from l q → FirstBreaks ys from m u → q < u → ⊥
     earlier l m q u s t h =
         ⊎-elim (λ (g, k). let e = t .before q h in let z : _≡_ {A = ℕ} 0 1 = cc in omega arith)
         (λ (g, k). ⊎-elim (λ (f, i). omega arith) (λ (f, i). omega arith) (t .here)) (s .here)
 
-    same-layer : (l m q u : ℕ) → BreakAt ys from l q → BreakAt ys from m u → q ≡ u → l ≡ m
+    same-layer : (l m q u : ℕ) → FirstBreaks ys from l q → FirstBreaks ys from m u → q ≡ u → l ≡ m
     same-layer l m q u s t e =
         ⊎-elim (λ (g, k). ⊎-elim (λ (f, i). cc) (λ (f, i). absurd (omega arith)) (t .here))
         (λ (g, k). ⊎-elim (λ (f, i). absurd (omega arith)) (λ (f, i). cc) (t .here)) (s .here)

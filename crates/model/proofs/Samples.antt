@@ -127,14 +127,14 @@ module _ (S : Shape) (H : ℕ → ℕ → List ℕ → List ℕ) (root : List �
 
   -- ---- it breaks at layer l: one of its symbols has another hash, and every symbol of a layer nearer the base has the committed one
 
-  pub record SampleBreaks (l : ℕ) : Type 0 where
+  pub record BrokenSample (l : ℕ) : Type 0 where
     pub index : ℕ
     pub inside : index < sampleSize d
     pub at-layer : sampleLayer d index ≡ l
     pub broken : Fit index (sampleLayer d index) (sampleNumber S d i index) → ⊥
     pub below : (x : ℕ) → x < sampleSize d → l < sampleLayer d x → Fit x (sampleLayer d x) (sampleNumber S d i x)
 
-  pub sample-breaks : (l : ℕ) → sampleCheck S H root d i s ≡ breaks l → SampleBreaks l
+  pub sample-breaks : (l : ℕ) → sampleCheck S H root d i s ≡ breaks l → BrokenSample l
   unfolding sampleCheck sampleFits sampleLayer
   sample-breaks l e =
       let (y, first, at) =
