@@ -1,17 +1,19 @@
 -- CR 4: where a path breaks, of both checkers. Their tests are known (`Refusals`, `FaultProofs`); below is what they say of 7.
-use mathlib.Core.Path.{_≡_, refl, sym, _∙_, subst}
+use mathlib.Core.Path.{_≡_, refl, sym, ap, _∙_, subst}
 use mathlib.Core.Bool.{true}
-use mathlib.Core.Logic.{_⊎_, _↔_, inl, inr, ⊎-elim}
+use mathlib.Core.Logic.{_⊎_, _↔_, _≢_, inl, inr, ⊎-elim}
 use mathlib.Core.List.{List}
-use Prim.Native.Nat.{ℕ, _-_, _*_, _≤_, _<_}
+use Prim.Native.Nat.{ℕ, suc, _+_, _-_, _*_, _≤_, _<_}
+use native.Mathlib.Nat.{mul-le-mul-right}
 use native.Mathlib.Omega.{arith}
 use lib.ListN.{length, getD}
 use lib.Dec.{eqb, ltb}
 use borrow.Author.Tests.{eqb-true, eq-eqb, ltb-true, lt-ltb}
+use Rattle.octets.proofs.ListLaws.{length-part}
 use Rattle.octets.proofs.Choice.{and-yes, yes-and}
 use Rattle.parity_table.specs.Shape.{kOf, nOf}
 use Rattle.parity_table.specs.Members.{every}
-use Rattle.parity_table.specs.Table.{TableOk}
+use Rattle.parity_table.specs.Table.{layerOf, equationOf, TableOk}
 use Rattle.parity_table.proofs.Parse.{formed-rules}
 use Rattle.table_bytes.specs.Bytes.{wordsOf}
 use Rattle.model.specs.Sampling.{sampleSize}
@@ -22,12 +24,13 @@ use Rattle.calls.specs.Stops.{numberOf, valuesOf}
 use Rattle.calls.specs.Lengths.{rootSized, sampleSized}
 use Rattle.sample_calls.specs.Checking.{checkSized}
 use Rattle.fault_calls.specs.Checking.{proofSized, proofChecked}
-use Rattle.guarantees.specs.Layouts.{allSymbols}
+use Rattle.guarantees.specs.Layouts.{bytesFrom, allSymbols, upFrom}
 use Rattle.guarantees.specs.Answers.{Answered, Answers, done, test, fails, holds, unless, one}
 use Rattle.guarantees.specs.Tables.{TableRight}
 use Rattle.guarantees.specs.Refusals.{DepthRight, RootLength, SampleLength, InBase, SampleBreaks, sampleTests}
-use Rattle.guarantees.specs.FaultProofs.{givenSymbol, withheldSymbol, Named, given, Exact, AllLead, ProofBreaks, ProofLengths, ProofReady, proofTests}
-use Rattle.guarantees.specs.Trees.{AgreesWith}
+use Rattle.guarantees.specs.FaultProofs.{givenSymbol, withheldSymbol, Named, given, Exact, GivenFits, PathFits, AllLead, ProofBreaks, ProofLengths, ProofReady, proofTests}
+use Rattle.guarantees.specs.Trees.{members, AgreesWith}
+use Rattle.guarantees.specs.Demand3.{ProofCollides}
 use Rattle.guarantees.specs.Demand2.{SampleReady}
 use Rattle.guarantees.specs.Terms.{equationsOf}
 use Rattle.guarantees.specs.Change4.{WayHasThere, Change4}
@@ -36,7 +39,7 @@ use Rattle.guarantees.proofs.Tables.{right-formed}
 use Rattle.guarantees.proofs.ProofHeads.{named-fitting, length-named, named-ok, ok-named}
 use Rattle.guarantees.proofs.Passing.{decided, Stable, past-words, past-words-so, left-words, Front, depth-stable, lengths-front, both-stable}
 use Rattle.guarantees.proofs.Refusals.{depth-fits, refusals}
-use Rattle.guarantees.proofs.Pages.{up-low, sample-fits, way-fits-there}
+use Rattle.guarantees.proofs.Pages.{up-low, sample-fits, sample-alone, way-fits-there, way-alone}
 use Rattle.guarantees.proofs.FaultProofs.{from8, from7, leads-or-breaks, breaks-as, never-both, fault-proofs, lengths-own, own-lengths}
 
 -- ---- samples
@@ -226,6 +229,55 @@ module _ (d : ℕ) (root table b : List ℕ) where
         (up-low j (h .withheld) l (j - l) (omega (arith, w .on-way)) (λ e. absurd (omega (arith, w .on-way)))) there))
         (k .breaks)
 
+    -- where those above it have the committed hashes
+    on-way : l ≤ j
+    on-way = ⊎-elim (λ (a, w). w .on-way) (λ (a, c, w). omega (arith, w .on-way)) (k .breaks)
+
+    module _ (x : Exact h) where
+      count : (length (members tbl j (h .equation)) - 1) * (j + 1) ≡ length (given h) * (j + 1)
+      unfolding layerOf equationOf
+      count = ap (λ (n : ℕ). n * (j + 1)) (named-fitting d tbl b shallow o h .given-count)
+
+      given-alone : p < length (given h) → ((i : ℕ) → i < l → GivenFits root h p (j - i))
+          → (givenSymbol b j p (j - l) ≢ f l (upFrom j (getD (given h) p 0) (j - l))) ⊎ ProofCollides d table b f
+      unfolding givenSymbol bytesFrom
+      given-alone q fit =
+          let y : ℕ = getD (given h) p 0 in
+          ⊎-elim inl
+          (λ (u, c, low, twins). inr (record {
+            named = h;
+            layer = u;
+            number = upFrom j y (j - u);
+            held = givenSymbol b j p (j - u);
+            holds = inl (p, j - u, q, (omega arith, omega (arith, on-way), refl), refl);
+            in-tree = (omega (arith, on-way, h .has-layer), low);
+            collide = twins;
+          }))
+          (way-alone d tb root f agr j y (givenSymbol b j p) (h .has-layer) l on-way
+          (λ u c. length-part b (12 + 256 * (p * (j + 1) + (j - u))) 256 (omega (arith, x, count, mul-le-mul-right {m = suc p} {n = length (given h)} (j + 1) q)))
+          fit (given-page q))
+
+      withheld-alone : p ≡ length (given h) → ((i : ℕ) → i < l → PathFits root h (j - i))
+          → (withheldSymbol b j p (j - l) ≢ f l (upFrom j (h .withheld) (j - l))) ⊎ ProofCollides d table b f
+      unfolding withheldSymbol bytesFrom
+      withheld-alone q fit =
+          let g : ℕ = length (given h) in
+          let y : ℕ = h .withheld in
+          subst (λ (n : ℕ). (withheldSymbol b j n (j - l) ≢ f l (upFrom j y (j - l))) ⊎ ProofCollides d table b f) (sym q)
+          (⊎-elim inl
+          (λ (u, c, low, twins). inr (record {
+            named = h;
+            layer = u;
+            number = upFrom j y (j - u);
+            held = withheldSymbol b j g (j - u);
+            holds = inr (j - u, omega (arith, on-way), (omega arith, omega (arith, on-way), refl), refl);
+            in-tree = (omega (arith, on-way, h .has-layer), low);
+            collide = twins;
+          }))
+          (way-alone d tb root f agr j y (withheldSymbol b j g) (h .has-layer) l on-way
+          (λ u c. length-part b (12 + 256 * (g * (j + 1) + (j - u - 1))) 256 (omega (arith, x, count, on-way)))
+          fit (λ t. withheld-page q (subst (λ (n : ℕ). WayHasThere j y (withheldSymbol b j n) f l) (sym q) t))))
+
 pub change-4 : Change4
 change-4 =
     record {
@@ -236,16 +288,22 @@ change-4 =
       proof-stops = stops;
       proof-leads = leads;
       proof-of-top = top;
-      sample-page = λ d i root s l p e.
-          let (r, k, z) = sample-found d i root s l p (refusals .sample-checker d i root s .answers 7 (l, p) .0 e) in (
-            k .index,
-            k .inside,
-            k .at-layer,
-            λ tbl f agr t. k .breaks (sample-fits d tbl root f agr i s (r .depth-right .0) (r .in-base) (k .index) (k .inside) t),
-          );
+      sample-page = λ d i root s l p e x h at wrong tbl f agr t.
+          let (r, k, z) = sample-found d i root s l p (refusals .sample-checker d i root s .answers 7 (l, p) .0 e) in
+          wrong (sample-fits d tbl root f agr i s (r .depth-right .0) (r .in-base) x h t);
       proof-page = λ d root table b l p e h tb f agr.
           let (r, k) = stops d root table b l p .0 e in
           let o = rules d root table b (r .depth-right) (r .table-right) in
           let k′ = breaks-as d (equationsOf table) b (r .depth-right .1) o (r .named) h root l p k in
           (given-page d root table b l p h k′ o (r .depth-right .1) tb f agr, withheld-page d root table b l p h k′ o (r .depth-right .1) tb f agr);
+      sample-page-alone = λ d i root s l p e x h at wrong above tbl f agr.
+          let (r, k, z) = sample-found d i root s l p (refusals .sample-checker d i root s .answers 7 (l, p) .0 e) in
+          sample-alone d tbl root f agr i s (r .depth-right .0) (r .in-base) x h (r .sample-length) l at wrong above;
+      proof-page-alone = λ d root table b l p e h tb f agr.
+          let (r, k) = stops d root table b l p .0 e in
+          let dr = r .depth-right in
+          let o = rules d root table b dr (r .table-right) in
+          let k′ = breaks-as d (equationsOf table) b (dr .1) o (r .named) h root l p k in
+          let x = exact-of d root table b dr (r .table-right) h (of-exact d root table b dr (r .table-right) (r .named) (r .exact)) in
+          (given-alone d root table b l p h k′ o (dr .1) tb f agr x, withheld-alone d root table b l p h k′ o (dr .1) tb f agr x);
     }

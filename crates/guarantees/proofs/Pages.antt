@@ -1,18 +1,26 @@
--- A symbol that is a tree's, under one that is the tree's too, has the committed hash: so where a path breaks, one of the two is not.
+-- A symbol that is a tree's, under one that is the tree's too, has the committed hash: so where a path breaks, one of the two is not. And what leads to the
+-- root is the tree's, or shows a collision with it.
 use mathlib.Core.Path.{_≡_, refl, sym, ap, ap₂, _∙_, subst}
+use mathlib.Core.Logic.{_⊎_, _≢_, inl, inr, ⊎-elim}
 use mathlib.Core.List.{List}
 use Prim.Native.Nat.{ℕ, zero, suc, _+_, _-_, _*_, _/_, _%_, _≤_, _<_}
 use native.Mathlib.Nat.{mod-lt}
 use native.Mathlib.Omega.{arith}
+use lib.ListN.{length}
+use Rattle.octets.specs.ByteLists.{same}
+use Rattle.octets.proofs.ListLaws.{length-part}
+use Rattle.octets.proofs.Choice.{by-test, both}
 use Rattle.sha256.specs.Hash.{sha256}
 use Rattle.parity_table.specs.Shape.{kOf, nOf}
 use Rattle.model.specs.Shape.{tree}
 use Rattle.model.specs.Sampling.{sampleNumber, dataNo}
 use Rattle.model.proofs.Shapes.{tree-ok}
-use Rattle.model.proofs.Samples.{places-are}
-use Rattle.guarantees.specs.Layouts.{bytesFrom, symbolNo, allSymbols, spread, hashFor, sampledLayer, sampledNumber, upFrom}
-use Rattle.guarantees.specs.Trees.{AgreesWith}
-use Rattle.guarantees.specs.Refusals.{InBase, SampleFits}
+use Rattle.model.proofs.Bytes.{same-yes, yes-same}
+use Rattle.model.proofs.Samples.{data-layer, data-number, data-under, places-are}
+use Rattle.guarantees.specs.Layouts.{bytesFrom, symbolNo, dataSymbols, allSymbols, spread, hashFor, sampledLayer, sampledNumber, upFrom}
+use Rattle.guarantees.specs.Trees.{AgreesWith, Twins}
+use Rattle.guarantees.specs.Refusals.{SampleLength, InBase, SampleFits}
+use Rattle.guarantees.specs.Demand2.{SampleCollides}
 use Rattle.guarantees.specs.Change4.{SampleHasThere, WayHasThere}
 use Rattle.guarantees.proofs.Layouts.{spread-is}
 use Rattle.guarantees.proofs.Refusals.{sampled-layer, sampled-number}
@@ -25,6 +33,13 @@ up-low j i l (suc x) h low =
     let e : j - x ≡ suc l = omega arith in
     let k : spread (j - x) ≡ kOf l = ap spread e ∙ spread-is l in
     omega (arith, mod-lt (upFrom j i x) {m = spread (j - x)} (omega (arith, k, tree-ok .shape .some l)), k)
+
+up-step : (j i u : ℕ) → suc u ≤ j → upFrom j i (j - u) ≡ upFrom j i (j - suc u) % spread (suc u)
+unfolding upFrom
+up-step j i u h =
+    let a : j - u ≡ suc (j - suc u) = omega arith in
+    let c : j - (j - suc u) ≡ suc u = omega arith in
+    ap (upFrom j i) a ∙ ap (λ (n : ℕ). upFrom j i (j - suc u) % spread n) c
 
 module _ (d : ℕ) (tbl : List (List (List ℕ))) (root : List ℕ) (f : ℕ → ℕ → List ℕ) (agr : AgreesWith d tbl root f) where
   tree-hash : (l m : ℕ) → l < d → m < allSymbols l → sha256 (f l m) ≡ hashFor root f l m
@@ -42,9 +57,49 @@ module _ (d : ℕ) (tbl : List (List (List ℕ))) (root : List ℕ) (f : ℕ →
       → sha256 s ≡ hashFor root (λ u n. w u) l m
   fits w l m s hl hm e above = ap sha256 e ∙ tree-hash l m hl hm ∙ hash-above w l m above
 
+  -- ---- symbols w by layer, with the numbers m, from layer `top` up: where each has the committed hash, each is the tree's, or one shows a collision
+
+  module _ (w : ℕ → List ℕ) (m : ℕ → ℕ) (top : ℕ) (deep : top < d) (low : (u : ℕ) → u ≤ top → m u < allSymbols u)
+      (up : (u : ℕ) → suc u ≤ top → m u ≡ m (suc u) % spread (suc u)) (sized : (u : ℕ) → u ≤ top → length (w u) ≡ 256)
+      (fit : (u : ℕ) → u ≤ top → sha256 (w u) ≡ hashFor root (λ q n. w q) u (m u)) where
+    abbrev pub Collision : Type 0
+    Collision = (u : ℕ) × (u ≤ top) × Twins (w u) (f u (m u))
+
+    -- under a symbol of the tree's
+    own-here : (u : ℕ) → u ≤ top → ((q : ℕ) → suc q ≡ u → w q ≡ f q (m u % spread u)) → (w u ≡ f u (m u)) ⊎ Collision
+    own-here u h above =
+        by-test (same (w u) (f u (m u))) (λ t. inl (same-yes (w u) (f u (m u)) t))
+        (λ t. inr (
+          u,
+          h,
+          record {
+            symbols = (sized u h, agr .correctly-coded .sized u (m u) (omega arith) (low u h));
+            differ = λ e. both (yes-same e) t;
+            equal = fit u h ∙ sym (hash-above w u (m u) above) ∙ sym (tree-hash u (m u) (omega arith) (low u h));
+          },
+        ))
+
+    pub own-or : (u : ℕ) → u ≤ top → (w u ≡ f u (m u)) ⊎ Collision
+    own-or zero h = own-here zero h (λ q e. absurd (omega arith))
+    own-or (suc u) h =
+        ⊎-elim
+        (λ e. own-here (suc u) h (λ q a. let b : u ≡ q = omega arith in subst (λ (n : ℕ). w n ≡ f n (m (suc u) % spread (suc u))) b (e ∙ ap (f u) (up u h))))
+        inr (own-or u (omega arith))
+
   -- ---- a symbol of a sample
 
   module _ (i : ℕ) (s : List ℕ) (some : 1 ≤ d) (base : InBase d i) (x : ℕ) (h : x < 2 * d - 1) where
+    -- the sample's data symbol of layer u
+    abbrev dataAt : ℕ → ℕ
+    dataAt u = 2 * (d - 1 - u) - 1
+
+    data-at-layer : (u : ℕ) → suc u < d → sampledLayer d (dataAt u) ≡ u
+    data-at-layer u k = sampled-layer d (dataAt u) ∙ data-layer tree d i u k
+
+    data-at-number : (u : ℕ) → suc u < d → sampledNumber d i (dataAt u) ≡ i % dataSymbols u
+    unfolding dataNo kOf
+    data-at-number u k = sampled-number d i (dataAt u) ∙ data-number tree d i u k
+
     pub sample-fits : SampleHasThere d i s f x → SampleFits d i root s x
     unfolding dataNo kOf nOf
     sample-fits t =
@@ -57,16 +112,64 @@ module _ (d : ℕ) (tbl : List (List (List ℕ))) (root : List ℕ) (f : ℕ →
         let up : sampleNumber tree d i x % kOf u ≡ i % kOf u = under u (e ∙ sampled-layer d x) in
         t .above u e ∙ ap (f u) (sym (ap₂ (λ (a b : ℕ). a % b) (sampled-number d i x) (ap spread (sym e) ∙ spread-is u) ∙ up)))
 
+    -- the same where each data symbol above it has the committed hash
+    pub sample-alone : SampleLength d s → (l : ℕ) → sampledLayer d x ≡ l → (SampleFits d i root s x → ⊥)
+        → ((u : ℕ) → u < l → SampleFits d i root s (dataAt u)) → (symbolNo s x ≢ f l (sampledNumber d i x)) ⊎ SampleCollides d i s f
+    unfolding dataNo kOf nOf bytesFrom
+    sample-alone full zero at wrong fit =
+        inl (λ e. wrong (sample-fits (record { here = e ∙ ap (λ (n : ℕ). f n (sampledNumber d i x)) (sym at); above = λ u q. absurd (omega arith) })))
+    sample-alone full (suc t) at wrong fit =
+        let deep : suc t < d = omega (arith, at, sampled-layer d x, places-are tree tree-ok i d some base x h .0 .0) in
+        ⊎-elim
+        (λ e. inl (λ here. wrong (sample-fits (record {
+          here = here ∙ ap (λ (n : ℕ). f n (sampledNumber d i x)) (sym at);
+          above = λ u q. let v : t ≡ u = omega arith in subst (λ (n : ℕ). symbolNo s (dataAt n) ≡ f n (i % dataSymbols n)) v e;
+        }))))
+        (λ (u, k, twins). inr (record {
+          index = dataAt u;
+          inside = omega arith;
+          collide = subst (λ (n : ℕ). Twins (symbolNo s (dataAt u)) (f n (sampledNumber d i (dataAt u)))) (sym (data-at-layer u (omega arith)))
+              (subst (λ (n : ℕ). Twins (symbolNo s (dataAt u)) (f u n)) (sym (data-at-number u (omega arith))) twins);
+        }))
+        (own-or (λ q. symbolNo s (dataAt q)) (λ q. i % dataSymbols q) t (omega arith) (λ u k. omega (arith, mod-lt i {m = kOf u} (tree-ok .shape .some u)))
+        (λ u k. sym (ap (λ (n : ℕ). i % dataSymbols (suc u) % n) (spread-is u) ∙ data-under tree tree-ok i (suc u) u refl))
+        (λ u k. length-part s (256 * dataAt u) 256 (omega arith))
+        (λ u k.
+        subst (λ (n : ℕ). sha256 (symbolNo s (dataAt u)) ≡ hashFor root (λ q n. symbolNo s (dataAt q)) n (i % dataSymbols u)) (data-at-layer u (omega arith))
+        (subst (λ (n : ℕ). sha256 (symbolNo s (dataAt u)) ≡ hashFor root (λ q n. symbolNo s (dataAt q)) (sampledLayer d (dataAt u)) n) (data-at-number u (omega arith))
+        (fit u (omega arith))))
+        t (omega arith))
+
   -- ---- a symbol on the way up from symbol y of layer j: a number of its layer, and its hash
 
   module _ (j y : ℕ) (s : ℕ → List ℕ) (l : ℕ) (hl : l ≤ j) (hj : j < d) (low : upFrom j y (j - l) < allSymbols l) where
     pub way-fits-there : WayHasThere j y s f l → sha256 (s (j - l)) ≡ hashFor root (λ q n. s (j - q)) (j - (j - l)) (upFrom j y (j - l))
-    unfolding upFrom
     way-fits-there t =
         let e : l ≡ j - (j - l) = omega arith in
         subst (λ (q : ℕ). sha256 (s (j - l)) ≡ hashFor root (λ q n. s (j - q)) q (upFrom j y (j - l))) e
         (fits (λ q. s (j - q)) l (upFrom j y (j - l)) (s (j - l)) (omega arith) low (t .here)
-        (λ u q.
-        let a : j - u ≡ suc (j - l) = omega arith in
-        let c : j - (j - l) ≡ l = omega arith in
-        t .above u q ∙ ap (f u) (ap (upFrom j y) a ∙ ap (λ (n : ℕ). upFrom j y (j - l) % spread n) c)))
+        (λ u q. t .above u q ∙ ap (f u) (up-step j y u (omega arith) ∙ ap (λ (n : ℕ). upFrom j y (j - n) % spread n) q)))
+
+  -- where each symbol above has the committed hash, and it isn't so that both that of layer l and the one above are the tree's: that of layer l is not, or
+  -- one above it shows a collision
+  module _ (j y : ℕ) (s : ℕ → List ℕ) (hj : j < d) where
+    abbrev pub Shown : ℕ → Type 0
+    Shown l = (u : ℕ) × (u < l) × (upFrom j y (j - u) < allSymbols u) × Twins (s (j - u)) (f u (upFrom j y (j - u)))
+
+    pub way-alone : (l : ℕ) → l ≤ j → ((u : ℕ) → u < l → length (s (j - u)) ≡ 256)
+        → ((u : ℕ) → u < l → sha256 (s (j - u)) ≡ hashFor root (λ q n. s (j - q)) (j - (j - u)) (upFrom j y (j - u)))
+        → (WayHasThere j y s f l → ⊥) → (s (j - l) ≢ f l (upFrom j y (j - l))) ⊎ Shown l
+    way-alone zero hl sized fit wrong = inl (λ e. wrong (record { here = e; above = λ u q. absurd (omega arith) }))
+    way-alone (suc t) hl sized fit wrong =
+        let low : (u : ℕ) → u ≤ t → upFrom j y (j - u) < allSymbols u = λ u h. up-low j y u (j - u) (omega arith) (λ e. absurd (omega arith)) in
+        ⊎-elim
+        (λ e. inl (λ here. wrong (record {
+          here = here;
+          above = λ u q. let v : t ≡ u = omega arith in subst (λ (n : ℕ). s (j - n) ≡ f n (upFrom j y (j - n))) v e;
+        })))
+        (λ (u, h, twins). inr (u, omega arith, low u h, twins))
+        (own-or (λ q. s (j - q)) (λ q. upFrom j y (j - q)) t (omega arith) low (λ u h. up-step j y u (omega arith)) (λ u h. sized u (omega arith))
+        (λ u h.
+        let e : j - (j - u) ≡ u = omega arith in
+        subst (λ (n : ℕ). sha256 (s (j - u)) ≡ hashFor root (λ q n. s (j - q)) n (upFrom j y (j - u))) e (fit u (omega arith)))
+        t (omega arith))

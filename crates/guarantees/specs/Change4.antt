@@ -2,7 +2,7 @@
 --
 -- `SampleBreaks` and `ProofBreaks` say where: they are test 7 of the two checkers (Refusals.antt, FaultProofs.antt), whose other answers are as they were.
 use mathlib.Core.Path.{_≡_}
-use mathlib.Core.Logic.{_⊎_, _↔_}
+use mathlib.Core.Logic.{_⊎_, _↔_, _≢_}
 use mathlib.Core.List.{List}
 use Prim.Native.Nat.{ℕ, suc, _-_, _*_, _%_, _<_}
 use lib.ListN.{length, getD}
@@ -11,9 +11,10 @@ use Rattle.sample_calls.specs.Checking.{sampleChecked}
 use Rattle.fault_calls.specs.Checking.{proofChecked}
 use Rattle.guarantees.specs.Layouts.{symbolNo, dataSymbols, sampledLayer, sampledNumber, upFrom}
 use Rattle.guarantees.specs.Trees.{AgreesWith}
-use Rattle.guarantees.specs.Refusals.{SampleBreaks}
-use Rattle.guarantees.specs.FaultProofs.{givenSymbol, withheldSymbol, Named, given, AllLead, ProofBreaks, ProofReady}
-use Rattle.guarantees.specs.Demand2.{SampleReady}
+use Rattle.guarantees.specs.Refusals.{SampleFits, SampleBreaks}
+use Rattle.guarantees.specs.FaultProofs.{givenSymbol, withheldSymbol, Named, given, GivenFits, PathFits, AllLead, ProofBreaks, ProofReady}
+use Rattle.guarantees.specs.Demand2.{SampleReady, SampleCollides}
+use Rattle.guarantees.specs.Demand3.{ProofCollides}
 use Rattle.guarantees.specs.Terms.{equationsOf}
 use Rattle.guarantees.specs.Answers.{Answers}
 
@@ -45,12 +46,23 @@ pub record Change4 : Type 0 where
   -- in a proof of layer 0 the withheld one can't break, since its hash stands in the root
   pub proof-of-top : (d : ℕ) (root table b : List ℕ) (l p : ℕ) → Answers (proofChecked d root table b) 7 (l, p)
       → (h : Named d (equationsOf table) b) → h .layer ≡ 0 → (l ≡ 0) × (p < length (given h))
-  -- "The bench must know which shop's page to ask for again": whatever tree agrees with the root, a page of layer l, or the page above that has its hash, is
-  -- another than the tree's
+  -- "The bench must know which shop's page to ask for again": whatever tree agrees with the root, the page of layer l that breaks, or the page above, which
+  -- has its hash, is another than the tree's
   pub sample-page : (d i : ℕ) (root s : List ℕ) (l p : ℕ) → Answers (sampleChecked d i root s) 7 (l, p)
-      → (x : ℕ) × (x < 2 * d - 1) × (sampledLayer d x ≡ l)
-      × ((tbl : List (List (List ℕ))) (f : ℕ → ℕ → List ℕ) → AgreesWith d tbl root f → SampleHasThere d i s f x → ⊥)
+      → (x : ℕ) → x < 2 * d - 1 → sampledLayer d x ≡ l → (SampleFits d i root s x → ⊥)
+      → (tbl : List (List (List ℕ))) (f : ℕ → ℕ → List ℕ) → AgreesWith d tbl root f → SampleHasThere d i s f x → ⊥
   pub proof-page : (d : ℕ) (root table b : List ℕ) (l p : ℕ) → Answers (proofChecked d root table b) 7 (l, p) → (h : Named d (equationsOf table) b)
       → (tbl : List (List (List ℕ))) (f : ℕ → ℕ → List ℕ) → AgreesWith d tbl root f
       → (p < length (given h) → WayHasThere (h .layer) (getD (given h) p 0) (givenSymbol b (h .layer) p) f l → ⊥)
       × (p ≡ length (given h) → WayHasThere (h .layer) (h .withheld) (withheldSymbol b (h .layer) p) f l → ⊥)
+  -- and where each page above it on the way up has the hash that the next one, or the root, has for it, the page that breaks is another than the tree's,
+  -- or the two hold, at one layer and number, two different symbols of equal SHA-256
+  pub sample-page-alone : (d i : ℕ) (root s : List ℕ) (l p : ℕ) → Answers (sampleChecked d i root s) 7 (l, p)
+      → (x : ℕ) → x < 2 * d - 1 → sampledLayer d x ≡ l → (SampleFits d i root s x → ⊥) → ((u : ℕ) → u < l → SampleFits d i root s (2 * (d - 1 - u) - 1))
+      → (tbl : List (List (List ℕ))) (f : ℕ → ℕ → List ℕ) → AgreesWith d tbl root f → (symbolNo s x ≢ f l (sampledNumber d i x)) ⊎ SampleCollides d i s f
+  pub proof-page-alone : (d : ℕ) (root table b : List ℕ) (l p : ℕ) → Answers (proofChecked d root table b) 7 (l, p) → (h : Named d (equationsOf table) b)
+      → (tbl : List (List (List ℕ))) (f : ℕ → ℕ → List ℕ) → AgreesWith d tbl root f
+      → (p < length (given h) → ((i : ℕ) → i < l → GivenFits root h p (h .layer - i))
+      → (givenSymbol b (h .layer) p (h .layer - l) ≢ f l (upFrom (h .layer) (getD (given h) p 0) (h .layer - l))) ⊎ ProofCollides d table b f)
+      × (p ≡ length (given h) → ((i : ℕ) → i < l → PathFits root h (h .layer - i))
+      → (withheldSymbol b (h .layer) p (h .layer - l) ≢ f l (upFrom (h .layer) (h .withheld) (h .layer - l))) ⊎ ProofCollides d table b f)

@@ -36,7 +36,7 @@ module _ (S : Shape) (d i : ℕ) where
   unfolding sampleLayer
   base-layer = omega arith
 
-  data-layer : (j : ℕ) → suc j < d → sampleLayer d (dataIn d j) ≡ j
+  pub data-layer : (j : ℕ) → suc j < d → sampleLayer d (dataIn d j) ≡ j
   unfolding sampleLayer
   data-layer j h = omega arith
 
@@ -52,7 +52,7 @@ module _ (S : Shape) (d i : ℕ) where
   unfolding sampleNumber
   even-number x h = pick-no (eqb (x % 2) 0) _ _ (ne-eqb (x % 2) 0 (λ e. omega arith))
 
-  data-number : (j : ℕ) → suc j < d → sampleNumber S d i (dataIn d j) ≡ dataNo S j i
+  pub data-number : (j : ℕ) → suc j < d → sampleNumber S d i (dataIn d j) ≡ dataNo S j i
   data-number j h =
       let e : dataIn d j ≡ suc (2 * (d - 1 - j) - 2) = omega arith in
       ap (sampleNumber S d i) e ∙ odd-number (2 * (d - 1 - j) - 2) (omega arith) ∙ ap (λ (l : ℕ). dataNo S l i) (sym (ap (sampleLayer d) e) ∙ data-layer j h)
@@ -158,7 +158,7 @@ module _ (S : Shape) (sh : TreeOk S) (i : ℕ) where
   unfolding dataNo
   base-under l u e = refl
 
-  data-under : (l : ℕ) → Under l (dataNo S l i)
+  pub data-under : (l : ℕ) → Under l (dataNo S l i)
   unfolding dataNo
   data-under l u e =
       ap (λ (n : ℕ). i % n % S .k u) (sym (ap (S .k) e) ∙ k-double S sh u) ∙ mod-mod-of-dvd (S .k u) i (dvd-mul-left (S .k u) 2)
