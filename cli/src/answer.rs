@@ -193,8 +193,8 @@ mod tests {
                 "the proof's head has a wrong kind, layer or equation, or the equation has no such member",
             ),
             (
-                Stop::WrongHash { layer: 2, position: 3 },
-                "a hash doesn't lead to the root: layer 2; in a proof, position 3",
+                Stop::WrongHash { layer: 2, position: Some(3) },
+                "a hash doesn't lead to the root: layer 2, position 3",
             ),
             (Stop::NoFault, "the withheld hash fits: the proof shows no fault"),
             (Stop::Absent { number: 4 }, "a needed page is absent: number 4"),
@@ -208,6 +208,8 @@ mod tests {
             let line = format!("{line} (number {number}: cedunmi explain {number})");
             assert_eq!((failure.status, failure.lines), (number, vec![line]));
         }
+        let of_sample = Stop::WrongHash { layer: 2, position: None };
+        assert_eq!(of_sample.to_string(), "a hash doesn't lead to the root: layer 2");
         let failure = Failure::stopped(Stop::Unknown { result: 0x1ff });
         assert_eq!(
             (failure.status, &failure.lines[0][..]),

@@ -12,7 +12,7 @@ const TO_DO: &[(u8, &str)] = &[
     (4, "the marks file is damaged: set that page's mark to 0, and repair"),
     (5, "give a number below 16, 32, 64, 128, 256 at depth 1, 2, 3, 4, 5"),
     (6, "turn the proof down, unless depth and table are not the manual's"),
-    (7, "see that the root is the manual's, and NUMBER the sample's; then ask for the page that is named again, put it in the place of the one that came, and check again. Turn down what does not come right: it is damaged, or of another volume"),
+    (7, "see that DEPTH and ROOT are the manual's, for a proof TABLE too, and that a sample is that of NUMBER; then ask again for the page that the second line says, put it at the bytes that it names, and check again. Turn down what does not come right: it is damaged, or of another volume"),
     (8, "turn the proof down: the volume stays in the catalogue"),
     (9, "bring that page, or repair the tree"),
     (10, "contributor: put that page into at least two equations of its layer, or take the house table. Shop: ask for the volume coded anew; until then cedunmi read --unverified copies its pages, unchecked, if none of its data pages is lost"),

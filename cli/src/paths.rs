@@ -5,10 +5,17 @@ use crate::failure::Failure;
 use crate::members::{members, words};
 use cedunmi::{Depth, Stop, DIGEST_BYTES, PROOF_HEAD_BYTES, SYMBOL_BYTES};
 
-/// A page that came with a sample or a proof, by its number in its layer.
+/// A file that a sample or a proof came in.
+pub struct File<'a> {
+    pub name: &'a str,
+    pub bytes: &'a [u8],
+}
+
+/// A page of such a file: its layer, its number there, and where in the file it begins.
 struct Page<'a> {
     layer: usize,
     number: usize,
+    at: usize,
     bytes: &'a [u8],
 }
 
@@ -18,6 +25,9 @@ struct Way<'a> {
     depth: Depth,
     root: &'a [u8],
     pages: Vec<Page<'a>>,
+    file: &'a str,
+    /// What must be so, or other pages came than are looked for.
+    right: String,
 }
 
 /// A sample that stopped with 7: which pages don't fit, and what to do.
@@ -26,44 +36,40 @@ pub fn of_sample(
     depth: u64,
     number: u64,
     root: &[u8],
-    sample: &[u8],
+    sample: File,
 ) -> Option<Failure> {
     let (layer, _) = broken_at(stop)?;
     let depth = Depth::new(depth)?;
     let sampled = |(index, bytes)| {
         let layer = depth.layers() - 1 - (index + 1) / 2;
         let place = depth.sampled_place(number as usize, index);
-        Page { layer, number: place - depth.places(layer).start, bytes }
+        Page { layer, number: place - depth.places(layer).start, at: SYMBOL_BYTES * index, bytes }
     };
-    let pages = sample.chunks_exact(SYMBOL_BYTES).enumerate().map(sampled).collect();
+    let pages = sample.bytes.chunks_exact(SYMBOL_BYTES).enumerate().map(sampled).collect();
     let right = format!("this root is the volume's, and the sample that of base page {number}");
-    Way { depth, root, pages }.failure(stop, layer, "", &right)
+    Way { depth, root, pages, file: sample.name, right }.failure(stop, layer, "")
 }
 
 /// The same of a fault proof.
-pub fn of_proof(
-    stop: Stop,
-    depth: u64,
-    root: &[u8],
-    table: &[u8],
-    proof: &[u8],
-) -> Option<Failure> {
+pub fn of_proof(stop: Stop, depth: u64, root: &[u8], table: &[u8], proof: File) -> Option<Failure> {
     let (layer, position) = broken_at(stop)?;
-    let depth = Depth::new(depth)?;
-    let (start, member, given) = member_at(table, proof, position)?;
+    let (depth, position) = (Depth::new(depth)?, position?);
+    let (start, member, given) = member_at(table, proof.bytes, position)?;
     let whose = match (given, layer == start) {
         (true, true) => ", a given member".to_string(),
         (true, false) => format!(", in the path of member {member}"),
         (false, _) => format!(", in the path of the withheld member {member}"),
     };
-    let step = |(layer, bytes)| {
-        let number = if layer == start { member } else { member % depth.data(layer) };
-        Page { layer, number, bytes }
-    };
-    let bytes = proof.get(PROOF_HEAD_BYTES + SYMBOL_BYTES * (start + 1) * position..)?;
+    let first = PROOF_HEAD_BYTES + SYMBOL_BYTES * (start + 1) * position;
     let layers = if given { 0..start + 1 } else { 0..start };
-    let pages = layers.rev().zip(bytes.chunks_exact(SYMBOL_BYTES)).map(step).collect();
-    Way { depth, root, pages }.failure(stop, layer, &whose, "this root is the volume's")
+    let step = |((index, bytes), layer)| {
+        let number = if layer == start { member } else { member % depth.data(layer) };
+        Page { layer, number, at: first + SYMBOL_BYTES * index, bytes }
+    };
+    let symbols = proof.bytes.get(first..)?.chunks_exact(SYMBOL_BYTES).enumerate();
+    let pages = symbols.zip(layers.rev()).map(step).collect();
+    let right = "this root and this table are the volume's".to_string();
+    Way { depth, root, pages, file: proof.name, right }.failure(stop, layer, &whose)
 }
 
 /// The member at a position of a proof: its layer, its number there, and whether it is given; the withheld one comes
@@ -77,10 +83,12 @@ fn member_at(table: &[u8], proof: &[u8], position: usize) -> Option<(usize, usiz
     Some((layer, found.unwrap_or(withheld), found.is_some()))
 }
 
-/// The layer and the position of a stop with 7.
-fn broken_at(stop: Stop) -> Option<(usize, usize)> {
+/// The layer of a stop with 7, and of a proof the position.
+fn broken_at(stop: Stop) -> Option<(usize, Option<usize>)> {
     match stop {
-        Stop::WrongHash { layer, position } => Some((layer as usize, position as usize)),
+        Stop::WrongHash { layer, position } => {
+            Some((layer as usize, position.map(|position| position as usize)))
+        }
         _ => None,
     }
 }
@@ -116,43 +124,46 @@ impl Way<'_> {
         cedunmi::sha256(page.bytes).map_or(false, |hash| committed == Some(&hash[..]))
     }
 
-    /// The failure where pages of this layer don't fit. WHOSE says more of the page, RIGHT what must be so where the
-    /// root has another hash.
-    fn failure(&self, stop: Stop, layer: usize, whose: &str, right: &str) -> Option<Failure> {
+    /// The failure where pages of this layer don't fit. WHOSE says more of the page.
+    fn failure(&self, stop: Stop, layer: usize, whose: &str) -> Option<Failure> {
         let broken: Vec<&Page> =
             self.pages.iter().filter(|page| page.layer == layer && !self.fits(page)).collect();
-        let first = broken.first()?;
-        let pages = listed("page", broken.iter().map(|page| self.place(page)));
-        let numbers = listed("number", broken.iter().map(|page| page.number));
-        let (hash, them) =
-            if broken.len() == 1 { ("another hash", "it") } else { ("other hashes", "them") };
-        let to_do = match self.above(first) {
-            None => format!("the root has {hash} for {them}: if {right}, ask for {pages} again"),
-            Some(above) => {
-                let (named, ask) = (self.named(above), self.to_ask(layer, &pages));
-                format!("{named} has {hash} for {them}, {ask}")
+        let above = self.above(broken.first()?).map(|page| format!("page {}", self.place(page)));
+        let hash = if broken.len() == 1 { "another hash for it" } else { "other hashes for them" };
+        let to_do = match (above, self.topmost(layer)) {
+            (None, _) => format!("the root has {hash}: {}", self.to_ask(&broken, "again")),
+            (Some(above), None) => {
+                let ask = self.to_ask(&broken, "again");
+                format!("{above} has {hash}, and leads to the root: {ask}")
+            }
+            (Some(above), Some(top)) => {
+                let ask = self.to_ask(&[top], "again first");
+                format!("{above} has {hash}, but doesn't lead to the root itself: {ask}")
             }
         };
-        let words =
-            format!("{}: {pages} of the tree, {numbers} of layer {layer}{whose}", stop.meaning());
+        let (pages, meaning) = (self.listed(&broken), stop.meaning());
+        let numbers = listed("number", broken.iter().map(|page| page.number));
+        let words = format!("{meaning}: {pages} of the tree, {numbers} of layer {layer}{whose}");
         Some(Failure::numbered(stop, &words).and(to_do))
     }
 
-    fn named(&self, page: &Page) -> String {
-        format!("page {}, number {} of layer {},", self.place(page), page.number, page.layer)
+    /// The topmost page above a layer that doesn't fit. The one above it leads to the root, so that it is wrong,
+    /// unless two pages of equal SHA-256 came.
+    fn topmost(&self, layer: usize) -> Option<&Page<'_>> {
+        let mut higher = self.pages.iter().filter(|page| page.layer < layer && self.is_data(page));
+        higher.rfind(|page| !self.fits(page))
     }
 
-    /// What to ask for where pages of this layer don't fit: the topmost page above them that doesn't fit either, which
-    /// is wrong for certain; where there is none, those pages.
-    fn to_ask(&self, layer: usize, pages: &str) -> String {
-        let mut higher = self.pages.iter().filter(|page| page.layer < layer && self.is_data(page));
-        match higher.rfind(|page| !self.fits(page)) {
-            None => format!("and leads to the root: ask for {pages} again"),
-            Some(top) => {
-                let top = self.place(top);
-                format!("but doesn't lead to the root itself: ask for page {top} again first")
-            }
-        }
+    fn listed(&self, pages: &[&Page]) -> String {
+        listed("page", pages.iter().map(|page| self.place(page)))
+    }
+
+    /// That these pages, which stand one after the other, are to be asked for, and on which condition.
+    fn to_ask(&self, pages: &[&Page], when: &str) -> String {
+        let Way { right, file, .. } = self;
+        let (listed, first) = (self.listed(pages), pages[0].at);
+        let last = first + SYMBOL_BYTES * pages.len() - 1;
+        format!("if {right}, ask for {listed} {when}, bytes {first} to {last} of {file}")
     }
 }
 
@@ -185,43 +196,58 @@ mod tests {
             .flat_map(|place| tree[256 * place..][..256].to_vec())
             .collect();
         changed.iter().for_each(|at| sample[*at] ^= 1);
-        lines(of_sample(Stop::WrongHash { layer, position: 0 }, 3, 50, &root, &sample))
+        let sample = File { name: "came", bytes: &sample };
+        lines(of_sample(Stop::WrongHash { layer, position: None }, 3, 50, &root, sample))
+    }
+
+    /// What is to be asked for of the sample, after why.
+    fn asked(why: &str, pages: &str, bytes: &str) -> String {
+        let right = "this root is the volume's, and the sample that of base page 50";
+        format!("{why}: if {right}, ask for {pages}, bytes {bytes} of came")
     }
 
     #[test]
     fn samples() {
-        let below = "page 18, number 2 of layer 1, has another hash for it";
+        let above = "page 18 has another hash for it";
         let [what, to_do] = sampled(2, &[0]);
         assert_eq!(what, "page 98 of the tree, number 50 of layer 2");
-        assert_eq!(to_do, format!("{below}, and leads to the root: ask for page 98 again"));
-        let not = "but doesn't lead to the root itself: ask for page";
+        let leads = format!("{above}, and leads to the root");
+        assert_eq!(to_do, asked(&leads, "page 98 again", "0 to 255"));
         // Its hash is damaged; it is damaged too, and so is page 2, in a hash of another page.
-        assert_eq!(sampled(2, &[256 + 32 * 6])[1], format!("{below}, {not} 18 again first"));
-        assert_eq!(sampled(2, &[0, 3 * 256 + 255])[1], format!("{below}, {not} 2 again first"));
+        let not = format!("{above}, but doesn't lead to the root itself");
+        let first = asked(&not, "page 18 again first", "256 to 511");
+        assert_eq!(sampled(2, &[256 + 32 * 6])[1], first);
+        let first = asked(&not, "page 2 again first", "768 to 1023");
+        assert_eq!(sampled(2, &[0, 3 * 256 + 255])[1], first);
         let [what, to_do] = sampled(1, &[2 * 256]);
         assert_eq!(what, "page 26 of the tree, number 10 of layer 1");
-        let above = "page 2, number 2 of layer 0, has";
-        let leads = "another hash for it, and leads to the root: ask for page 26 again";
-        assert_eq!(to_do, format!("{above} {leads}"));
+        let leads = "page 2 has another hash for it, and leads to the root";
+        assert_eq!(to_do, asked(leads, "page 26 again", "512 to 767"));
         assert_eq!(sampled(1, &[256])[0], "page 18 of the tree, number 2 of layer 1");
+    }
+
+    #[test]
+    fn two_pages_of_a_sample() {
         let [what, to_do] = sampled(1, &[3 * 256, 3 * 256 + 64]);
         assert_eq!(what, "pages 18 and 26 of the tree, numbers 2 and 10 of layer 1");
-        assert_eq!(to_do, format!("{above} other hashes for them, {not} 2 again first"));
+        let not = "page 2 has other hashes for them, but doesn't lead to the root itself";
+        assert_eq!(to_do, asked(not, "page 2 again first", "768 to 1023"));
+        let leads = "page 2 has other hashes for them, and leads to the root";
+        let both = asked(leads, "pages 18 and 26 again", "256 to 767");
+        assert_eq!(sampled(1, &[256 + 255, 2 * 256])[1], both);
     }
 
     #[test]
     fn samples_at_the_root() {
-        let right = "if this root is the volume's, and the sample that of base page 50, ask for";
         let [what, to_do] = sampled(0, &[4 * 256]);
         assert_eq!(what, "page 6 of the tree, number 6 of layer 0");
-        assert_eq!(to_do, format!("the root has another hash for it: {right} page 6 again"));
+        let root = "the root has another hash for it";
+        assert_eq!(to_do, asked(root, "page 6 again", "1024 to 1279"));
         assert_eq!(sampled(0, &[3 * 256 + 255])[0], "page 2 of the tree, number 2 of layer 0");
         let [what, to_do] = sampled(0, &[3 * 256 + 255, 4 * 256]);
         assert_eq!(what, "pages 2 and 6 of the tree, numbers 2 and 6 of layer 0");
-        assert_eq!(
-            to_do,
-            format!("the root has other hashes for them: {right} pages 2 and 6 again")
-        );
+        let root = "the root has other hashes for them";
+        assert_eq!(to_do, asked(root, "pages 2 and 6 again", "768 to 1279"));
     }
 
     /// The proof of layer 2, equation 17, which has 1, 3, 32 and 33, with 32 withheld; these bytes after its head are
@@ -233,29 +259,38 @@ mod tests {
             proof.extend_from_slice(&tree[256 * place..][..256]);
         }
         changed.iter().for_each(|at| proof[12 + at] ^= 1);
-        lines(of_proof(Stop::WrongHash { layer, position }, 3, &root, &table, &proof))
+        let (proof, position) = (File { name: "came", bytes: &proof }, Some(position));
+        lines(of_proof(Stop::WrongHash { layer, position }, 3, &root, &table, proof))
     }
 
     #[test]
     fn proofs() {
+        let asked = |why: &str, page, bytes| {
+            let right = "this root and this table are the volume's";
+            format!("{why}: if {right}, ask for page {page}, bytes {bytes} of came")
+        };
+        let another = |page| format!("page {page} has another hash for it");
+        let leads = |page| format!("{}, and leads to the root", another(page));
         let [what, to_do] = proved(2, 1, &[3 * 256]);
         assert_eq!(what, "page 51 of the tree, number 3 of layer 2, a given member");
-        let leads = "has another hash for it, and leads to the root: ask for page";
-        assert_eq!(to_do, format!("page 19, number 3 of layer 1, {leads} 51 again"));
+        assert_eq!(to_do, asked(&leads(19), "51 again", "780 to 1035"));
+        let not = format!("{}, but doesn't lead to the root itself", another(17));
+        let [_, to_do] = proved(2, 2, &[6 * 256, 8 * 256]);
+        assert_eq!(to_do, asked(&not, "1 again first", "2060 to 2315"));
         let [what, to_do] = proved(1, 2, &[7 * 256]);
         assert_eq!(what, "page 17 of the tree, number 1 of layer 1, in the path of member 33");
-        assert_eq!(to_do, format!("page 1, number 1 of layer 0, {leads} 17 again"));
+        assert_eq!(to_do, asked(&leads(1), "17 again", "1804 to 2059"));
         let withheld = "in the path of the withheld member 32";
         let [what, to_do] = proved(1, 3, &[9 * 256]);
         assert_eq!(what, format!("page 16 of the tree, number 0 of layer 1, {withheld}"));
-        assert_eq!(to_do, format!("page 0, number 0 of layer 0, {leads} 16 again"));
-        let root = "the root has another hash for it: if this root is the volume's, ask for page";
+        assert_eq!(to_do, asked(&leads(0), "16 again", "2316 to 2571"));
+        let root = "the root has another hash for it";
         let [what, to_do] = proved(0, 3, &[10 * 256]);
         assert_eq!(what, format!("page 0 of the tree, number 0 of layer 0, {withheld}"));
-        assert_eq!(to_do, format!("{root} 0 again"));
+        assert_eq!(to_do, asked(root, "0 again", "2572 to 2827"));
         let [what, to_do] = proved(0, 1, &[5 * 256]);
         assert_eq!(what, "page 3 of the tree, number 3 of layer 0, in the path of member 3");
-        assert_eq!(to_do, format!("{root} 3 again"));
+        assert_eq!(to_do, asked(root, "3 again", "1292 to 1547"));
     }
 
     /// Where the library's answer and the bytes don't agree, or it is another stop, nothing is said here.
@@ -263,11 +298,15 @@ mod tests {
     fn nothing_is_made_up() {
         let (table, tree, root) = coded();
         let sample = [&tree[256 * 98..][..256], &[0; 1024]].concat();
-        let at = |layer| Stop::WrongHash { layer, position: 0 };
-        assert!(of_sample(at(3), 3, 50, &root, &sample).is_none());
-        assert!(of_sample(Stop::NoFault, 3, 50, &root, &sample).is_none());
-        assert!(of_sample(at(2), 6, 50, &root, &sample).is_none());
-        assert!(of_proof(at(0), 3, &root, &table, &[]).is_none());
-        assert!(of_proof(Stop::WrongHead, 3, &root, &table, &[0; 268]).is_none());
+        let file = |bytes| File { name: "came", bytes };
+        let at = |layer, position| Stop::WrongHash { layer, position };
+        let of_sample = |stop, depth| of_sample(stop, depth, 50, &root, file(&sample));
+        assert!(of_sample(at(3, None), 3).is_none());
+        assert!(of_sample(Stop::NoFault, 3).is_none());
+        assert!(of_sample(at(2, None), 6).is_none());
+        let of_proof = |stop, proof| of_proof(stop, 3, &root, &table, file(proof));
+        assert!(of_proof(at(0, Some(0)), &[]).is_none());
+        assert!(of_proof(at(0, None), &[0; 268]).is_none());
+        assert!(of_proof(Stop::WrongHead, &[0; 268]).is_none());
     }
 }

@@ -4,7 +4,7 @@ use super::{told, Done};
 use crate::arguments::{decimal, Arguments};
 use crate::input::{stopped, Reader};
 use crate::kind::Kind;
-use crate::paths;
+use crate::paths::{self, File};
 
 pub fn run(arguments: &Arguments) -> Done {
     let [depth, root, table, proof] = arguments.take()?;
@@ -14,7 +14,8 @@ pub fn run(arguments: &Arguments) -> Done {
     let table = reader.read(table, Kind::Table)?;
     let proof = reader.read(proof, Kind::Proof)?;
     let inputs = [&root, &table, &proof];
-    let broken = |stop| paths::of_proof(stop, depth, &root.bytes, &table.bytes, &proof.bytes);
+    let file = File { name: &proof.name, bytes: &proof.bytes };
+    let broken = |stop| paths::of_proof(stop, depth, &root.bytes, &table.bytes, file);
     cedunmi::check_proof(depth, &root.bytes, &table.bytes, &proof.bytes)
         .map_err(|stop| broken(stop).unwrap_or_else(|| stopped(stop, depth, &inputs)))?;
     told(arguments, "accepted: the volume with this root was not coded as this table says")

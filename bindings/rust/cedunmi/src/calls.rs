@@ -1,7 +1,7 @@
 //! The calls. What a call writes is made with the length that its depth asks; of a depth that there is not
 //! it is empty, and the call names the depth.
 
-use crate::result::{done, ended};
+use crate::result::{done, ended, sample_done};
 use crate::{Depth, Repaired, Stop, DIGEST_BYTES, ROOT_BYTES};
 use cedunmi_sys as library;
 
@@ -62,7 +62,7 @@ pub fn take_sample(depth: u64, number: u64, tree: &[u8], marks: &[u8]) -> Result
 
 /// Checks a sample of a base symbol against the root. Where a hash does not lead to it, the layer is told.
 pub fn check_sample(depth: u64, number: u64, root: &[u8], sample: &[u8]) -> Result<(), Stop> {
-    done(library::cmt_sample_check(depth, number, root, sample))
+    sample_done(library::cmt_sample_check(depth, number, root, sample))
 }
 
 /// Checks a fault proof against the root and the table: accepted, the volume with this root was not coded as

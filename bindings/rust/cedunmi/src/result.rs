@@ -20,11 +20,19 @@ pub fn done(result: u64) -> Result<(), Stop> {
         4 => Stop::WrongMark { place: value },
         5 => Stop::WrongNumber,
         6 => Stop::WrongHead,
-        7 => Stop::WrongHash { layer: value, position: second },
+        7 => Stop::WrongHash { layer: value, position: Some(second) },
         8 => Stop::NoFault,
         9 => Stop::Absent { number: value },
         10 => Stop::Uncovered { layer: value, symbol: second },
         _ => Stop::Unknown { result },
+    })
+}
+
+/// The same of the check of a sample, which has no positions.
+pub fn sample_done(result: u64) -> Result<(), Stop> {
+    done(result).map_err(|stop| match stop {
+        Stop::WrongHash { layer, .. } => Stop::WrongHash { layer, position: None },
+        stop => stop,
     })
 }
 
@@ -50,6 +58,7 @@ pub fn ended(result: u64, mut output: Vec<u8>) -> Result<Repaired, Stop> {
 #[cfg(test)]
 mod tests {
     use super::*;
+    use std::iter;
 
     /// The values of a stop, as many as it has.
     fn values(stop: Stop) -> Vec<u64> {
@@ -57,8 +66,8 @@ mod tests {
             Stop::WrongTable { word: value }
             | Stop::WrongMark { place: value }
             | Stop::Absent { number: value } => vec![value],
-            Stop::WrongHash { layer, position: second }
-            | Stop::Uncovered { layer, symbol: second } => vec![layer, second],
+            Stop::WrongHash { layer, position } => iter::once(layer).chain(position).collect(),
+            Stop::Uncovered { layer, symbol } => vec![layer, symbol],
             _ => Vec::new(),
         }
     }
@@ -77,6 +86,17 @@ mod tests {
         assert_eq!(done(0), Ok(()));
         assert_eq!(done(11), Err(Stop::Unknown { result: 11 }));
         assert_eq!(done(255), Err(Stop::Unknown { result: 255 }));
+    }
+
+    /// 7 of a sample has the layer alone; all else is as of other calls.
+    #[test]
+    fn samples_have_no_position() {
+        let result = |number: u64| 3 << 32 | 2 << 8 | number;
+        assert_eq!(done(result(7)), Err(Stop::WrongHash { layer: 2, position: Some(3) }));
+        assert_eq!(sample_done(result(7)), Err(Stop::WrongHash { layer: 2, position: None }));
+        for number in (0..=255).filter(|number| *number != 7) {
+            assert_eq!(sample_done(result(number)), done(result(number)));
+        }
     }
 
     #[test]

@@ -21,10 +21,10 @@ pub enum Stop {
     WrongHead,
     /// The first layer, going up, with a symbol whose hash is not the one that the symbol above it, or the root, has
     /// for it: in a sample either of its symbols, in a proof the one on the way up from the member at this position,
-    /// the first such member. The withheld one comes after all that are given. Of a sample the position is 0.
+    /// the first such member. The withheld one comes after all that are given. A sample has no position.
     WrongHash {
         layer: u64,
-        position: u64,
+        position: Option<u64>,
     },
     NoFault,
     /// The index in the sample of the first that is absent, or, reading a block, its base number.
@@ -77,8 +77,9 @@ impl fmt::Display for Stop {
                 write!(f, ": word {word} is the first wrong one, or the table ends there")
             }
             Stop::WrongMark { place } => write!(f, ": that of page {place} is the lowest such"),
-            Stop::WrongHash { layer, position } => {
-                write!(f, ": layer {layer}; in a proof, position {position}")
+            Stop::WrongHash { layer, position: None } => write!(f, ": layer {layer}"),
+            Stop::WrongHash { layer, position: Some(position) } => {
+                write!(f, ": layer {layer}, position {position}")
             }
             Stop::Absent { number } => write!(f, ": number {number}"),
             Stop::Uncovered { layer, symbol } => {

@@ -19,7 +19,7 @@ fn a_volume_goes_round() {
         assert_eq!(cedunmi::read_block(depth, &coded.tree, &coded.marks), Ok(volume));
         let sample = cedunmi::take_sample(depth, 13, &coded.tree, &coded.marks).expect("a sample");
         assert_eq!(cedunmi::check_sample(depth, 13, &coded.root, &sample), Ok(()));
-        let broken = Err(Stop::WrongHash { layer: 0, position: 0 });
+        let broken = Err(Stop::WrongHash { layer: 0, position: None });
         assert_eq!(cedunmi::check_sample(depth, 12, &coded.root, &sample), broken);
         for i in 0..2 * depth as usize - 1 {
             let place = Depth::new(depth).expect("a depth").sampled_place(13, i);
@@ -67,7 +67,7 @@ fn samples_say_where_they_break() {
         let layer_of = |index: usize| depth - 1 - (index as u64 + 1) / 2;
         let breaks = |at, layer| {
             let found = cedunmi::check_sample(depth, 13, &coded.root, &damaged(&sample, at));
-            assert_eq!(found, Err(Stop::WrongHash { layer, position: 0 }), "byte {at}");
+            assert_eq!(found, Err(Stop::WrongHash { layer, position: None }), "byte {at}");
         };
         for index in 0..sample.len() / 256 {
             // The eighth hash is of no symbol in the sample.
@@ -99,7 +99,7 @@ fn proofs_say_where_they_break() {
     assert_eq!(cedunmi::check_proof(2, &root, &table, &proof), Ok(()));
     let breaks = |at, layer, position| {
         let found = cedunmi::check_proof(2, &root, &table, &damaged(&proof, 12 + at));
-        assert_eq!(found, Err(Stop::WrongHash { layer, position }), "byte {at}");
+        assert_eq!(found, Err(Stop::WrongHash { layer, position: Some(position) }), "byte {at}");
     };
     for (position, slot) in (0..).zip([2 / 4, 7 / 4, 30 / 4]) {
         let member = 512 * position as usize;
@@ -110,7 +110,7 @@ fn proofs_say_where_they_break() {
     breaks(512 * 3, 0, 3);
     breaks(512 * 3 + 255, 0, 3);
     let none = cedunmi::check_proof(2, &[0; 512], &table, &proof);
-    assert_eq!(none, Err(Stop::WrongHash { layer: 0, position: 0 }));
+    assert_eq!(none, Err(Stop::WrongHash { layer: 0, position: Some(0) }));
 }
 
 #[test]
