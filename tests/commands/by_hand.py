@@ -133,14 +133,13 @@ def sample(depth, number, tree):
     return b"".join(tree[PAGE * p:PAGE * (p + 1)] for p in sample_places(depth, number))
 
 
-def sample_way(depth, number, sample):
-    """The layers of a sample, going up: each with its number, and its pages with theirs, the data
-    page first."""
-    held = [sample[i:i + PAGE] for i in range(0, len(sample), PAGE)]
-    way = [(depth - 1, [(number, held.pop(0))])]
+def sample_way(depth, number):
+    """The layers of a sample, going up: each with its number, and the numbers of its pages, the
+    data page first, and the bytes of the sample that they begin at."""
+    way = [(depth - 1, [(number, 0)])]
     for j in reversed(range(depth - 1)):
-        k = 4 << j
-        way.append((j, [(number % k, held.pop(0)), (k + number % (3 * k), held.pop(0))]))
+        k, at = 4 << j, PAGE * (2 * (depth - 1 - j) - 1)
+        way.append((j, [(number % k, at), (k + number % (3 * k), at + PAGE)]))
     return way
 
 
@@ -148,22 +147,23 @@ def proof_ways(table, proof):
     """The members of a proof in its order, the withheld one last: what is said of the pages of its
     path, and its way up, as of a sample."""
     layer, equation, withheld = [word & (1 << 30) - 1 for word in struct.unpack(">3I", proof[:12])]
-    held = [proof[i:i + PAGE] for i in range(12, len(proof), PAGE)]
-    for i in [i for i in equations_of(table)[layer][equation] if i != withheld]:
-        way = [(layer, [(i, held.pop(0))])]
-        way += [(j, [(i % (4 << j), held.pop(0))]) for j in reversed(range(layer))]
-        yield "member %d" % i, way
-    path = [(j, [(withheld % (4 << j), held.pop(0))]) for j in reversed(range(layer))]
-    yield "the withheld member %d" % withheld, path
+    others = [i for i in equations_of(table)[layer][equation] if i != withheld]
+    for position, i in enumerate(others + [withheld]):
+        own = [] if i == withheld else [(layer, i)]
+        way = own + [(j, i % (4 << j)) for j in reversed(range(layer))]
+        at = 12 + PAGE * position * (layer + 1)
+        yield ("the withheld member %d" if i == withheld else "member %d") % i, [
+            (j, [(number, at + PAGE * step)]) for step, (j, number) in enumerate(way)]
 
 
-def unfit(way, root):
-    """Of each layer of a way up the numbers of the pages whose hash the data page of the next, or
+def unfit(way, root, data):
+    """Of each layer of a way up the pages of these bytes whose hash the data page of the next, or
     the root, does not have for them."""
-    above = [held[0][1] for _, held in way[1:]] + [root]
+    above = [data[held[0][1]:][:PAGE] for _, held in way[1:]] + [root]
     for (layer, held), hashes in zip(way, above):
         s = pages(layer) // 8 if layer else 1
-        yield [i for i, page in held if digest(page) != hashes[32 * (i // s):][:32]]
+        yield [(i, at) for i, at in held
+               if digest(data[at:at + PAGE]) != hashes[32 * (i // s):][:32]]
 
 
 def listed(word, numbers):
@@ -171,42 +171,51 @@ def listed(word, numbers):
     return word + "s" * (len(numbers) > 1) + " " + " and ".join(map(str, numbers))
 
 
-def broken(way, root, whose, right):
-    """What is said of a way up that breaks, or None: where it does, the page above, and which page
-    to ask for again."""
-    wrong = list(unfit(way, root))
-    at = next((at for at, numbers in enumerate(wrong) if numbers), None)
+def places(layer, some):
+    """Pages of a layer, each with its number first, by their places in the tree."""
+    return listed("page", [first(layer) + page[0] for page in some])
+
+
+def to_ask(way, wrong, right):
+    """What is said of the page above a break, and which to ask for again: the topmost that does not
+    fit. The way up starts at the break; of each of its layers there are the pages that do not fit."""
+    hashes = "other hashes for them" if len(wrong[0]) > 1 else "another hash for it"
+    above = [(layer, held[0]) for layer, held in way[1:]]
+    higher = [(layer, [page]) for (layer, page), bad in zip(above, wrong[1:]) if page in bad]
+    layer, asked = higher[-1] if higher else (way[0][0], wrong[0])
+    leads = ", but doesn't lead to the root itself" if higher else ", and leads to the root"
+    return "%s has %s%s: if %s, ask for %s again%s, bytes %d to %d of damaged" % (
+        places(above[0][0], above[0][1:]) if above else "the root", hashes, leads * bool(above),
+        right, places(layer, asked), " first" * bool(higher), asked[0][1],
+        asked[-1][1] + PAGE - 1)
+
+
+def broken(way, root, data, whose, right):
+    """What is said of a way up that breaks, or None."""
+    wrong = list(unfit(way, root, data))
+    at = next((at for at, some in enumerate(wrong) if some), None)
     if at is None:
         return None
-    layer, numbers = way[at][0], wrong[at]
-    those = listed("page", [first(layer) + i for i in numbers])
-    hashes = "other hashes for them" if len(numbers) > 1 else "another hash for it"
-    rest = [(j, held[0][0], held[0][0] in bad) for (j, held), bad in zip(way, wrong)][at + 1:]
-    bad = [first(j) + i for j, i, does_not_fit in rest if does_not_fit]
-    if not rest:
-        to_do = "the root has %s: if %s, ask for %s again" % (hashes, right, those)
-    else:
-        to_do = "page %d, number %d of layer %d, has %s, " % (
-            first(rest[0][0]) + rest[0][1], rest[0][1], rest[0][0], hashes)
-        to_do += ("but doesn't lead to the root itself: ask for page %d again first" % bad[-1]
-                  if bad else "and leads to the root: ask for %s again" % those)
+    layer, some = way[at][0], wrong[at]
     return ("cedunmi: a hash doesn't lead to the root: %s of the tree, %s of layer %d%s "
             "(number 7: cedunmi explain 7)\ncedunmi: %s\n" % (
-                those, listed("number", numbers), layer, whose(layer), to_do))
+                places(layer, some), listed("number", [page[0] for page in some]), layer,
+                whose(layer), to_ask(way[at:], wrong[at:], right)))
 
 
 def broken_sample(depth, number, root, sample):
-    """What is said of a sample that breaks, or None."""
+    """What is said of a sample in the file damaged that breaks, or None."""
     right = "this root is the volume's, and the sample that of base page %d" % number
-    return broken(sample_way(depth, number, sample), root, lambda layer: "", right)
+    return broken(sample_way(depth, number), root, sample, lambda layer: "", right)
 
 
 def broken_proof(root, table, proof):
-    """What is said of a proof that breaks, or None: of the first member with a way up that does."""
+    """What is said of a proof in the file damaged that breaks, or None: of the first member with a
+    way up that does."""
     layer = proof[3]
     for member, way in proof_ways(table, proof):
-        said = broken(way, root, lambda j: ", a given member" if j == layer else
-                      ", in the path of " + member, "this root is the volume's")
+        said = broken(way, root, proof, lambda j: ", a given member" if j == layer else
+                      ", in the path of " + member, "this root and this table are the volume's")
         if said:
             return said
     return None

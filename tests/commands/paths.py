@@ -70,6 +70,34 @@ def test_two_pages(room):
         sample_broken(room, coded, 5, by_hand.sample(depth, 5, coded.tree))
 
 
+def test_other_numbers(room):
+    """A sample under each number that is not its own: it breaks at any layer, and what is to be
+    asked for depends on the number in each."""
+    coded = Coded(5, 21).lay()
+    sample = by_hand.sample(5, 200, coded.tree)
+    told = [sample_broken(room, coded, i, sample) for i in range(256) if i != 200]
+    for layer, count in enumerate((3, 4, 8, 16, 224)):
+        lines = [said for said in told if " of layer %d (number 7" % layer in said]
+        need(len(lines) == count, "layer", layer, len(lines))
+        need(all("the sample that of base page " in said for said in lines), "layer", layer)
+
+
+def test_other_tables(room):
+    """A proof by another table, which has members whose hashes stand in other slots: it breaks at
+    its own layer, and what is to be asked for depends on the table."""
+    for depth in DEPTHS:
+        base, equations = depth - 1, by_hand.house_equations(depth)
+        coded = Coded(depth, 22).lay()
+        members = equations[base][9]
+        proof = coded.repair().prove(base, 9, members[-1], members[:-1])
+        data = sorted((i + (2 << base)) % (4 << base) for i in members[:2])
+        equations[base][9] = data + members[2:]
+        coded.table = by_hand.table_of(equations)
+        put("table", coded.table)
+        lines = proof_broken(room, coded, proof)
+        need("layer %d, a given member" % base in lines and "this table are" in lines, lines)
+
+
 def test_proofs(room):
     """Each page of a proof with a byte changed in each hash: members, paths, the withheld one's."""
     chance, told = random.Random(5), []
