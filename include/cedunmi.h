@@ -349,8 +349,11 @@ uint64_t cmt_sample_take(uint64_t depth, uint64_t number,
  *                   layer, going up from the base, that has a page in the sample
  *                   whose hash is not the one that the sample's data page of the
  *                   next layer up, or of layer 0 the root, has for it: its data
- *                   page, its parity page, or both. Ask for what doesn't fit
- *                   again; where it comes as it was, for the page above it.
+ *                   page, its parity page, or both: hash the two to see which.
+ *                   If root and number are the right ones, ask again first for
+ *                   the topmost page that doesn't fit, of these and the data
+ *                   pages above them: the page above it leads to the root, so
+ *                   it is wrong, unless two pages of equal SHA-256 came together.
  */
 CMT_CHECKED
 uint64_t cmt_sample_check(uint64_t depth, uint64_t number,
@@ -381,8 +384,9 @@ uint64_t cmt_sample_check(uint64_t depth, uint64_t number,
  *                   the page above it in the path, or of layer 0 the root, has
  *                   for it. It is the head's layer where that is the given
  *                   member itself, and less on its path; the withheld one has
- *                   a path alone, which starts one layer up. Ask for that page
- *                   again; where it comes as it was, for the page above it.
+ *                   a path alone, which starts one layer up. If root and table
+ *                   are the right ones, ask again first for the topmost page on
+ *                   this way up that doesn't fit, as for cmt_sample_check().
  * CMT_NO_FAULT      the hashes are equal.
  */
 CMT_CHECKED

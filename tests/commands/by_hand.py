@@ -178,7 +178,7 @@ def places(layer, some):
 
 def to_ask(way, wrong, right):
     """What is said of the page above a break, and which to ask for again: the topmost that does not
-    fit. The way up starts at the break; of each of its layers there are the pages that do not fit."""
+    fit. The way up starts there; of each of its layers there are the pages that do not fit."""
     hashes = "other hashes for them" if len(wrong[0]) > 1 else "another hash for it"
     above = [(layer, held[0]) for layer, held in way[1:]]
     higher = [(layer, [page]) for (layer, page), bad in zip(above, wrong[1:]) if page in bad]
