@@ -155,7 +155,7 @@ pub extern "C" fn cmt_sample_take(
     call_result(sample_calls::take(depth as usize, number as usize, tree, marks, sample))
 }
 
-// Checks a sample of a base symbol against the root. 1: the depth; 2: a length; 5: the number; 7: a hash doesn't lead to the root.
+// Checks a sample of a base symbol against the root. 1: the depth; 2: a length; 5: the number; 7: the layer at which it breaks.
 #[no_mangle]
 pub extern "C" fn cmt_sample_check(depth: u64, number: u64, root: &[u8], sample: &[u8]) -> u64
     ensures { λ r. ⌜ r ≡ callResult (sampleChecked depth number (now (root .entry)) (now (sample .entry))) ⌝ }
@@ -164,7 +164,7 @@ pub extern "C" fn cmt_sample_check(depth: u64, number: u64, root: &[u8], sample:
 }
 
 // Checks a fault proof against a root and a table. 0: a fault is shown; 1: the depth; 2: a length; 3: the table's first wrong word;
-// 10: its first uncovered layer and symbol; 6: the head; 7: a hash doesn't lead to the root; 8: the withheld hash fits.
+// 10: its first uncovered layer and symbol; 6: the head; 7: the layer and the position at which it breaks; 8: the withheld hash fits.
 #[no_mangle]
 pub extern "C" fn cmt_proof_check(depth: u64, root: &[u8], table: &[u8], proof: &[u8]) -> u64
     ensures { λ r. ⌜ r ≡ callResult (proofChecked depth (now (root .entry)) (now (table .entry)) (now (proof .entry))) ⌝ }
