@@ -75,6 +75,7 @@ pub static PROOF_CHECK: Call = Call {
         ("7", 10_000),
         ("8", 5000),
         ("10", 1000),
+        ("nothing damaged", 300),
         ("a symbol damaged", 3000),
         ("one of some copies", 1000),
         ("two symbols damaged", 1600),

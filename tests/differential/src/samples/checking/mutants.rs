@@ -123,7 +123,6 @@ named!(layer_below, |broken| broken[0].layer + 1);
 named!(layer_counted_from_the_base, |broken| broken[0].depth - 1 - broken[0].layer);
 named!(index_in_the_sample, |broken| broken[0].index);
 named!(layer_of_the_base, |broken| broken[0].depth - 1);
-named!(layer_of_the_root, |_| 0);
 named!(only_data_names_a_layer, |broken| first_of(broken, |look| !look.is_parity()));
 named!(only_parity_names_a_layer, |broken| first_of(broken, Look::is_parity));
 named!(layers_of_parity_one_off, |broken| { broken[0].layer + usize::from(broken[0].is_parity()) });
