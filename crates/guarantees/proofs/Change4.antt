@@ -1,7 +1,7 @@
 -- CR 4: where a path breaks, of both checkers. Their tests are known (`Refusals`, `FaultProofs`); below is what they say of 7.
 use mathlib.Core.Path.{_≡_, refl, sym, ap, _∙_, subst}
 use mathlib.Core.Bool.{true}
-use mathlib.Core.Logic.{_⊎_, _↔_, _≢_, inl, inr, ⊎-elim}
+use mathlib.Core.Logic.{_⊎_, _↔_, inl, inr, ⊎-elim}
 use mathlib.Core.List.{List}
 use Prim.Native.Nat.{ℕ, suc, _+_, _-_, _*_, _≤_, _<_}
 use native.Mathlib.Nat.{mul-le-mul-right}
@@ -24,7 +24,7 @@ use Rattle.calls.specs.Stops.{numberOf, valuesOf}
 use Rattle.calls.specs.Lengths.{rootSized, sampleSized}
 use Rattle.sample_calls.specs.Checking.{checkSized}
 use Rattle.fault_calls.specs.Checking.{proofSized, proofChecked}
-use Rattle.guarantees.specs.Layouts.{bytesFrom, allSymbols, upFrom}
+use Rattle.guarantees.specs.Layouts.{bytesFrom, allSymbols, sampledLayer, upFrom}
 use Rattle.guarantees.specs.Answers.{Answered, Answers, done, test, fails, holds, unless, one}
 use Rattle.guarantees.specs.Tables.{TableRight}
 use Rattle.guarantees.specs.Refusals.{DepthRight, RootLength, SampleLength, InBase, SampleBreaks, sampleTests}
@@ -33,13 +33,13 @@ use Rattle.guarantees.specs.Trees.{members, AgreesWith}
 use Rattle.guarantees.specs.Demand3.{ProofCollides}
 use Rattle.guarantees.specs.Demand2.{SampleReady}
 use Rattle.guarantees.specs.Terms.{equationsOf}
-use Rattle.guarantees.specs.Change4.{WayHasThere, Change4}
+use Rattle.guarantees.specs.Change4.{WayPage, Change4}
 use Rattle.guarantees.proofs.Answers.{never, done-never, past, past-so, left}
 use Rattle.guarantees.proofs.Tables.{right-formed}
-use Rattle.guarantees.proofs.ProofHeads.{named-fitting, length-named, named-ok, ok-named}
+use Rattle.guarantees.proofs.ProofHeads.{Fitting, named-fitting, length-named, named-ok, ok-named}
 use Rattle.guarantees.proofs.Passing.{decided, Stable, past-words, past-words-so, left-words, Front, depth-stable, lengths-front, both-stable}
 use Rattle.guarantees.proofs.Refusals.{depth-fits, refusals}
-use Rattle.guarantees.proofs.Pages.{up-low, sample-fits, sample-alone, way-fits-there, way-alone}
+use Rattle.guarantees.proofs.Pages.{up-low, sample-fits, sample-alone, way-page}
 use Rattle.guarantees.proofs.FaultProofs.{from8, from7, leads-or-breaks, breaks-as, never-both, fault-proofs, lengths-own, own-lengths}
 
 -- ---- samples
@@ -203,80 +203,60 @@ module _ (d : ℕ) (root table b : List ℕ) where
       let k′ = breaks-as d tbl b (r .depth-right .1) (rules (r .depth-right) (r .table-right)) (r .named) h root l p k in
       ⊎-elim (λ (q, w). (omega (arith, w .on-way), q)) (λ (q, a, w). absurd (omega arith)) (k′ .breaks)
 
-  -- the page that breaks, or the one above it
-  module _ (l p : ℕ) (h : Named d tbl b) (k : ProofBreaks root h l p) (o : TableOk d tbl) (shallow : d ≤ 5) (tb : List (List (List ℕ))) (f : ℕ → ℕ → List ℕ) (agr : AgreesWith d tb root f) where
+  -- ---- which page to ask for again
+
+  module _ (r : ProofReady d root table b) (tb : List (List (List ℕ))) (f : ℕ → ℕ → List ℕ) (agr : AgreesWith d tb root f) where
+    abbrev h : Named d tbl b
+    h = r .named
+
     abbrev j : ℕ
     j = h .layer
 
-    given-page : p < length (given h) → WayHasThere j (getD (given h) p 0) (givenSymbol b j p) f l → ⊥
-    unfolding kOf nOf
-    given-page q t =
-        ⊎-elim
-        (λ (a, w).
-        let z = named-fitting d tbl b shallow o h in
-        let below = every-below (nOf j) (given h) (subst (λ ys. every (λ y. ltb y (nOf j)) ys ≡ true) (z .given-are) (z .given-below)) p q in
-        w .broken (way-fits-there d tb root f agr j (getD (given h) p 0) (givenSymbol b j p) l (w .on-way) (h .has-layer)
-        (up-low j (getD (given h) p 0) l (j - l) (omega (arith, w .on-way))
-        (λ e. let q : j ≡ l = omega (arith, w .on-way) in subst (λ (n : ℕ). getD (given h) p 0 < allSymbols n) q below)) t))
-        (λ (a, c, w). omega arith) (k .breaks)
+    abbrev g : ℕ
+    g = length (given h)
 
-    withheld-page : p ≡ length (given h) → WayHasThere j (h .withheld) (withheldSymbol b j p) f l → ⊥
-    withheld-page q t =
-        ⊎-elim (λ (a, w). omega arith)
-        (λ (a, c, w).
-        let there = subst (λ (g : ℕ). WayHasThere j (h .withheld) (withheldSymbol b j g) f l) q t in
-        w .broken (way-fits-there d tb root f agr j (h .withheld) (withheldSymbol b j (length (given h))) l (omega (arith, w .on-way)) (h .has-layer)
-        (up-low j (h .withheld) l (j - l) (omega (arith, w .on-way)) (λ e. absurd (omega (arith, w .on-way)))) there))
-        (k .breaks)
+    fitting : Fitting tbl j (h .equation) (h .withheld) (h .front) (h .back)
+    fitting = named-fitting d tbl b (r .depth-right .1) (rules (r .depth-right) (r .table-right)) h
 
-    -- where those above it have the committed hashes
-    on-way : l ≤ j
-    on-way = ⊎-elim (λ (a, w). w .on-way) (λ (a, c, w). omega (arith, w .on-way)) (k .breaks)
+    count : (length (members tbl j (h .equation)) - 1) * (j + 1) ≡ g * (j + 1)
+    unfolding layerOf equationOf
+    count = ap (λ (n : ℕ). n * (j + 1)) (fitting .given-count)
 
-    module _ (x : Exact h) where
-      count : (length (members tbl j (h .equation)) - 1) * (j + 1) ≡ length (given h) * (j + 1)
-      unfolding layerOf equationOf
-      count = ap (λ (n : ℕ). n * (j + 1)) (named-fitting d tbl b shallow o h .given-count)
+    given-page : (p l : ℕ) → p < g → l ≤ j
+        → WayPage j (getD (given h) p 0) (givenSymbol b j p) (λ i. GivenFits root h p (j - i)) f (ProofCollides d table b f) l
+    unfolding kOf nOf givenSymbol bytesFrom
+    given-page p l q on =
+        let y : ℕ = getD (given h) p 0 in
+        let below = every-below (nOf j) (given h) (subst (λ ys. every (λ y. ltb y (nOf j)) ys ≡ true) (fitting .given-are) (fitting .given-below)) p q in
+        way-page d tb root f agr j y (givenSymbol b j p) (h .has-layer) l on
+        (up-low j y l (j - l) (omega arith) (λ e. let z : j ≡ l = omega arith in subst (λ (n : ℕ). y < allSymbols n) z below))
+        (λ u c. length-part b (12 + 256 * (p * (j + 1) + (j - u))) 256 (omega (arith, r .exact, count, mul-le-mul-right {m = suc p} {n = g} (j + 1) q)))
+        (λ (u, c, low, twins). record {
+          named = h;
+          layer = u;
+          number = upFrom j y (j - u);
+          held = givenSymbol b j p (j - u);
+          holds = inl (p, j - u, q, (omega arith, omega arith, refl), refl);
+          in-tree = (omega (arith, h .has-layer), low);
+          collide = twins;
+        })
 
-      given-alone : p < length (given h) → ((i : ℕ) → i < l → GivenFits root h p (j - i))
-          → (givenSymbol b j p (j - l) ≢ f l (upFrom j (getD (given h) p 0) (j - l))) ⊎ ProofCollides d table b f
-      unfolding givenSymbol bytesFrom
-      given-alone q fit =
-          let y : ℕ = getD (given h) p 0 in
-          ⊎-elim inl
-          (λ (u, c, low, twins). inr (record {
-            named = h;
-            layer = u;
-            number = upFrom j y (j - u);
-            held = givenSymbol b j p (j - u);
-            holds = inl (p, j - u, q, (omega arith, omega (arith, on-way), refl), refl);
-            in-tree = (omega (arith, on-way, h .has-layer), low);
-            collide = twins;
-          }))
-          (way-alone d tb root f agr j y (givenSymbol b j p) (h .has-layer) l on-way
-          (λ u c. length-part b (12 + 256 * (p * (j + 1) + (j - u))) 256 (omega (arith, x, count, mul-le-mul-right {m = suc p} {n = length (given h)} (j + 1) q)))
-          fit (given-page q))
-
-      withheld-alone : p ≡ length (given h) → ((i : ℕ) → i < l → PathFits root h (j - i))
-          → (withheldSymbol b j p (j - l) ≢ f l (upFrom j (h .withheld) (j - l))) ⊎ ProofCollides d table b f
-      unfolding withheldSymbol bytesFrom
-      withheld-alone q fit =
-          let g : ℕ = length (given h) in
-          let y : ℕ = h .withheld in
-          subst (λ (n : ℕ). (withheldSymbol b j n (j - l) ≢ f l (upFrom j y (j - l))) ⊎ ProofCollides d table b f) (sym q)
-          (⊎-elim inl
-          (λ (u, c, low, twins). inr (record {
-            named = h;
-            layer = u;
-            number = upFrom j y (j - u);
-            held = withheldSymbol b j g (j - u);
-            holds = inr (j - u, omega (arith, on-way), (omega arith, omega (arith, on-way), refl), refl);
-            in-tree = (omega (arith, on-way, h .has-layer), low);
-            collide = twins;
-          }))
-          (way-alone d tb root f agr j y (withheldSymbol b j g) (h .has-layer) l on-way
-          (λ u c. length-part b (12 + 256 * (g * (j + 1) + (j - u - 1))) 256 (omega (arith, x, count, on-way)))
-          fit (λ t. withheld-page q (subst (λ (n : ℕ). WayHasThere j y (withheldSymbol b j n) f l) (sym q) t))))
+    withheld-page : (l : ℕ) → l < j
+        → WayPage j (h .withheld) (withheldSymbol b j g) (λ i. PathFits root h (j - i)) f (ProofCollides d table b f) l
+    unfolding withheldSymbol bytesFrom
+    withheld-page l on =
+        let y : ℕ = h .withheld in
+        way-page d tb root f agr j y (withheldSymbol b j g) (h .has-layer) l (omega arith) (up-low j y l (j - l) (omega arith) (λ e. absurd (omega arith)))
+        (λ u c. length-part b (12 + 256 * (g * (j + 1) + (j - u - 1))) 256 (omega (arith, r .exact, count)))
+        (λ (u, c, low, twins). record {
+          named = h;
+          layer = u;
+          number = upFrom j y (j - u);
+          held = withheldSymbol b j g (j - u);
+          holds = inr (j - u, omega arith, (omega arith, omega arith, refl), refl);
+          in-tree = (omega (arith, h .has-layer), low);
+          collide = twins;
+        })
 
 pub change-4 : Change4
 change-4 =
@@ -288,22 +268,10 @@ change-4 =
       proof-stops = stops;
       proof-leads = leads;
       proof-of-top = top;
-      sample-page = λ d i root s l p e x h at wrong tbl f agr t.
-          let (r, k, z) = sample-found d i root s l p (refusals .sample-checker d i root s .answers 7 (l, p) .0 e) in
-          wrong (sample-fits d tbl root f agr i s (r .depth-right .0) (r .in-base) x h t);
-      proof-page = λ d root table b l p e h tb f agr.
-          let (r, k) = stops d root table b l p .0 e in
-          let o = rules d root table b (r .depth-right) (r .table-right) in
-          let k′ = breaks-as d (equationsOf table) b (r .depth-right .1) o (r .named) h root l p k in
-          (given-page d root table b l p h k′ o (r .depth-right .1) tb f agr, withheld-page d root table b l p h k′ o (r .depth-right .1) tb f agr);
-      sample-page-alone = λ d i root s l p e x h at wrong above tbl f agr.
-          let (r, k, z) = sample-found d i root s l p (refusals .sample-checker d i root s .answers 7 (l, p) .0 e) in
-          sample-alone d tbl root f agr i s (r .depth-right .0) (r .in-base) x h (r .sample-length) l at wrong above;
-      proof-page-alone = λ d root table b l p e h tb f agr.
-          let (r, k) = stops d root table b l p .0 e in
-          let dr = r .depth-right in
-          let o = rules d root table b dr (r .table-right) in
-          let k′ = breaks-as d (equationsOf table) b (dr .1) o (r .named) h root l p k in
-          let x = exact-of d root table b dr (r .table-right) h (of-exact d root table b dr (r .table-right) (r .named) (r .exact)) in
-          (given-alone d root table b l p h k′ o (dr .1) tb f agr x, withheld-alone d root table b l p h k′ o (dr .1) tb f agr x);
+      sample-page = λ d i root s r tbl f agr. record {
+        one-of-two = λ x h wrong t. wrong (sample-fits d tbl root f agr i s (r .depth-right .0) (r .in-base) x h t);
+        topmost = λ x h wrong above.
+            sample-alone d tbl root f agr i s (r .depth-right .0) (r .in-base) x h (r .sample-length) (sampledLayer d x) refl wrong above;
+      };
+      proof-page = λ d root table b r tb f agr. record { given-page = given-page d root table b r tb f agr; withheld-page = withheld-page d root table b r tb f agr };
     }

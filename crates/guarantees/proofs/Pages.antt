@@ -21,7 +21,7 @@ use Rattle.guarantees.specs.Layouts.{bytesFrom, symbolNo, dataSymbols, a
 use Rattle.guarantees.specs.Trees.{AgreesWith, Twins}
 use Rattle.guarantees.specs.Refusals.{SampleLength, InBase, SampleFits}
 use Rattle.guarantees.specs.Demand2.{SampleCollides}
-use Rattle.guarantees.specs.Change4.{SampleHasThere, WayHasThere}
+use Rattle.guarantees.specs.Change4.{SampleHasThere, WayHasThere, WayPage}
 use Rattle.guarantees.proofs.Layouts.{spread-is}
 use Rattle.guarantees.proofs.Refusals.{sampled-layer, sampled-number}
 
@@ -140,27 +140,28 @@ module _ (d : ℕ) (tbl : List (List (List ℕ))) (root : List ℕ) (f : ℕ →
         (fit u (omega arith))))
         t (omega arith))
 
-  -- ---- a symbol on the way up from symbol y of layer j: a number of its layer, and its hash
+  -- ---- a symbol on the way up from symbol y of layer j, whose symbol x layers up is s x
 
-  module _ (j y : ℕ) (s : ℕ → List ℕ) (l : ℕ) (hl : l ≤ j) (hj : j < d) (low : upFrom j y (j - l) < allSymbols l) where
-    pub way-fits-there : WayHasThere j y s f l → sha256 (s (j - l)) ≡ hashFor root (λ q n. s (j - q)) (j - (j - l)) (upFrom j y (j - l))
-    way-fits-there t =
+  module _ (j y : ℕ) (s : ℕ → List ℕ) (hj : j < d) where
+    -- it has the committed hash at layer l
+    abbrev WayFits : ℕ → Type 0
+    WayFits l = sha256 (s (j - l)) ≡ hashFor root (λ q n. s (j - q)) (j - (j - l)) (upFrom j y (j - l))
+
+    has-fits : (l : ℕ) → l ≤ j → upFrom j y (j - l) < allSymbols l → WayHasThere j y s f l → WayFits l
+    has-fits l hl low t =
         let e : l ≡ j - (j - l) = omega arith in
         subst (λ (q : ℕ). sha256 (s (j - l)) ≡ hashFor root (λ q n. s (j - q)) q (upFrom j y (j - l))) e
         (fits (λ q. s (j - q)) l (upFrom j y (j - l)) (s (j - l)) (omega arith) low (t .here)
         (λ u q. t .above u q ∙ ap (f u) (up-step j y u (omega arith) ∙ ap (λ (n : ℕ). upFrom j y (j - n) % spread n) q)))
 
-  -- where each symbol above has the committed hash, and it isn't so that both that of layer l and the one above are the tree's: that of layer l is not, or
-  -- one above it shows a collision
-  module _ (j y : ℕ) (s : ℕ → List ℕ) (hj : j < d) where
+    -- a symbol above layer l shows a collision
     abbrev pub Shown : ℕ → Type 0
     Shown l = (u : ℕ) × (u < l) × (upFrom j y (j - u) < allSymbols u) × Twins (s (j - u)) (f u (upFrom j y (j - u)))
 
-    pub way-alone : (l : ℕ) → l ≤ j → ((u : ℕ) → u < l → length (s (j - u)) ≡ 256)
-        → ((u : ℕ) → u < l → sha256 (s (j - u)) ≡ hashFor root (λ q n. s (j - q)) (j - (j - u)) (upFrom j y (j - u)))
-        → (WayHasThere j y s f l → ⊥) → (s (j - l) ≢ f l (upFrom j y (j - l))) ⊎ Shown l
-    way-alone zero hl sized fit wrong = inl (λ e. wrong (record { here = e; above = λ u q. absurd (omega arith) }))
-    way-alone (suc t) hl sized fit wrong =
+    alone : (l : ℕ) → l ≤ j → ((u : ℕ) → u < l → length (s (j - u)) ≡ 256) → ((u : ℕ) → u < l → WayFits u) → (WayHasThere j y s f l → ⊥)
+        → (s (j - l) ≢ f l (upFrom j y (j - l))) ⊎ Shown l
+    alone zero hl sized fit wrong = inl (λ e. wrong (record { here = e; above = λ u q. absurd (omega arith) }))
+    alone (suc t) hl sized fit wrong =
         let low : (u : ℕ) → u ≤ t → upFrom j y (j - u) < allSymbols u = λ u h. up-low j y u (j - u) (omega arith) (λ e. absurd (omega arith)) in
         ⊎-elim
         (λ e. inl (λ here. wrong (record {
@@ -173,3 +174,11 @@ module _ (d : ℕ) (tbl : List (List (List ℕ))) (root : List ℕ) (f : ℕ →
         let e : j - (j - u) ≡ u = omega arith in
         subst (λ (n : ℕ). sha256 (s (j - u)) ≡ hashFor root (λ q n. s (j - q)) n (upFrom j y (j - u))) e (fit u (omega arith)))
         t (omega arith))
+
+    pub way-page : (l : ℕ) → l ≤ j → upFrom j y (j - l) < allSymbols l → ((u : ℕ) → u < l → length (s (j - u)) ≡ 256)
+        → {collides : Type 0} → (Shown l → collides) → WayPage j y s WayFits f collides l
+    way-page l hl low sized shown =
+        record {
+          one-of-two = λ wrong t. wrong (has-fits l hl low t);
+          topmost = λ wrong fit. ⊎-elim inl (λ x. inr (shown x)) (alone l hl sized fit (λ t. wrong (has-fits l hl low t)));
+        }

@@ -4,7 +4,7 @@
 use mathlib.Core.Path.{_≡_}
 use mathlib.Core.Logic.{_⊎_, _↔_, _≢_}
 use mathlib.Core.List.{List}
-use Prim.Native.Nat.{ℕ, suc, _-_, _*_, _%_, _<_}
+use Prim.Native.Nat.{ℕ, suc, _-_, _*_, _%_, _≤_, _<_}
 use lib.ListN.{length, getD}
 use Rattle.calls.specs.Stops.{numberOf}
 use Rattle.sample_calls.specs.Checking.{sampleChecked}
@@ -18,17 +18,38 @@ use Rattle.guarantees.specs.Demand3.{ProofCollides}
 use Rattle.guarantees.specs.Terms.{equationsOf}
 use Rattle.guarantees.specs.Answers.{Answers}
 
--- ---- a tree's symbols, f, where a path breaks at layer l: the symbol that breaks, and the one above it, which has its hash. At layer 0 the root has it.
+-- ---- which page to ask for again; f is a tree that agrees with the root, by whichever table
 
--- symbol number x of a sample, and the sample's data symbol of the layer above
+-- A page that has another hash than the page above, or the root, has for it, or that page above, is not the tree's: so it is where 7 names a layer. And
+-- where each page above it has the hash that the next one, or the root, has for it, so that it is the topmost that hasn't, it is not the tree's, or the two
+-- hold, at one layer and number, two different symbols of equal SHA-256.
+
+-- symbol number x of a sample, and the sample's data symbol of the layer above, are f's
 pub record SampleHasThere (d i : ℕ) (s : List ℕ) (f : ℕ → ℕ → List ℕ) (x : ℕ) : Type 0 where
   pub here : symbolNo s x ≡ f (sampledLayer d x) (sampledNumber d i x)
   pub above : (u : ℕ) → suc u ≡ sampledLayer d x → symbolNo s (2 * (d - 1 - u) - 1) ≡ f u (i % dataSymbols u)
 
--- on a way up from symbol y of layer j, whose symbol x layers up is s x
+pub record SamplePage (d i : ℕ) (root s : List ℕ) (f : ℕ → ℕ → List ℕ) : Type 0 where
+  pub one-of-two : (x : ℕ) → x < 2 * d - 1 → (SampleFits d i root s x → ⊥) → SampleHasThere d i s f x → ⊥
+  pub topmost : (x : ℕ) → x < 2 * d - 1 → (SampleFits d i root s x → ⊥) → ((u : ℕ) → u < sampledLayer d x → SampleFits d i root s (2 * (d - 1 - u) - 1))
+      → (symbolNo s x ≢ f (sampledLayer d x) (sampledNumber d i x)) ⊎ SampleCollides d i s f
+
+-- on a way up from symbol y of layer j, whose symbol x layers up is s x, that of layer l and the one above it are f's
 pub record WayHasThere (j y : ℕ) (s : ℕ → List ℕ) (f : ℕ → ℕ → List ℕ) (l : ℕ) : Type 0 where
   pub here : s (j - l) ≡ f l (upFrom j y (j - l))
   pub above : (u : ℕ) → suc u ≡ l → s (j - u) ≡ f u (upFrom j y (j - u))
+
+-- of such a way, whose symbol has the committed hash at layer l when `fits l`
+pub record WayPage (j y : ℕ) (s : ℕ → List ℕ) (fits : ℕ → Type 0) (f : ℕ → ℕ → List ℕ) (collides : Type 0) (l : ℕ) : Type 0 where
+  pub one-of-two : (fits l → ⊥) → WayHasThere j y s f l → ⊥
+  pub topmost : (fits l → ⊥) → ((i : ℕ) → i < l → fits i) → (s (j - l) ≢ f l (upFrom j y (j - l))) ⊎ collides
+
+module _ {d : ℕ} {b : List ℕ} (root table : List ℕ) (h : Named d (equationsOf table) b) (f : ℕ → ℕ → List ℕ) where
+  pub record ProofPage : Type 0 where
+    pub given-page : (p l : ℕ) → p < length (given h) → l ≤ h .layer
+        → WayPage (h .layer) (getD (given h) p 0) (givenSymbol b (h .layer) p) (λ i. GivenFits root h p (h .layer - i)) f (ProofCollides d table b f) l
+    pub withheld-page : (l : ℕ) → l < h .layer
+        → WayPage (h .layer) (h .withheld) (withheldSymbol b (h .layer) (length (given h))) (λ i. PathFits root h (h .layer - i)) f (ProofCollides d table b f) l
 
 -- ---- the request
 
@@ -46,23 +67,8 @@ pub record Change4 : Type 0 where
   -- in a proof of layer 0 the withheld one can't break, since its hash stands in the root
   pub proof-of-top : (d : ℕ) (root table b : List ℕ) (l p : ℕ) → Answers (proofChecked d root table b) 7 (l, p)
       → (h : Named d (equationsOf table) b) → h .layer ≡ 0 → (l ≡ 0) × (p < length (given h))
-  -- "The bench must know which shop's page to ask for again": whatever tree agrees with the root, the page of layer l that breaks, or the page above, which
-  -- has its hash, is another than the tree's
-  pub sample-page : (d i : ℕ) (root s : List ℕ) (l p : ℕ) → Answers (sampleChecked d i root s) 7 (l, p)
-      → (x : ℕ) → x < 2 * d - 1 → sampledLayer d x ≡ l → (SampleFits d i root s x → ⊥)
-      → (tbl : List (List (List ℕ))) (f : ℕ → ℕ → List ℕ) → AgreesWith d tbl root f → SampleHasThere d i s f x → ⊥
-  pub proof-page : (d : ℕ) (root table b : List ℕ) (l p : ℕ) → Answers (proofChecked d root table b) 7 (l, p) → (h : Named d (equationsOf table) b)
-      → (tbl : List (List (List ℕ))) (f : ℕ → ℕ → List ℕ) → AgreesWith d tbl root f
-      → (p < length (given h) → WayHasThere (h .layer) (getD (given h) p 0) (givenSymbol b (h .layer) p) f l → ⊥)
-      × (p ≡ length (given h) → WayHasThere (h .layer) (h .withheld) (withheldSymbol b (h .layer) p) f l → ⊥)
-  -- and where each page above it on the way up has the hash that the next one, or the root, has for it, the page that breaks is another than the tree's,
-  -- or the two hold, at one layer and number, two different symbols of equal SHA-256
-  pub sample-page-alone : (d i : ℕ) (root s : List ℕ) (l p : ℕ) → Answers (sampleChecked d i root s) 7 (l, p)
-      → (x : ℕ) → x < 2 * d - 1 → sampledLayer d x ≡ l → (SampleFits d i root s x → ⊥) → ((u : ℕ) → u < l → SampleFits d i root s (2 * (d - 1 - u) - 1))
-      → (tbl : List (List (List ℕ))) (f : ℕ → ℕ → List ℕ) → AgreesWith d tbl root f → (symbolNo s x ≢ f l (sampledNumber d i x)) ⊎ SampleCollides d i s f
-  pub proof-page-alone : (d : ℕ) (root table b : List ℕ) (l p : ℕ) → Answers (proofChecked d root table b) 7 (l, p) → (h : Named d (equationsOf table) b)
-      → (tbl : List (List (List ℕ))) (f : ℕ → ℕ → List ℕ) → AgreesWith d tbl root f
-      → (p < length (given h) → ((i : ℕ) → i < l → GivenFits root h p (h .layer - i))
-      → (givenSymbol b (h .layer) p (h .layer - l) ≢ f l (upFrom (h .layer) (getD (given h) p 0) (h .layer - l))) ⊎ ProofCollides d table b f)
-      × (p ≡ length (given h) → ((i : ℕ) → i < l → PathFits root h (h .layer - i))
-      → (withheldSymbol b (h .layer) p (h .layer - l) ≢ f l (upFrom (h .layer) (h .withheld) (h .layer - l))) ⊎ ProofCollides d table b f)
+  -- "The bench must know which shop's page to ask for again"
+  pub sample-page : (d i : ℕ) (root s : List ℕ) → SampleReady d i root s
+      → (tbl : List (List (List ℕ))) (f : ℕ → ℕ → List ℕ) → AgreesWith d tbl root f → SamplePage d i root s f
+  pub proof-page : (d : ℕ) (root table b : List ℕ) (r : ProofReady d root table b)
+      → (tbl : List (List (List ℕ))) (f : ℕ → ℕ → List ℕ) → AgreesWith d tbl root f → ProofPage root table (r .named) f
