@@ -13,6 +13,7 @@ use Rattle.model.specs.Climb.{Climb, leads, breaks, Ways, allLead, break
 use Rattle.model.specs.Fault.{next, wayCheck, pathCheck, waysCheck}
 use Rattle.model.proofs.Ways.{next-at, way-breaks}
 
+-- the first, or one after it
 first-or : (P : ℕ → Type 0) (q : ℕ) → P 0 → ((r : ℕ) → q ≡ suc r → P (suc r)) → P q
 first-or P zero a b = a
 first-or P (suc r) a b = b r refl
