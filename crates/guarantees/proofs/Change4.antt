@@ -10,7 +10,7 @@ use lib.ListN.{length, getD}
 use lib.Dec.{eqb, ltb}
 use borrow.Author.Tests.{eqb-true, eq-eqb, ltb-true, lt-ltb}
 use Rattle.octets.proofs.ListLaws.{length-part}
-use Rattle.octets.proofs.Choice.{and-yes, yes-and}
+use Rattle.octets.proofs.Choice.{yes-and}
 use Rattle.parity_table.specs.Shape.{kOf, nOf}
 use Rattle.parity_table.specs.Members.{every}
 use Rattle.parity_table.specs.Table.{layerOf, equationOf, TableOk}
@@ -21,15 +21,15 @@ use Rattle.model.proofs.Members.{every-below}
 use Rattle.model.specs.Fault.{proofLayer, proofMembers, proofLength, headOk}
 use Rattle.calls.specs.declared.Answer.{Answer}
 use Rattle.calls.specs.Stops.{numberOf, valuesOf}
-use Rattle.calls.specs.Lengths.{rootSized, sampleSized}
 use Rattle.sample_calls.specs.Checking.{checkSized}
+use Rattle.sample_calls.proofs.CheckingLaws.{sizes as check-sizes}
 use Rattle.fault_calls.specs.Checking.{proofSized, proofChecked}
-use Rattle.guarantees.specs.Layouts.{bytesFrom, allSymbols, sampledLayer, upFrom}
+use Rattle.guarantees.specs.Layouts.{bytesFrom, allSymbols, upFrom}
 use Rattle.guarantees.specs.Answers.{Answered, Answers, done, test, fails, holds, unless, one}
 use Rattle.guarantees.specs.Tables.{TableRight}
 use Rattle.guarantees.specs.Refusals.{DepthRight, RootLength, SampleLength, InBase, SampleBreaks, sampleTests}
-use Rattle.guarantees.specs.FaultProofs.{givenSymbol, withheldSymbol, Named, given, Exact, GivenFits, PathFits, AllLead, ProofBreaks, ProofLengths, ProofReady, proofTests}
-use Rattle.guarantees.specs.Trees.{members, AgreesWith}
+use Rattle.guarantees.specs.FaultProofs.{givenSymbol, withheldSymbol, Named, given, Exact, GivenFits, PathFits, AllLead, ProofBreaks, ProofLengths, ProofReady, proofTests, Holds}
+use Rattle.guarantees.specs.Trees.{members, AgreesWith, Twins}
 use Rattle.guarantees.specs.Demand3.{ProofCollides}
 use Rattle.guarantees.specs.Demand2.{SampleReady}
 use Rattle.guarantees.specs.Terms.{equationsOf}
@@ -46,8 +46,7 @@ use Rattle.guarantees.proofs.FaultProofs.{from8, from7, leads-or-breaks
 
 sizes-stable : (d : ℕ) (root s : List ℕ) → Stable (RootLength root × SampleLength d s)
 sizes-stable d root s =
-    decided (checkSized d (length root) (length s))
-    (λ t. let (p, q) = and-yes (rootSized (length root)) (sampleSized d (length s)) t in (eqb-true (length root) 512 p, eqb-true (length s) (256 * sampleSize d) q))
+    decided (checkSized d (length root) (length s)) (check-sizes d (length root) (length s))
     (λ (p, q). yes-and (eq-eqb (length root) 512 p) (eq-eqb (length s) (256 * sampleSize d) q))
 
 base-stable : (d i : ℕ) → Stable (InBase d i)
@@ -222,6 +221,9 @@ module _ (d : ℕ) (root table b : List ℕ) where
     unfolding layerOf equationOf
     count = ap (λ (n : ℕ). n * (j + 1)) (fitting .given-count)
 
+    shown : (l m : ℕ) (held : List ℕ) → Holds h l m held → l < d → m < allSymbols l → Twins held (f l m) → ProofCollides d table b f
+    shown l m held there deep low twins = record { named = h; layer = l; number = m; held = held; holds = there; in-tree = (deep, low); collide = twins }
+
     given-page : (p l : ℕ) → p < g → l ≤ j
         → WayPage j (getD (given h) p 0) (givenSymbol b j p) (λ i. GivenFits root h p (j - i)) f (ProofCollides d table b f) l
     unfolding kOf nOf givenSymbol bytesFrom
@@ -231,15 +233,7 @@ module _ (d : ℕ) (root table b : List ℕ) where
         way-page d tb root f agr j y (givenSymbol b j p) (h .has-layer) l on
         (up-low j y l (j - l) (omega arith) (λ e. let z : j ≡ l = omega arith in subst (λ (n : ℕ). y < allSymbols n) z below))
         (λ u c. length-part b (12 + 256 * (p * (j + 1) + (j - u))) 256 (omega (arith, r .exact, count, mul-le-mul-right {m = suc p} {n = g} (j + 1) q)))
-        (λ (u, c, low, twins). record {
-          named = h;
-          layer = u;
-          number = upFrom j y (j - u);
-          held = givenSymbol b j p (j - u);
-          holds = inl (p, j - u, q, (omega arith, omega arith, refl), refl);
-          in-tree = (omega (arith, h .has-layer), low);
-          collide = twins;
-        })
+        (λ (u, c, low, twins). shown u (upFrom j y (j - u)) (givenSymbol b j p (j - u)) (inl (p, j - u, q, (omega arith, omega arith, refl), refl)) (omega (arith, h .has-layer)) low twins)
 
     withheld-page : (l : ℕ) → l < j
         → WayPage j (h .withheld) (withheldSymbol b j g) (λ i. PathFits root h (j - i)) f (ProofCollides d table b f) l
@@ -248,15 +242,7 @@ module _ (d : ℕ) (root table b : List ℕ) where
         let y : ℕ = h .withheld in
         way-page d tb root f agr j y (withheldSymbol b j g) (h .has-layer) l (omega arith) (up-low j y l (j - l) (omega arith) (λ e. absurd (omega arith)))
         (λ u c. length-part b (12 + 256 * (g * (j + 1) + (j - u - 1))) 256 (omega (arith, r .exact, count)))
-        (λ (u, c, low, twins). record {
-          named = h;
-          layer = u;
-          number = upFrom j y (j - u);
-          held = withheldSymbol b j g (j - u);
-          holds = inr (j - u, omega arith, (omega arith, omega arith, refl), refl);
-          in-tree = (omega (arith, h .has-layer), low);
-          collide = twins;
-        })
+        (λ (u, c, low, twins). shown u (upFrom j y (j - u)) (withheldSymbol b j g (j - u)) (inr (j - u, omega arith, (omega arith, omega arith, refl), refl)) (omega (arith, h .has-layer)) low twins)
 
 pub change-4 : Change4
 change-4 =
@@ -271,7 +257,7 @@ change-4 =
       sample-page = λ d i root s r tbl f agr. record {
         one-of-two = λ x h wrong t. wrong (sample-fits d tbl root f agr i s (r .depth-right .0) (r .in-base) x h t);
         topmost = λ x h wrong above.
-            sample-alone d tbl root f agr i s (r .depth-right .0) (r .in-base) x h (r .sample-length) (sampledLayer d x) refl wrong above;
+            sample-alone d tbl root f agr i s (r .depth-right .0) (r .in-base) x h (r .sample-length) wrong above;
       };
       proof-page = λ d root table b r tb f agr. record { given-page = given-page d root table b r tb f agr; withheld-page = withheld-page d root table b r tb f agr };
     }

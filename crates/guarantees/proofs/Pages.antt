@@ -57,17 +57,20 @@ module _ (d : ℕ) (tbl : List (List (List ℕ))) (root : List ℕ) (f : ℕ →
       → sha256 s ≡ hashFor root (λ u n. w u) l m
   fits w l m s hl hm e above = ap sha256 e ∙ tree-hash l m hl hm ∙ hash-above w l m above
 
-  -- ---- symbols w by layer, with the numbers m, from layer `top` up: where each has the committed hash, each is the tree's, or one shows a collision
+  -- ---- symbols w by layer, with the numbers m, of the layers above `top`: where each has the committed hash, each is the tree's, or one shows a collision
 
-  module _ (w : ℕ → List ℕ) (m : ℕ → ℕ) (top : ℕ) (deep : top < d) (low : (u : ℕ) → u ≤ top → m u < allSymbols u)
-      (up : (u : ℕ) → suc u ≤ top → m u ≡ m (suc u) % spread (suc u)) (sized : (u : ℕ) → u ≤ top → length (w u) ≡ 256)
-      (fit : (u : ℕ) → u ≤ top → sha256 (w u) ≡ hashFor root (λ q n. w q) u (m u)) where
+  module _ (w : ℕ → List ℕ) (m : ℕ → ℕ) (top : ℕ) (deep : top ≤ d) (low : (u : ℕ) → u < top → m u < allSymbols u)
+      (up : (u : ℕ) → suc u < top → m u ≡ m (suc u) % spread (suc u)) (sized : (u : ℕ) → u < top → length (w u) ≡ 256)
+      (fit : (u : ℕ) → u < top → sha256 (w u) ≡ hashFor root (λ q n. w q) u (m u)) where
+    -- the symbol above layer l is the tree's
+    abbrev pub Above : ℕ → Type 0
+    Above l = (u : ℕ) → suc u ≡ l → w u ≡ f u (m u)
+
     abbrev pub Collision : Type 0
-    Collision = (u : ℕ) × (u ≤ top) × Twins (w u) (f u (m u))
+    Collision = (u : ℕ) × (u < top) × Twins (w u) (f u (m u))
 
-    -- under a symbol of the tree's
-    own-here : (u : ℕ) → u ≤ top → ((q : ℕ) → suc q ≡ u → w q ≡ f q (m u % spread u)) → (w u ≡ f u (m u)) ⊎ Collision
-    own-here u h above =
+    own-or : (u : ℕ) → u < top → Above u → (w u ≡ f u (m u)) ⊎ Collision
+    own-or u h above =
         by-test (same (w u) (f u (m u))) (λ t. inl (same-yes (w u) (f u (m u)) t))
         (λ t. inr (
           u,
@@ -75,16 +78,18 @@ module _ (d : ℕ) (tbl : List (List (List ℕ))) (root : List ℕ) (f : ℕ →
           record {
             symbols = (sized u h, agr .correctly-coded .sized u (m u) (omega arith) (low u h));
             differ = λ e. both (yes-same e) t;
-            equal = fit u h ∙ sym (hash-above w u (m u) above) ∙ sym (tree-hash u (m u) (omega arith) (low u h));
+            equal = fit u h
+                ∙ sym (hash-above w u (m u) (λ q e. above q e ∙ ap (f q) (up q (omega arith) ∙ ap (λ (n : ℕ). m n % spread n) e)))
+                ∙ sym (tree-hash u (m u) (omega arith) (low u h));
           },
         ))
 
-    pub own-or : (u : ℕ) → u ≤ top → (w u ≡ f u (m u)) ⊎ Collision
-    own-or zero h = own-here zero h (λ q e. absurd (omega arith))
-    own-or (suc u) h =
+    pub above-or : (l : ℕ) → l ≤ top → Above l ⊎ Collision
+    above-or zero h = inl (λ u e. absurd (omega arith))
+    above-or (suc t) h =
         ⊎-elim
-        (λ e. own-here (suc u) h (λ q a. let b : u ≡ q = omega arith in subst (λ (n : ℕ). w n ≡ f n (m (suc u) % spread (suc u))) b (e ∙ ap (f u) (up u h))))
-        inr (own-or u (omega arith))
+        (λ above. ⊎-elim (λ e. inl (λ u q. let v : t ≡ u = omega arith in subst (λ (n : ℕ). w n ≡ f n (m n)) v e)) inr (own-or t (omega arith) above))
+        inr (above-or t (omega arith))
 
   -- ---- a symbol of a sample
 
@@ -113,32 +118,27 @@ module _ (d : ℕ) (tbl : List (List (List ℕ))) (root : List ℕ) (f : ℕ →
         t .above u e ∙ ap (f u) (sym (ap₂ (λ (a b : ℕ). a % b) (sampled-number d i x) (ap spread (sym e) ∙ spread-is u) ∙ up)))
 
     -- the same where each data symbol above it has the committed hash
-    pub sample-alone : SampleLength d s → (l : ℕ) → sampledLayer d x ≡ l → (SampleFits d i root s x → ⊥)
-        → ((u : ℕ) → u < l → SampleFits d i root s (dataAt u)) → (symbolNo s x ≢ f l (sampledNumber d i x)) ⊎ SampleCollides d i s f
+    pub sample-alone : SampleLength d s → (SampleFits d i root s x → ⊥) → ((u : ℕ) → u < sampledLayer d x → SampleFits d i root s (dataAt u))
+        → (symbolNo s x ≢ f (sampledLayer d x) (sampledNumber d i x)) ⊎ SampleCollides d i s f
     unfolding dataNo kOf nOf bytesFrom
-    sample-alone full zero at wrong fit =
-        inl (λ e. wrong (sample-fits (record { here = e ∙ ap (λ (n : ℕ). f n (sampledNumber d i x)) (sym at); above = λ u q. absurd (omega arith) })))
-    sample-alone full (suc t) at wrong fit =
-        let deep : suc t < d = omega (arith, at, sampled-layer d x, places-are tree tree-ok i d some base x h .0 .0) in
-        ⊎-elim
-        (λ e. inl (λ here. wrong (sample-fits (record {
-          here = here ∙ ap (λ (n : ℕ). f n (sampledNumber d i x)) (sym at);
-          above = λ u q. let v : t ≡ u = omega arith in subst (λ (n : ℕ). symbolNo s (dataAt n) ≡ f n (i % dataSymbols n)) v e;
-        }))))
+    sample-alone full wrong fit =
+        let deep : sampledLayer d x < d = omega (arith, sampled-layer d x, places-are tree tree-ok i d some base x h .0 .0) in
+        ⊎-elim (λ above. inl (λ here. wrong (sample-fits (record { here = here; above = above }))))
         (λ (u, k, twins). inr (record {
           index = dataAt u;
           inside = omega arith;
           collide = subst (λ (n : ℕ). Twins (symbolNo s (dataAt u)) (f n (sampledNumber d i (dataAt u)))) (sym (data-at-layer u (omega arith)))
               (subst (λ (n : ℕ). Twins (symbolNo s (dataAt u)) (f u n)) (sym (data-at-number u (omega arith))) twins);
         }))
-        (own-or (λ q. symbolNo s (dataAt q)) (λ q. i % dataSymbols q) t (omega arith) (λ u k. omega (arith, mod-lt i {m = kOf u} (tree-ok .shape .some u)))
+        (above-or (λ q. symbolNo s (dataAt q)) (λ q. i % dataSymbols q) (sampledLayer d x) (omega arith)
+        (λ u k. omega (arith, mod-lt i {m = kOf u} (tree-ok .shape .some u)))
         (λ u k. sym (ap (λ (n : ℕ). i % dataSymbols (suc u) % n) (spread-is u) ∙ data-under tree tree-ok i (suc u) u refl))
         (λ u k. length-part s (256 * dataAt u) 256 (omega arith))
         (λ u k.
         subst (λ (n : ℕ). sha256 (symbolNo s (dataAt u)) ≡ hashFor root (λ q n. symbolNo s (dataAt q)) n (i % dataSymbols u)) (data-at-layer u (omega arith))
         (subst (λ (n : ℕ). sha256 (symbolNo s (dataAt u)) ≡ hashFor root (λ q n. symbolNo s (dataAt q)) (sampledLayer d (dataAt u)) n) (data-at-number u (omega arith))
-        (fit u (omega arith))))
-        t (omega arith))
+        (fit u k)))
+        (sampledLayer d x) (omega arith))
 
   -- ---- a symbol on the way up from symbol y of layer j, whose symbol x layers up is s x
 
@@ -160,20 +160,14 @@ module _ (d : ℕ) (tbl : List (List (List ℕ))) (root : List ℕ) (f : ℕ →
 
     alone : (l : ℕ) → l ≤ j → ((u : ℕ) → u < l → length (s (j - u)) ≡ 256) → ((u : ℕ) → u < l → WayFits u) → (WayHasThere j y s f l → ⊥)
         → (s (j - l) ≢ f l (upFrom j y (j - l))) ⊎ Shown l
-    alone zero hl sized fit wrong = inl (λ e. wrong (record { here = e; above = λ u q. absurd (omega arith) }))
-    alone (suc t) hl sized fit wrong =
-        let low : (u : ℕ) → u ≤ t → upFrom j y (j - u) < allSymbols u = λ u h. up-low j y u (j - u) (omega arith) (λ e. absurd (omega arith)) in
-        ⊎-elim
-        (λ e. inl (λ here. wrong (record {
-          here = here;
-          above = λ u q. let v : t ≡ u = omega arith in subst (λ (n : ℕ). s (j - n) ≡ f n (upFrom j y (j - n))) v e;
-        })))
-        (λ (u, h, twins). inr (u, omega arith, low u h, twins))
-        (own-or (λ q. s (j - q)) (λ q. upFrom j y (j - q)) t (omega arith) low (λ u h. up-step j y u (omega arith)) (λ u h. sized u (omega arith))
+    alone l hl sized fit wrong =
+        let low : (u : ℕ) → u < l → upFrom j y (j - u) < allSymbols u = λ u h. up-low j y u (j - u) (omega arith) (λ e. absurd (omega arith)) in
+        ⊎-elim (λ above. inl (λ here. wrong (record { here = here; above = above }))) (λ (u, h, twins). inr (u, h, low u h, twins))
+        (above-or (λ q. s (j - q)) (λ q. upFrom j y (j - q)) l (omega arith) low (λ u h. up-step j y u (omega arith)) sized
         (λ u h.
         let e : j - (j - u) ≡ u = omega arith in
-        subst (λ (n : ℕ). sha256 (s (j - u)) ≡ hashFor root (λ q n. s (j - q)) n (upFrom j y (j - u))) e (fit u (omega arith)))
-        t (omega arith))
+        subst (λ (n : ℕ). sha256 (s (j - u)) ≡ hashFor root (λ q n. s (j - q)) n (upFrom j y (j - u))) e (fit u h))
+        l (omega arith))
 
     pub way-page : (l : ℕ) → l ≤ j → upFrom j y (j - l) < allSymbols l → ((u : ℕ) → u < l → length (s (j - u)) ≡ 256)
         → {collides : Type 0} → (Shown l → collides) → WayPage j y s WayFits f collides l

@@ -61,6 +61,7 @@ use Rattle.sample_calls.specs.Taking.{takeSized, needed, sampleTaken}
 use Rattle.fault_calls.specs.Repairing.{repairSized, repairTested}
 use Rattle.volume_calls.proofs.WritingLaws.{answer-is as written-answer}
 use Rattle.volume_calls.proofs.ReadingLaws.{answer-is as block-answer}
+use Rattle.sample_calls.proofs.CheckingLaws.{sizes as check-sizes}
 use Rattle.sample_calls.proofs.TakingLaws.{answer-is as sample-answer}
 use Rattle.cedunmi_c.specs.Result.{hashAnswer}
 use Rattle.guarantees.specs.Layouts.{bytesFrom, dataSymbols, treeSymbols, markAt, hashFor, sampledLayer, sampledNumber}
@@ -479,9 +480,9 @@ module _ (d i : ℕ) (root s : List ℕ) where
   -- there is one such layer
   pub breaks-one : (v l : ℕ) → SampleBreaks d i root s v → SampleBreaks d i root s l → v ≡ l
   breaks-one v l a c =
-      by-test (ltb v l) (λ t. absurd (c .breaks (a .lead-below (c .index) (c .inside) (omega (arith, ltb-true v l t, c .at-layer)))))
-      (λ t. by-test (ltb l v) (λ u. absurd (a .breaks (c .lead-below (a .index) (a .inside) (omega (arith, ltb-true l v u, a .at-layer)))))
-      (λ u. omega (arith, ltb-false v l t, ltb-false l v u)))
+      let not-below : v < l → ⊥ = λ h. c .breaks (a .lead-below (c .index) (c .inside) (omega (arith, c .at-layer))) in
+      let not-above : l < v → ⊥ = λ h. a .breaks (c .lead-below (a .index) (a .inside) (omega (arith, a .at-layer))) in
+      omega arith
 
   sample-checker : Just (sampleChecked d i root s) (sampleTests d i root s)
   unfolding sampleChecked kOf nOf
@@ -489,9 +490,7 @@ module _ (d i : ℕ) (root s : List ℕ) where
       let last : Answer = led (sampleCheck tree (symbolHash Plain) root d i s) in
       subst (λ (z : Answer). Just z (sampleTests d i root s)) (sym (then-assoc (opened d (checkSized d (length root) (length s))) (testNumber d i) last))
       (by-opened d (RootLength root × SampleLength d s) (checkSized d (length root) (length s)) (testNumber d i then last)
-      (λ h.
-      let (p, q) = and-yes (rootSized (length root)) (sampleSized d (length s)) h in
-      (eqb-true (length root) 512 p, eqb-true (length s) (256 * sampleSize d) q))
+      (check-sizes d (length root) (length s))
       (λ r. yes-and (eq-eqb (length root) 512 (r .0)) (eq-eqb (length s) (256 * sampleSize d) (r .1)))
       (λ f r. by-number d i last (λ h. by-climb (depth-right d f .0) (sampleCheck tree (symbolHash Plain) root d i s) refl)))
     where

@@ -4,8 +4,8 @@ use mathlib.Core.Bool.{Bool, true, false}
 use Prim.Native.Nat.{ℕ, zero, suc, _+_, _-_, _≤_, _<_}
 use native.Mathlib.Numerals.{add-one}
 use native.Mathlib.Omega.{arith}
-use lib.Dec.{eqb, ltb}
-use borrow.Author.Tests.{eqb-true, eqb-false, ltb-true, ltb-false}
+use lib.Dec.{eqb}
+use borrow.Author.Tests.{eqb-true, eqb-false}
 use Rattle.octets.proofs.Choice.{by-test, pick-yes, pick-no, pick-ind, both}
 use Rattle.model.specs.Climb.{Climb, leads, breaks, climb, First, Says}
 
@@ -34,8 +34,9 @@ module _ (fits : ℕ → Bool) (layer : ℕ → ℕ) where
   -- a first one is the only one
   first-one : (x m y z : ℕ) → First fits x m y → First fits x m z → y ≡ z
   first-one x m y z f g =
-      by-test (ltb y z) (λ t. both (g .before y (f .from) (ltb-true y z t)) (f .unfit))
-      (λ t. by-test (ltb z y) (λ u. both (f .before z (g .from) (ltb-true z y u)) (g .unfit)) (λ u. omega (arith, ltb-false y z t, ltb-false z y u)))
+      let not-below : y < z → ⊥ = λ h. both (g .before y (f .from) h) (f .unfit) in
+      let not-above : z < y → ⊥ = λ h. both (f .before z (g .from) h) (g .unfit) in
+      omega arith
 
   says-one : (x m : ℕ) (c e : Climb) → Says fits layer x m c → Says fits layer x m e → c ≡ e
   says-one x m leads leads s t = refl

@@ -5,9 +5,6 @@ use mathlib.Core.List.{List, [], _∷_}
 use Prim.Native.Nat.{ℕ, zero, suc, _+_, _*_, _%_, _≤_, _<_}
 use native.Mathlib.Omega.{arith}
 use lib.ListN.{length, getD, drop}
-use lib.Dec.{ltb}
-use borrow.Author.Tests.{ltb-true, ltb-false}
-use Rattle.octets.proofs.Choice.{by-test}
 use Rattle.model.specs.Shape.{Shape}
 use Rattle.model.specs.Climb.{Climb, leads, breaks, Ways, allLead, breakAt, firstBreak}
 use Rattle.model.specs.Fault.{next, wayCheck, pathCheck, waysCheck}
@@ -134,9 +131,7 @@ module _ (S : Shape) (H : ℕ → ℕ → List ℕ → List ℕ) (root b : List 
     ways-one n allLead (breakAt l p) a (q, e, s) = absurd (none-breaks l q a s)
     ways-one n (breakAt l p) allLead (q, e, s) a = absurd (none-breaks l q a s)
     ways-one n (breakAt l p) (breakAt m r) (q, e, s) (u, f, t) =
-        let at : q ≡ u =
-        by-test (ltb q u) (λ a. absurd (earlier l m q u s t (ltb-true q u a)))
-        (λ a. by-test (ltb u q) (λ c. absurd (earlier m l u q t s (ltb-true u q c))) (λ c. omega (arith, ltb-false q u a, ltb-false u q c))) in
+        let at : q ≡ u = omega (arith, earlier l m q u s t, earlier m l u q t s) in
         ap₂ breakAt (same-layer l m q u s t at) (omega arith)
 
     -- what is so is what the check says
