@@ -5,7 +5,7 @@ use lib.Dec.{leb}
 
 -- the largest depth
 abbrev pub maxDepth : ℕ
-maxDepth = 5
+maxDepth = 9
 
 -- "Depth D is 1 to 5"
 unfoldable pub depthFits : ℕ → Bool

@@ -7,7 +7,7 @@ ghost use Prim.Native.Nat.{_<_};
 ghost use Rattle.parity_table.specs.Shape.{maxDepth, depthFits, kOf};
 
 // The largest depth of a tree.
-pub const MAX_DEPTH: usize = 5;
+pub const MAX_DEPTH: usize = 9;
 
 // The data symbols of the lowest layer of a tree of the largest depth.
 pub const MAX_DATA: usize = 4 << (MAX_DEPTH - 1);
