@@ -13,7 +13,7 @@ use Rattle.parity_table.specs.Members.{every}
 use Rattle.parity_table.specs.Table.{layerOf, equationOf, word, EquationOk, TableOk, equationsWords, layersWords, tableWords, WellFormed}
 use Rattle.octets.proofs.Choice.{pick-yes, pick-no, pick-ind, and-yes, yes-and}
 use Rattle.parity_table.specs.Parse.{Parts, parts, addWord, partsOf, tableOf, membersOf, opensEquation, startsFrom, indexOf, equationsAbove, numberIn}
-use Rattle.parity_table.proofs.Shape.{k-small, k-grows, k-double}
+use Rattle.parity_table.proofs.Shape.{k-zero, k-small, k-grows, k-double}
 use Rattle.parity_table.proofs.Chain.{equation-chain, chain-within}
 use Rattle.parity_table.proofs.Rules.{EquationsOk, LayersOk, table-layers}
 
@@ -300,10 +300,6 @@ unfolding membersOf
 members-length [] = omega arith
 members-length (w ∷ X) =
     pick-ind (λ (l : List ℕ). length l ≤ suc (length X)) (ltb w (word 1 0)) (λ t. omega (arith, members-length X)) (λ t. omega arith)
-
-k-zero : kOf 0 ≡ 4
-unfolding kOf
-k-zero = refl
 
 module _ (d : ℕ) (ws : List ℕ) (f : WellFormed d ws) (h : d ≤ maxDepth) where
   spot-at : (j e : ℕ) → j < d → e < 3 * kOf j → Spot ws (numberIn j e) (equationOf (tableOf ws) j e) 0

@@ -1,5 +1,5 @@
 -- Laws of depths and of the numbers of symbols.
-use mathlib.Core.Path.{_≡_, sym, ap}
+use mathlib.Core.Path.{_≡_, refl, sym, ap}
 use mathlib.Core.Bool.{Bool, true, false, _&&_}
 use Prim.Native.Nat.{ℕ, suc, _+_, _-_, _*_, _%_, _^_, _≤_, _<_}
 use native.Mathlib.Omega.{arith}
@@ -24,6 +24,10 @@ unfolding depthFits
 depth-is d t = let (a, b) = and-yes (leb 1 d) (leb d maxDepth) t in (leb-true 1 d a, leb-true d maxDepth b)
 
 -- ---- the data symbols of a layer
+
+pub k-zero : kOf 0 ≡ 4
+unfolding kOf
+k-zero = refl
 
 pub k-pos : (j : ℕ) → 4 ≤ kOf j
 unfolding kOf

@@ -5,3 +5,4 @@ pub mod Reader
 pub mod Right
 pub mod Parse
 pub mod Coverage
+pub mod Longest
