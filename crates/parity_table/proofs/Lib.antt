@@ -5,4 +5,5 @@ pub mod Run
 pub mod Parse
 pub mod Longest
 pub mod Accepts
+pub mod Front
 pub mod Starts
