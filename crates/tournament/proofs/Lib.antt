@@ -1,0 +1,2 @@
+pub mod RiseLaws
+pub mod TreeLaws

@@ -1,0 +1,41 @@
+// The least of n numbers, kept while they change one at a time: a tournament, each node of which is the lesser of the two below it.
+ghost use mathlib.Core.Path.{_≡_};
+ghost use Prim.Native.Nat.{_/_, _≤_, _<_, min};
+ghost use lib.ListN.{length, replicate};
+ghost use Rattle.tournament.specs.Tournament.{entries, Tournament, Entered, Least};
+
+fn lesser(a: u32, b: u32) -> u32
+    ensures { λ r. ⌜ r ≡ min a b ⌝ }
+{
+    if a < b { a } else { b }
+}
+
+// Every place of tree becomes v: a tournament all of whose entries are v, where there are 2 n places.
+pub fn clear(tree: &mut [u32], v: u32)
+    ensures { λ r. ⌜ now (tree .exit) ≡ replicate (length (now (tree .entry))) v ⌝ }
+{
+    for i in 0..tree.len() {
+        tree[i] = v;
+    }
+}
+
+// Entry e becomes v, and each node above it, from the lowest to the first, the lesser of the two below it.
+pub fn set(tree: &mut [u32], e: usize, v: u32)
+    requires { ⌜ Tournament (now tree) × (e < length (now tree) / 2) ⌝ }
+    ensures { λ r. ⌜ Entered (now (tree .entry)) e v (now (tree .exit)) ⌝ }
+{
+    let mut i = tree.len() / 2 + e;
+    tree[i] = v;
+    while 1 < i {
+        i /= 2;
+        tree[i] = lesser(tree[2 * i], tree[2 * i + 1]);
+    }
+}
+
+// The least entry.
+pub fn least(tree: &[u32]) -> u32
+    requires { ⌜ Tournament (now tree) × (2 ≤ length (now tree)) ⌝ }
+    ensures { λ r. ⌜ Least (entries (now (tree .entry))) r ⌝ }
+{
+    tree[1]
+}
