@@ -19,7 +19,7 @@ pub fn clear(tree: &mut [u32], v: u32)
     }
 }
 
-// Entry e becomes v, and each node above it, from the lowest to the first, the lesser of the two below it.
+// Entry e becomes v, and each node above it, from the lowest up to one that stays as it is, the lesser of the two below it.
 pub fn set(tree: &mut [u32], e: usize, v: u32)
     requires { ⌜ Tournament (now tree) × (e < length (now tree) / 2) ⌝ }
     ensures { λ r. ⌜ Entered (now (tree .entry)) e v (now (tree .exit)) ⌝ }
@@ -28,7 +28,11 @@ pub fn set(tree: &mut [u32], e: usize, v: u32)
     tree[i] = v;
     while 1 < i {
         i /= 2;
-        tree[i] = lesser(tree[2 * i], tree[2 * i + 1]);
+        let m = lesser(tree[2 * i], tree[2 * i + 1]);
+        if tree[i] == m {
+            return;
+        }
+        tree[i] = m;
     }
 }
 
