@@ -18,6 +18,8 @@ use Rattle.parity_table.specs.Reader.{readOf}
 use Rattle.parity_table.specs.Table.{layerOf, layerWord, endWord, equationsWords, layersWords, tableWords, TableOk}
 use Rattle.parity_table.specs.Parse.{tableOf}
 use Rattle.parity_table.proofs.Accepts.{accepted-depth, accepted-formed, accepted-table}
+use Rattle.parity_table.proofs.Front.{accepted-short}
+use Rattle.parity_table.proofs.Longest.{longest-grows, longest-nine}
 use Rattle.parity_table.proofs.Parse.{formed-words}
 use Rattle.parity_table.proofs.Rules.{LayersOk, table-layers}
 use Rattle.parity_table.proofs.Shape.{k-low}
@@ -32,6 +34,12 @@ use Rattle.coverage.proofs.Tallies.{ends-layer, ends-equation, end-afte
 
 pub none-below : (s : List ℕ) (n : ℕ) → s ≡ replicate (length s) 0 → Below s n
 none-below s n e i h = omega (arith, ap (λ (l : List ℕ). getD l i 0) e ∙ getD-replicate {A = ℕ} (length s) i 0 0 h)
+
+-- so few words that each count has room in 16 bits
+pub few-words : (d : ℕ) (ws : List ℕ) → readOf d ws ≡ Whole → length ws < 2 ^ 16
+few-words d ws r =
+    let (some, most) = accepted-depth d ws r in
+    omega (arith, accepted-short d ws r, longest-grows d maxDepth some most, longest-nine)
 
 -- the entries of a layer's data symbols, of an array of zeros for the lowest
 module _ (j : ℕ) (hj : j < maxDepth) (seen : List ℕ) (e : seen ≡ replicate (4 * 2 ^ (maxDepth - 1)) 0) (k : ℕ) (ek : k ≡ kOf j) where

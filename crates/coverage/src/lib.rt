@@ -6,7 +6,7 @@ use parity_table::MAX_DATA;
 use parity_table::data_count;
 ghost use mathlib.Core.Path.{_≡_};
 ghost use mathlib.Core.Bool.{true};
-ghost use Prim.Native.Nat.{_^_, _≤_};
+ghost use Prim.Native.Nat.{_-_, _^_, _≤_, _<_};
 ghost use lib.ListN.{length, take, drop, replicate};
 ghost use Rattle.parity_table.specs.Parse.{tableOf};
 ghost use Rattle.parity_table.specs.Reader.{readOf};
@@ -42,8 +42,8 @@ fn ends_layer(w: u32) -> bool
 }
 
 // Counts word w where it is the number of a data symbol, seen having an entry for each; whether it ends the layer.
-fn note(seen: &mut [usize], w: u32) -> bool
-    requires { ⌜ (length (now seen) ≤ 2 ^ 30) × Below (now seen) (2 ^ 62) ⌝ }
+fn note(seen: &mut [u16], w: u32) -> bool
+    requires { ⌜ (length (now seen) ≤ 2 ^ 30) × Below (now seen) (2 ^ 16 - 2) ⌝ }
     ensures { λ r. ⌜ (r ≡ endsLayer w) × (now (seen .exit) ≡ noted (now (seen .entry)) w) ⌝ }
 {
     let i = w as usize;
@@ -55,8 +55,8 @@ fn note(seen: &mut [usize], w: u32) -> bool
 }
 
 // Counts the data symbols among the words from `at` to the layer's end; where that is.
-fn count_to_end(ws: &[u32], at: usize, seen: &mut [usize]) -> usize
-    requires { ⌜ (hasEnd (drop at (now ws)) ≡ true) × (length (now seen) ≤ 2 ^ 30) × Below (now seen) at ⌝ }
+fn count_to_end(ws: &[u32], at: usize, seen: &mut [u16]) -> usize
+    requires { ⌜ (hasEnd (drop at (now ws)) ≡ true) × (length (now seen) ≤ 2 ^ 30) × Below (now seen) at × (length (now ws) < 2 ^ 16) ⌝ }
     ensures { λ r.
         ⌜ (r ≤ length (now (ws .entry)))
         × (tallied (now (seen .exit)) (drop r (now (ws .entry))) ≡ tally (now (seen .entry)) (drop at (now (ws .entry)))) ⌝ }
@@ -71,7 +71,7 @@ fn count_to_end(ws: &[u32], at: usize, seen: &mut [usize]) -> usize
 }
 
 // The lowest symbol that was seen fewer than two times; how many there are where none was. What was seen of those before it is forgotten.
-fn first_thin(seen: &mut [usize]) -> usize
+fn first_thin(seen: &mut [u16]) -> usize
     ensures { λ r.
         ⌜ (r ≡ lowest (isThin (now (seen .entry))) 0 (length (now (seen .entry))))
         × (take r (now (seen .exit)) ≡ replicate r 0) × (drop r (now (seen .exit)) ≡ drop r (now (seen .entry))) ⌝ }
@@ -86,8 +86,9 @@ fn first_thin(seen: &mut [usize]) -> usize
 }
 
 // A layer whose equations stand from word `at` on, counted in seen, which has an entry for each data symbol: 0, and 0 again where none is found.
-fn count_layer(ws: &[u32], at: usize, seen: &mut [usize]) -> Counted
-    requires { ⌜ (hasEnd (drop at (now ws)) ≡ true) × (length (now seen) ≤ 2 ^ 30) × (now seen ≡ replicate (length (now seen)) 0) ⌝ }
+fn count_layer(ws: &[u32], at: usize, seen: &mut [u16]) -> Counted
+    requires { ⌜ (hasEnd (drop at (now ws)) ≡ true) × (length (now seen) ≤ 2 ^ 30) × (now seen ≡ replicate (length (now seen)) 0)
+        × (length (now ws) < 2 ^ 16) ⌝ }
     ensures { λ r.
         ⌜ LayerCounted (now (ws .entry)) at (length (now (seen .entry))) (r .end) (r .lowest)
         × (r .lowest ≡ length (now (seen .entry)) → now (seen .exit) ≡ now (seen .entry)) ⌝ }
@@ -102,7 +103,7 @@ pub fn check(ws: &[u32], depth: usize) -> Coverage
     requires { ⌜ readOf depth (now ws) ≡ Whole ⌝ }
     ensures { λ r. ⌜ r ≡ coverageOf depth (tableOf (now (ws .entry))) ⌝ }
 {
-    let mut seen = [0usize; MAX_DATA];
+    let mut seen = [0u16; MAX_DATA];
     let mut at: usize = 0;
     for j in 0..depth {
         let k = data_count(j);

@@ -1,7 +1,7 @@
 -- The fullest table of a depth is well-formed, no well-formed table of that depth has more words, and how many it has.
 use mathlib.Core.Path.{_≡_, refl, ap}
 use mathlib.Core.List.{List, [], _∷_, _++_}
-use Prim.Native.Nat.{ℕ, zero, suc, _+_, _-_, _*_, _≤_, min}
+use Prim.Native.Nat.{ℕ, zero, suc, _+_, _-_, _*_, _≤_, _<_, min}
 use native.Mathlib.Nat.{add-zero}
 use native.Mathlib.Omega.{arith}
 use lib.ListN.{length, length-append}
@@ -162,6 +162,10 @@ unfolding equationsAbove
 longest-grows a b h g =
     let same : kOf (a + (b - a)) ≡ kOf b = ap kOf (omega arith) in
     omega (arith, longest-is a h, longest-is b (omega arith), k-grows a (b - a))
+
+-- so a buffer with that many words, for depth b, has more than any table of a depth up to b
+pub longest-room : (d b w : ℕ) → 1 ≤ d → d ≤ b → 9 * equationsAbove b + b + 1 ≤ w → longest d < w
+longest-room d b w h g r = omega (arith, longest-grows d b h g, longest-is b (omega arith))
 
 pub longest-nine : longest 9 ≡ 55192
 unfolding equationsAbove kOf

@@ -1,13 +1,13 @@
 -- Laws of depths and of the numbers of symbols.
-use mathlib.Core.Path.{_≡_, refl, sym, ap}
-use mathlib.Core.Bool.{Bool, true, false, _&&_}
+use mathlib.Core.Path.{_∙_, _≡_, refl, sym, ap}
+use mathlib.Core.Bool.{Bool, true, false, true≢false, _&&_}
 use Prim.Native.Nat.{ℕ, suc, _+_, _-_, _*_, _%_, _^_, _≤_, _<_}
 use native.Mathlib.Omega.{arith}
-use lib.Dec.{leb}
+use lib.Dec.{leb, ltb}
 use lib.Pow.{pow-pos, pow-mono}
-use borrow.Author.Tests.{leb-true, le-leb, lt-leb}
-use Rattle.octets.proofs.Choice.{and-yes}
-use Rattle.parity_table.specs.Shape.{maxDepth, depthFits, kOf}
+use borrow.Author.Tests.{leb-true, le-leb, le-ltb, lt-leb, lt-ltb, ltb-false}
+use Rattle.octets.proofs.Choice.{and-yes, by-test, yes-and}
+use Rattle.parity_table.specs.Shape.{maxDepth, depthFits, isDeep, kOf, shallow}
 
 -- ---- the depth
 
@@ -22,6 +22,20 @@ depth-mid d h = sym (ap (λ (b : Bool). b && leb d maxDepth) (le-leb 1 d h))
 pub depth-is : (d : ℕ) → depthFits d ≡ true → (1 ≤ d) × (d ≤ maxDepth)
 unfolding depthFits
 depth-is d t = let (a, b) = and-yes (leb 1 d) (leb d maxDepth) t in (leb-true 1 d a, leb-true d maxDepth b)
+
+-- a depth that fits and needs no large arrays
+pub deep-low : (d : ℕ) → d ≤ shallow → false ≡ isDeep d
+unfolding isDeep
+deep-low d h = sym (ap (λ (b : Bool). b && depthFits d) (le-ltb shallow d h))
+
+pub deep-high : (d : ℕ) → shallow < d → depthFits d ≡ isDeep d
+unfolding isDeep
+deep-high d h = sym (ap (λ (b : Bool). b && depthFits d) (lt-ltb shallow d h))
+
+pub not-deep : (d : ℕ) → isDeep d ≡ false → depthFits d ≡ true → d ≤ shallow
+unfolding isDeep
+not-deep d n f =
+    by-test (ltb shallow d) (λ t. absurd (true≢false (sym (yes-and t f) ∙ n))) (λ t. ltb-false shallow d t)
 
 -- ---- the data symbols of a layer
 

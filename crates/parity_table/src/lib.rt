@@ -4,7 +4,7 @@ pub mod index;
 
 ghost use mathlib.Core.Path.{_≡_};
 ghost use Prim.Native.Nat.{_<_};
-ghost use Rattle.parity_table.specs.Shape.{maxDepth, depthFits, kOf};
+ghost use Rattle.parity_table.specs.Shape.{maxDepth, depthFits, isDeep, kOf};
 
 // The largest depth of a tree.
 pub const MAX_DEPTH: usize = 9;
@@ -14,6 +14,13 @@ pub const MAX_DATA: usize = 4 << (MAX_DEPTH - 1);
 
 // The equations of a table of the largest depth.
 pub const MAX_EQUATIONS: usize = 3 * ((4 << MAX_DEPTH) - 4);
+
+// A call of a depth up to this one needs little stack: arrays for a deeper one stand in functions that only deeper calls enter.
+pub const SHALLOW: usize = 5;
+
+pub const SHALLOW_DATA: usize = 4 << (SHALLOW - 1);
+
+pub const SHALLOW_EQUATIONS: usize = 3 * ((4 << SHALLOW) - 4);
 
 // What a reader of a table, or a writer of one, answers.
 pub enum Answer {
@@ -42,6 +49,16 @@ pub fn depth_fits(depth: usize) -> bool
         return false;
     }
     depth <= MAX_DEPTH
+}
+
+// A tree may have this depth, and it needs the large arrays.
+pub fn is_deep(depth: usize) -> bool
+    ensures { λ r. ⌜ r ≡ isDeep depth ⌝ }
+{
+    if depth <= SHALLOW {
+        return false;
+    }
+    depth_fits(depth)
 }
 
 // The data symbols of layer j.

@@ -1,4 +1,8 @@
 // A table as bytes, four to a word, the highest first: the form in which it comes from C.
+use parity_table::MAX_DEPTH;
+use parity_table::MAX_EQUATIONS;
+use parity_table::SHALLOW;
+use parity_table::SHALLOW_EQUATIONS;
 ghost use mathlib.Core.Path.{_≡_};
 ghost use Prim.Native.Nat.{_*_, _/_, _≤_};
 ghost use lib.ListN.{length};
@@ -6,10 +10,13 @@ ghost use Rattle.octets.specs.BigEndian.{bytesOf};
 ghost use Rattle.parity_table.specs.Parse.{over};
 ghost use Rattle.table_bytes.specs.Bytes.{lengthFits, wordsOf};
 
-// The longest table, in bytes and in words.
-pub const MAX_BYTES: usize = 16384;
+// The words that a table may have: nine for each equation of the largest depth, one for each layer, and the end word. In bytes, from C: 220,792.
+pub const MAX_WORDS: usize = 9 * MAX_EQUATIONS + MAX_DEPTH + 1;
 
-pub const MAX_WORDS: usize = MAX_BYTES / 4;
+pub const MAX_BYTES: usize = 4 * MAX_WORDS;
+
+// .. and those of a depth that needs little stack
+pub const SHALLOW_WORDS: usize = 9 * SHALLOW_EQUATIONS + SHALLOW + 1;
 
 // A table may have this many bytes.
 pub fn length_fits(n: usize) -> bool

@@ -11,7 +11,7 @@ use Rattle.parity_table.specs.Parse.{tableOf}
 use Rattle.parity_table.proofs.Shape.{k-low}
 use Rattle.coverage.specs.declared.Coverage.the-variants.{Uncovered}
 use Rattle.coverage.specs.Counting.{LayerCounted}
-use Rattle.coverage.proofs.Layers.{front-length, front-none, Stands, stands-first, known, past-opener, layer-ends, stands-next, lowest-there, From, from-first, thin-found, none-thin, all-covered}
+use Rattle.coverage.proofs.Layers.{few-words, front-length, front-none, Stands, stands-first, known, past-opener, layer-ends, stands-next, lowest-there, From, from-first, thin-found, none-thin, all-covered}
 use Rattle.coverage.proofs.Times.{lowest-low}
 use Rattle.coverage.proofs.check.Statement.{statement}
 use Rattle.coverage.proofs.check.Tie as tie
@@ -66,6 +66,7 @@ count-layer-requires c κs =
       layer-ends (a .depth) (a .ws .now) (l .inv .0) (l .at) (l .j) (l .inv .2) t,
       omega (arith, n, k-low (l .j) h),
       front-none (l .j) h (l .seen) (l .inv .4) _ (c .before .data-count .ensures),
+      few-words (a .depth) (a .ws .now) (l .inv .0),
     )
 
 returns : tie.Need-returns Inv-loop μ-loop

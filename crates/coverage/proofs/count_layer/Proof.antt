@@ -9,7 +9,7 @@ use Rattle.coverage.proofs.count_layer.Tie as tie
 count-to-end-requires : tie.Need-count-to-end-requires
 count-to-end-requires c κs =
     let s = c .before .before .before in
-    (s .pre .0, s .pre .1, none-below (s .args .seen .now) (s .args .at) (s .pre .2))
+    (s .pre .0, s .pre .1, none-below (s .args .seen .now) (s .args .at) (s .pre .2), s .pre .3)
 
 first-thin-requires : tie.Need-first-thin-requires
 first-thin-requires c κs = search needs

@@ -35,7 +35,7 @@ note-requires c κs =
     let s = c .before .before .before .before .before in
     let l = c .before .before .loop in
     let h = end-inside (s .args .ws .now) (l .end) (l .inv .0) in
-    (omega (arith, s .pre .1, l .inv .2), λ i q. omega (arith, l .inv .1 i q, s .good))
+    (omega (arith, s .pre .1, l .inv .2), λ i q. omega (arith, l .inv .1 i q, s .pre .3))
 
 same-length : tie.Need-same-length Inv-loop μ-loop
 same-length c =
