@@ -10,7 +10,7 @@ use Rattle.parity_table.specs.declared.Answer.{Answer as Read}
 use Rattle.parity_table.specs.declared.Answer.the-variants as read
 use Rattle.parity_table.specs.Reader.{readOf}
 use Rattle.parity_table.specs.Parse.{tableOf, indexOf, over}
-use Rattle.table_bytes.specs.Bytes.{wordsOf, lengthFits}
+use Rattle.table_bytes.specs.Bytes.{wordsOf, frontWords, lengthFits}
 use Rattle.coverage.specs.declared.Coverage.{Coverage}
 use Rattle.coverage.specs.declared.Coverage.the-variants as coverage
 use Rattle.coverage.specs.Coverage.{coverageOf}
@@ -32,7 +32,7 @@ left (Stopped s) new old = old
 
 -- ---- the tests
 
--- 1: "depth not 1 to 5"
+-- 1: "depth not 1 to 5", or 9: "Depth 10 stops with 1"
 unfoldable pub testDepth : ℕ → Answer
 testDepth d = pick (depthFits d) Done (Stopped Depth)
 
@@ -74,9 +74,10 @@ wordsTested d ws = readAnswer (readOf d ws) then coverAnswer (coverageOf d (tabl
 abbrev pub admitted : ℕ → Bool → List ℕ → Answer
 admitted d sized table = opened d (sized && lengthFits (length table)) then wordsTested d (wordsOf table)
 
--- what a call's own buffers then hold: for words, which are used once tests 1 and 2 have passed, and for the index of a table that is admitted
+-- what a call's own buffers then hold: for words, which are used once tests 1 and 2 have passed, as many as it has room for; and for the index of a
+-- table that is admitted
 abbrev pub wordsLeft : ℕ → Bool → List ℕ → List ℕ → List ℕ
-wordsLeft d sized table lent = left (opened d (sized && lengthFits (length table))) (over (wordsOf table) lent) lent
+wordsLeft d sized table lent = left (opened d (sized && lengthFits (length table))) (over (frontWords table (length lent)) lent) lent
 
 abbrev pub startsLeft : ℕ → Bool → List ℕ → List ℕ → List ℕ
 startsLeft d sized table lent = left (admitted d sized table) (over (indexOf (wordsOf table)) lent) lent

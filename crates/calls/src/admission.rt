@@ -2,18 +2,20 @@
 use crate::Answer;
 use crate::Stop;
 use crate::check_words;
-use parity_table::MAX_EQUATIONS;
+use crate::numbers_of;
 use parity_table::depth_fits;
 use parity_table::index;
+use parity_table::is_deep;
 use table_bytes::MAX_WORDS;
+use table_bytes::SHALLOW_WORDS;
 use table_bytes::length_fits;
 use table_bytes::words_from;
 ghost use mathlib.Core.Path.{_≡_};
 ghost use mathlib.Core.Bool.{true};
-ghost use Prim.Native.Nat.{_/_, _≤_};
+ghost use Prim.Native.Nat.{_≤_};
 ghost use lib.ListN.{length, take};
 ghost use Rattle.parity_table.specs.Parse.{indexOf, over};
-ghost use Rattle.table_bytes.specs.Bytes.{maxBytes};
+ghost use Rattle.calls.specs.Room.{Room, WordsRoom, stopsAtDepth};
 ghost use Rattle.calls.specs.Tests.{opened, admitted, wordsLeft, startsLeft};
 
 // Tests 1 and 2: `sized` says whether the call's own buffers have the lengths of this depth.
@@ -31,7 +33,7 @@ pub fn enter(depth: usize, sized: bool) -> Answer
 
 // Tests 1, 2, 3, 10. The table's words go to the front of words, which is the call's own: those of a table that is refused stay there.
 fn test_table(depth: usize, sized: bool, table: &[u8], words: &mut [u32]) -> Answer
-    requires { ⌜ maxBytes / 4 ≤ length (now words) ⌝ }
+    requires { ⌜ WordsRoom depth (now words) ⌝ }
     ensures { λ r.
         ⌜ (r ≡ admitted depth sized (now (table .entry)))
         × (now (words .exit) ≡ wordsLeft depth sized (now (table .entry)) (now (words .entry))) ⌝ }
@@ -42,16 +44,42 @@ fn test_table(depth: usize, sized: bool, table: &[u8], words: &mut [u32]) -> Ans
     if !length_fits(table.len()) {
         return Answer::Stopped(Stop::Length);
     }
-    let n = table.len() / 4;
-    words_from(table, words);
+    let n = words_from(table, words);
     check_words(&words[..n], depth)
+}
+
+// Whether a function with large arrays is to call itself, at depth 0, where the answer is 1. It never does, since it is entered at a depth that fits:
+// but the compiler takes no function that calls itself into another's frame, so that these arrays are on the stack of a deeper call alone.
+pub fn stops_at_depth(depth: usize, a: Answer) -> bool
+    ensures { λ r. ⌜ r ≡ stopsAtDepth depth a ⌝ }
+{
+    let n = numbers_of(a);
+    if n.number != 1 {
+        return false;
+    }
+    0 < depth
+}
+
+// check_table for a deeper tree.
+fn check_deep(depth: usize, table: &[u8]) -> Answer
+    ensures { λ r. ⌜ r ≡ admitted depth true (now (table .entry)) ⌝ }
+{
+    let mut words = [0u32; MAX_WORDS];
+    let answer = test_table(depth, true, table, &mut words);
+    if stops_at_depth(depth, answer) {
+        return check_deep(0, table);
+    }
+    answer
 }
 
 // Checks a table of this depth, as bytes, for the answer alone.
 pub fn check_table(depth: usize, table: &[u8]) -> Answer
     ensures { λ r. ⌜ r ≡ admitted depth true (now (table .entry)) ⌝ }
 {
-    let mut words = [0u32; MAX_WORDS];
+    if is_deep(depth) {
+        return check_deep(depth, table);
+    }
+    let mut words = [0u32; SHALLOW_WORDS];
     test_table(depth, true, table, &mut words)
 }
 
@@ -68,9 +96,10 @@ pub fn admit(
     depth: usize,
     sized: bool,
     table: &[u8],
-    words: &mut [u32; MAX_WORDS],
-    starts: &mut [usize; MAX_EQUATIONS],
+    words: &mut [u32],
+    starts: &mut [usize],
 ) -> Answer
+    requires { ⌜ Room depth (now words) (now starts) ⌝ }
     ensures { λ r.
         ⌜ (r ≡ admitted depth sized (now (table .entry)))
         × (now (words .exit) ≡ wordsLeft depth sized (now (table .entry)) (now (words .entry)))

@@ -9,6 +9,7 @@ mod table; // 3, 10: a table
 pub use admission::admit;
 pub use admission::check_table;
 pub use admission::enter;
+pub use admission::stops_at_depth;
 pub use base::test_number;
 pub use lengths::tree_fits;
 pub use marks::test_marks;

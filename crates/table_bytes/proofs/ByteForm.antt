@@ -2,18 +2,19 @@
 use mathlib.Core.Path.{_≡_, refl, sym, ap, _∙_}
 use mathlib.Core.Bool.{Bool, true, false, _&&_}
 use mathlib.Core.List.{List, [], _∷_, _++_, append-assoc}
-use Prim.Native.Nat.{ℕ, suc, _+_, _*_, _/_, _%_, _≤_, _<_}
+use Prim.Native.Nat.{ℕ, zero, suc, _+_, _*_, _/_, _%_, _≤_, _<_, min}
 use native.Mathlib.Numerals.{add-one}
+use native.Mathlib.Decide.{decLt}
 use native.Mathlib.Omega.{arith}
 use lib.ListN.{length, getD, take, drop, set, drop-of-length-le}
-use lib.Seq.{drop-cons, set-append-seam, take-at}
+use lib.Seq.{drop-cons, set-append-seam, take-all, take-append-seam, take-at, take-take}
 use lib.Dec.{leb, eqb}
-use borrow.Author.Tests.{leb-true, le-leb, lt-leb}
+use borrow.Author.Tests.{eqb-false, eqb-true, leb-true, le-leb, lt-leb}
 use Rattle.octets.specs.BigEndian.{be, wordAt, words, bytesOf}
 use Rattle.octets.proofs.Bytes.{length-words}
 use Rattle.parity_table.specs.Parse.{over}
-use Rattle.table_bytes.specs.Bytes.{maxBytes, lengthFits, wordsOf}
-use Rattle.octets.proofs.Choice.{and-yes}
+use Rattle.table_bytes.specs.Bytes.{maxBytes, lengthFits, wordsOf, frontWords}
+use Rattle.octets.proofs.Choice.{and-yes, by-test}
 
 -- ---- a length
 
@@ -41,11 +42,32 @@ words-next b lent i h =
     ∙ sym (append-assoc (words b i) (wordAt b (i * 4) ∷ []) (drop (suc i) lent))
     ∙ ap (λ (n : ℕ). words b n ++ drop n lent) (sym (add-one i))
 
-pub words-all : (b lent : List ℕ) (i : ℕ) → i ≡ length b / 4 → words b i ++ drop i lent ≡ over (wordsOf b) lent
+-- the first n words, where there are so many
+words-take : (b : List ℕ) (m n : ℕ) → m ≤ n → take m (words b n) ≡ words b m
+unfolding words
+words-take b m zero h = let z : m ≡ 0 = omega arith in ap (λ (q : ℕ). take q []) z ∙ ap (words b) (sym z)
+words-take b m (suc n) h =
+    by-test (eqb m (suc n))
+    (λ t.
+    let e = eqb-true m (suc n) t in
+    take-all m (words b (suc n)) (omega (arith, length-words b (suc n))) ∙ ap (words b) (sym e))
+    (λ t.
+    let l : m ≤ n = omega (arith, eqb-false m (suc n) t) in
+    sym (take-take m (length (words b n)) (words b n ++ (wordAt b (n * 4) ∷ [])) (omega (arith, length-words b n)))
+    ∙ ap (take m) (take-append-seam (words b n) (wordAt b (n * 4) ∷ [])) ∙ words-take b m n l)
+
+pub front-words : (b : List ℕ) (n : ℕ) → frontWords b n ≡ words b (min (length b / 4) n)
 unfolding wordsOf
-words-all b lent i h =
-    ap (λ (n : ℕ). words b n ++ drop n lent) h
-    ∙ ap (λ (n : ℕ). words b (length b / 4) ++ drop n lent) (sym (length-words b (length b / 4)))
+front-words b n =
+    elim (decLt n (length b / 4)) [
+      | yes h ↦ words-take b n (length b / 4) (omega arith) ∙ ap (words b) (omega arith)
+      | no h ↦ take-all n (words b (length b / 4)) (omega (arith, length-words b (length b / 4))) ∙ ap (words b) (omega arith)
+    ]
+
+pub words-all : (b lent : List ℕ) (i n : ℕ) → i ≡ min (length b / 4) n → words b i ++ drop i lent ≡ over (frontWords b n) lent
+words-all b lent i n h =
+    let e : words b i ≡ frontWords b n = ap (words b) h ∙ sym (front-words b n) in
+    ap (λ (m : ℕ). words b i ++ drop m lent) (sym (length-words b i)) ∙ ap (λ (l : List ℕ). over l lent) e
 
 -- ---- bytes of words
 
@@ -65,11 +87,14 @@ pub wordsOf-length : (b : List ℕ) → length (wordsOf b) ≡ length b / 4
 unfolding wordsOf
 wordsOf-length b = length-words b (length b / 4)
 
--- the words in front of that buffer
-pub words-front : (b lent v : List ℕ) → v ≡ over (wordsOf b) lent → take (length b / 4) v ≡ wordsOf b
-words-front b lent v h =
-    ap (take (length b / 4)) h ∙ take-at (wordsOf b) (drop (length (wordsOf b)) lent) (length b / 4) (wordsOf-length b)
+-- as many as there are, or as many as are asked for
+pub front-length : (b : List ℕ) (n : ℕ) → length (frontWords b n) ≡ min (length b / 4) n
+front-length b n = ap length (front-words b n) ∙ length-words b (min (length b / 4) n)
 
--- the words of a table have room in a buffer for the longest
+-- the words in front of that buffer
+pub words-front : (ws lent v : List ℕ) → v ≡ over ws lent → take (length ws) v ≡ ws
+words-front ws lent v h = ap (take (length ws)) h ∙ take-at ws (drop (length ws) lent) (length ws) refl
+
+-- a table that may come has no more words than this
 pub quarter-most : (n : ℕ) → lengthFits n ≡ true → n / 4 ≤ maxBytes / 4
 quarter-most n t = omega (arith, length-most n t)

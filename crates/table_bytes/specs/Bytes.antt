@@ -4,7 +4,7 @@
 use mathlib.Core.Bool.{Bool, _&&_}
 use mathlib.Core.List.{List}
 use Prim.Native.Nat.{ℕ, _+_, _-_, _*_, _/_, _%_, _^_}
-use lib.ListN.{length}
+use lib.ListN.{length, take}
 use lib.Dec.{leb, eqb}
 use Rattle.octets.specs.BigEndian.{words}
 use Rattle.parity_table.specs.Shape.{maxDepth}
@@ -12,6 +12,10 @@ use Rattle.parity_table.specs.Shape.{maxDepth}
 -- the words of the bytes
 unfoldable pub wordsOf : List ℕ → List ℕ
 wordsOf b = words b (length b / 4)
+
+-- .. the first n of them
+abbrev pub frontWords : List ℕ → ℕ → List ℕ
+frontWords b n = take n (wordsOf b)
 
 -- the most bytes that a table from C may have, 220,792: four for each word, nine words for each equation of the largest depth, one for each layer,
 -- and the end word

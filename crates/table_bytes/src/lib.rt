@@ -4,11 +4,11 @@ use parity_table::MAX_EQUATIONS;
 use parity_table::SHALLOW;
 use parity_table::SHALLOW_EQUATIONS;
 ghost use mathlib.Core.Path.{_≡_};
-ghost use Prim.Native.Nat.{_*_, _/_, _≤_};
+ghost use Prim.Native.Nat.{_*_, min};
 ghost use lib.ListN.{length};
 ghost use Rattle.octets.specs.BigEndian.{bytesOf};
 ghost use Rattle.parity_table.specs.Parse.{over};
-ghost use Rattle.table_bytes.specs.Bytes.{lengthFits, wordsOf};
+ghost use Rattle.table_bytes.specs.Bytes.{lengthFits, frontWords};
 
 // The words that a table may have: nine for each equation of the largest depth, one for each layer, and the end word. In bytes, from C: 220,792.
 pub const MAX_WORDS: usize = 9 * MAX_EQUATIONS + MAX_DEPTH + 1;
@@ -28,17 +28,28 @@ pub fn length_fits(n: usize) -> bool
     n % 4 == 0
 }
 
-// Fills ws, from the front, with the words of the bytes.
-pub fn words_from(b: &[u8], ws: &mut [u32])
-    requires { ⌜ length (now b) / 4 ≤ length (now ws) ⌝ }
-    ensures { λ r. ⌜ now (ws .exit) ≡ over (wordsOf (now (b .entry))) (now (ws .entry)) ⌝ }
+fn lesser(a: usize, b: usize) -> usize
+    ensures { λ r. ⌜ r ≡ min a b ⌝ }
 {
-    let n = b.len() / 4;
+    if a < b {
+        return a;
+    }
+    b
+}
+
+// Fills ws, from the front, with the words of the bytes, as many as it has room for; how many.
+pub fn words_from(b: &[u8], ws: &mut [u32]) -> usize
+    ensures { λ r.
+        ⌜ (r ≡ length (frontWords (now (b .entry)) (length (now (ws .entry)))))
+        × (now (ws .exit) ≡ over (frontWords (now (b .entry)) (length (now (ws .entry)))) (now (ws .entry))) ⌝ }
+{
+    let n = lesser(b.len() / 4, ws.len());
     let mut i: usize = 0;
     while i < n {
         ws[i] = octets::word_at(b, i * 4);
         i += 1;
     }
+    n
 }
 
 // Fills b with the bytes of the words.

@@ -14,12 +14,13 @@ use Rattle.symbol_hash.specs.declared.Kind.the-variants.{Plain}
 use Rattle.model.specs.Shape.{tree, places}
 use Rattle.model.specs.Writer.{writeTree, writtenMarks, writtenRoot}
 use Rattle.calls.specs.declared.Stop.{Stop}
+use Rattle.calls.specs.declared.Stop.the-variants.{Depth}
 use Rattle.calls.specs.declared.Answer.{Answer}
 use Rattle.calls.specs.declared.Answer.the-variants.{Done, Stopped}
 use Rattle.calls.specs.Lengths.{treeSized, blockSized, rootSized}
 use Rattle.calls.proofs.LengthLaws.{tree-lengths}
 use Rattle.calls.specs.Stops.{Small}
-use Rattle.calls.proofs.AdmissionLaws.{small-admitted}
+use Rattle.calls.proofs.AdmissionLaws.{none-admitted, small-admitted}
 use Rattle.volume_calls.specs.Writing.{leaves, writeSized, writtenBy, writeTested, treeWritten}
 
 module _ (d : ℕ) (table b t m root : List ℕ) where
@@ -51,6 +52,13 @@ module _ (d : ℕ) (table b t m root : List ℕ) where
 
   pub small : Small (treeWritten d table b t m root .answer)
   small = rw answer-is (small-admitted d (writeSized d (length b) (length t) (length m) (length root)) table)
+
+-- what is answered and left with 1 is answered and left at depth 0
+pub as-at-none : (d : ℕ) (table b t m root : List ℕ) (a : Answer) (t′ m′ root′ : List ℕ) → leaves a t′ m′ root′ ≡ treeWritten d table b t m root
+    → a ≡ Stopped Depth → treeWritten 0 table b t′ m′ root′ ≡ treeWritten d table b t m root
+as-at-none d table b t m root a t′ m′ root′ e s =
+    sym (refused 0 table b t′ m′ root′ Depth (none-admitted (writeSized 0 (length b) (length t′) (length m′) (length root′)) table))
+    ∙ ap (λ (q : Answer). leaves q t′ m′ root′) (sym s) ∙ e
 
 -- the lengths, where the test passes
 pub sizes : (d b t m root : ℕ) → writeSized d b t m root ≡ true

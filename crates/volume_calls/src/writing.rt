@@ -1,14 +1,19 @@
 // Writing a tree.
 use calls::Answer;
 use calls::admit;
+use calls::stops_at_depth;
 use calls::tree_fits;
 use parity_table::MAX_EQUATIONS;
+use parity_table::SHALLOW_EQUATIONS;
 use parity_table::data_count;
+use parity_table::is_deep;
 use symbol_hash::Kind;
 use table_bytes::MAX_WORDS;
+use table_bytes::SHALLOW_WORDS;
 ghost use mathlib.Core.Path.{_≡_};
 ghost use mathlib.Core.Bool.{_&&_};
 ghost use Rattle.parity_table.specs.Shape.{depthFits};
+ghost use Rattle.calls.specs.Room.{Room};
 ghost use Rattle.volume_calls.specs.Writing.{writeSized, treeWritten, leaves};
 
 // Whether the depth is one, and block, tree, marks and root have the lengths of it.
@@ -24,6 +29,71 @@ fn sizes_fit(depth: usize, block: usize, tree: usize, marks: usize, root: usize)
     root == 512
 }
 
+// write_tree, with arrays for the table's words and index.
+fn write_in(
+    depth: usize,
+    table: &[u8],
+    block: &[u8],
+    tree: &mut [u8],
+    marks: &mut [u8],
+    root: &mut [u8],
+    words: &mut [u32],
+    starts: &mut [usize],
+) -> Answer
+    requires { ⌜ Room depth (now words) (now starts) ⌝ }
+    ensures { λ r.
+        ⌜ leaves r (now (tree .exit)) (now (marks .exit)) (now (root .exit))
+        ≡ treeWritten depth (now (table .entry)) (now (block .entry)) (now (tree .entry)) (now (marks .entry)) (now (root .entry)) ⌝ }
+{
+    let sized = sizes_fit(depth, block.len(), tree.len(), marks.len(), root.len());
+    if let Answer::Stopped(s) = admit(depth, sized, table, words, starts) {
+        return Answer::Stopped(s);
+    }
+    let n = table.len() / 4;
+    coded_tree::write(
+        Kind::Plain,
+        depth,
+        &words[..n],
+        starts,
+        block,
+        tree,
+        marks,
+        root,
+    );
+    Answer::Done
+}
+
+// write_tree for a deeper tree.
+fn write_deep(
+    depth: usize,
+    table: &[u8],
+    block: &[u8],
+    tree: &mut [u8],
+    marks: &mut [u8],
+    root: &mut [u8],
+) -> Answer
+    ensures { λ r.
+        ⌜ leaves r (now (tree .exit)) (now (marks .exit)) (now (root .exit))
+        ≡ treeWritten depth (now (table .entry)) (now (block .entry)) (now (tree .entry)) (now (marks .entry)) (now (root .entry)) ⌝ }
+{
+    let mut words = [0u32; MAX_WORDS];
+    let mut starts = [0usize; MAX_EQUATIONS];
+    let answer = write_in(
+        depth,
+        table,
+        block,
+        tree,
+        marks,
+        root,
+        &mut words,
+        &mut starts,
+    );
+    if stops_at_depth(depth, answer) {
+        return write_deep(0, table, block, tree, marks, root);
+    }
+    answer
+}
+
 // Writes the tree of a block, its marks and its root, by a table that comes as bytes: tests 1, 2, 3, 10.
 pub fn write_tree(
     depth: usize,
@@ -37,22 +107,19 @@ pub fn write_tree(
         ⌜ leaves r (now (tree .exit)) (now (marks .exit)) (now (root .exit))
         ≡ treeWritten depth (now (table .entry)) (now (block .entry)) (now (tree .entry)) (now (marks .entry)) (now (root .entry)) ⌝ }
 {
-    let sized = sizes_fit(depth, block.len(), tree.len(), marks.len(), root.len());
-    let mut words = [0u32; MAX_WORDS];
-    let mut starts = [0usize; MAX_EQUATIONS];
-    if let Answer::Stopped(s) = admit(depth, sized, table, &mut words, &mut starts) {
-        return Answer::Stopped(s);
+    if is_deep(depth) {
+        return write_deep(depth, table, block, tree, marks, root);
     }
-    let n = table.len() / 4;
-    coded_tree::write(
-        Kind::Plain,
+    let mut words = [0u32; SHALLOW_WORDS];
+    let mut starts = [0usize; SHALLOW_EQUATIONS];
+    write_in(
         depth,
-        &words[..n],
-        &starts,
+        table,
         block,
         tree,
         marks,
         root,
-    );
-    Answer::Done
+        &mut words,
+        &mut starts,
+    )
 }

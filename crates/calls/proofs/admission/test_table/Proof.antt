@@ -4,10 +4,12 @@ use native.Mathlib.Omega.{arith}
 use lib.ListN.{length}
 use borrow.Author.Needs.{needs}
 use Rattle.octets.proofs.Choice.{not-yes, not-no}
-use Rattle.table_bytes.proofs.ByteForm.{quarter-most, words-front, wordsOf-length}
+use Rattle.table_bytes.specs.Bytes.{wordsOf}
+use Rattle.table_bytes.proofs.ByteForm.{front-length}
 use Rattle.calls.specs.declared.Answer.the-variants.{Done}
 use Rattle.calls.specs.Tests.{wordsTested}
-use Rattle.calls.proofs.AdmissionLaws.{not-opened, not-long, goes-on, by-begun}
+use Rattle.calls.proofs.AdmissionLaws.{not-opened, not-long, goes-on, by-begun, front-there, tested-front}
+use Rattle.calls.proofs.TestLaws.{opened-by}
 use Rattle.calls.proofs.admission.test_table.Statement.{statement}
 use Rattle.calls.proofs.admission.test_table.Tie as tie
 
@@ -37,22 +39,19 @@ returns-2 c =
     (not-long (a .depth) (a .sized) (a .table .now) o (sym (c .before .length-fits .ensures) ∙ not-yes _ (c .if1 .taken))) (a .words .now)
 
 words-from-requires : tie.Need-words-from-requires
-words-from-requires c κs =
-    let s = c .before .before .before .before .before .before .before .before in
-    let q = quarter-most (length (s .args .table .now)) (sym (c .before .before .length-fits .ensures) ∙ not-no _ (c .before .if1 .left)) in
-    omega (arith, s .pre)
+words-from-requires c κs = search needs
 
 slice-reshare-prefix-check-words : tie.Need-slice-reshare-prefix-check-words
 slice-reshare-prefix-check-words c =
-    let s = c .before .before .before .before .before .before .before .before .before .before .before in
-    let q = quarter-most (length (s .args .table .now)) (sym (c .before .before .before .before .before .length-fits .ensures) ∙ not-no _ (c .before .before .before .before .if1 .left)) in
-    omega (arith, s .pre, c .before .before .words-from .kept)
+    let a = c .before .before .before .before .before .before .before .before .before .before .before .args in
+    let w = c .before .before .words-from in
+    omega (arith, w .ensures .0, w .kept, front-length (a .table .now) (length (a .words .now)))
 
 slice-aggregate-check-words : tie.Need-slice-aggregate-check-words
 slice-aggregate-check-words c =
     let a = c .before .before .before .before .before .before .before .before .before .before .before .before .args in
-    let w = c .before .before .before .words-from in
-    sym (ap length (words-front (a .table .now) (a .words .now) _ (w .ensures)) ∙ wordsOf-length (a .table .now))
+    let w = c .before .before .before .words-from .ensures in
+    w .0 ∙ sym (ap length (front-there (a .table .now) (a .words .now) _ _ (w .0) (w .1)))
 
 check-words-requires : tie.Need-check-words-requires
 check-words-requires c κs = search needs
@@ -63,11 +62,17 @@ same-length c = search needs
 returns-3 : tie.Need-returns-3
 returns-3 c =
     let a = c .before .before .before .before .before .before .before .before .before .before .before .before .before .args in
-    let w = c .before .before .before .before .words-from in
+    let w = c .before .before .before .before .words-from .ensures in
     let o = sym (c .before .before .before .before .before .before .before .before .enum-told .given .1) ∙ c .before .before .before .before .before .before .before .before .before .before .enter .ensures in
     let l = sym (c .before .before .before .before .before .before .before .length-fits .ensures) ∙ not-no _ (c .before .before .before .before .before .before .if1 .left) in
     let (x, y) = by-begun (a .depth) (a .sized) (a .table .now) Done (goes-on (a .depth) (a .sized) (a .table .now) o l) (a .words .now) in
-    (c .check-words .ensures ∙ ap (wordsTested (a .depth)) (words-front (a .table .now) (a .words .now) _ (w .ensures)) ∙ x, w .ensures ∙ y)
+    let h = c .before .before .before .before .before .before .before .before .before .before .before .before .before .pre (opened-by (a .depth) (a .sized) (sym o) .deep) in (
+      c .check-words .ensures
+          ∙ ap (wordsTested (a .depth)) (front-there (a .table .now) (a .words .now) _ _ (w .0) (w .1))
+          ∙ tested-front (a .depth) (length (a .words .now)) (wordsOf (a .table .now)) h
+          ∙ x,
+      w .1 ∙ y,
+    )
 
 pub test-table-spec : {M : Type 1} → statement M
 test-table-spec =
