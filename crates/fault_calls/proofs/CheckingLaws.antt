@@ -18,12 +18,13 @@ use Rattle.model.specs.Fault.{proofLayer, proofEquation, proofWithheld, proofMe
 use Rattle.model.proofs.Counts.{length-others}
 use Rattle.model.proofs.Sound.{broken-inside}
 use Rattle.calls.specs.declared.Answer.{Answer}
-use Rattle.calls.specs.declared.Answer.the-variants.{Done}
+use Rattle.calls.specs.declared.Stop.the-variants.{Depth}
+use Rattle.calls.specs.declared.Answer.the-variants.{Done, Stopped}
 use Rattle.calls.specs.Lengths.{rootSized}
 use Rattle.calls.specs.Tests.{_then_, admitted}
 use Rattle.calls.specs.Stops.{Small}
 use Rattle.calls.proofs.TestLaws.{stopped-not, then-done, small-plain, small-then}
-use Rattle.calls.proofs.AdmissionLaws.{TableTaken, Admitted, admission, table-laws-of, small-admitted}
+use Rattle.calls.proofs.AdmissionLaws.{TableTaken, Admitted, admission, none-admitted, table-laws-of, small-admitted}
 use Rattle.fault_calls.specs.Checking.{proofSized, judged, proofChecked}
 
 -- the lengths, where their test passes
@@ -45,6 +46,11 @@ module _ (d : ℕ) (root table b : List ℕ) where
   pub judged-so : Done ≡ admitted d (proofSized (length root) (length b)) table → judged found ≡ proofChecked d root table b
   unfolding proofChecked
   judged-so e = ap (λ (a : Answer). a then judged found) e
+
+  -- .. and at depth 0 the first has not
+  pub none-checked : Stopped Depth ≡ proofChecked 0 root table b
+  unfolding proofChecked
+  none-checked = ap (λ (a : Answer). a then judged found) (none-admitted (proofSized (length root) (length b)) table)
 
   -- the tests that an accepted proof has passed
   pub record Passed : Type 0 where

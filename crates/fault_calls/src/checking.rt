@@ -2,12 +2,17 @@
 use calls::Answer;
 use calls::Stop;
 use calls::admit;
+use calls::stops_at_depth;
 use fault_proof::Verdict;
 use parity_table::MAX_EQUATIONS;
+use parity_table::SHALLOW_EQUATIONS;
+use parity_table::is_deep;
 use symbol_hash::Kind;
 use table_bytes::MAX_WORDS;
+use table_bytes::SHALLOW_WORDS;
 ghost use mathlib.Core.Path.{_≡_};
 ghost use Rattle.fault_proof.specs.Verdicts.{verdictOf};
+ghost use Rattle.calls.specs.Room.{Room};
 ghost use Rattle.fault_calls.specs.Checking.{proofSized, judged, proofChecked};
 
 // The checker's verdict as an answer.
@@ -33,17 +38,48 @@ fn sizes_fit(root: usize, proof: usize) -> bool
     12 <= proof
 }
 
+// check, with arrays for the table's words and index.
+fn check_in(
+    depth: usize,
+    root: &[u8],
+    table: &[u8],
+    proof: &[u8],
+    words: &mut [u32],
+    starts: &mut [usize],
+) -> Answer
+    requires { ⌜ Room depth (now words) (now starts) ⌝ }
+    ensures { λ r. ⌜ r ≡ proofChecked depth (now (root .entry)) (now (table .entry)) (now (proof .entry)) ⌝ }
+{
+    let sized = sizes_fit(root.len(), proof.len());
+    if let Answer::Stopped(s) = admit(depth, sized, table, words, starts) {
+        return Answer::Stopped(s);
+    }
+    let n = table.len() / 4;
+    answer_of(fault_proof::check(Kind::Plain, depth, &words[..n], starts, root, proof))
+}
+
+// check for a deeper tree.
+fn check_deep(depth: usize, root: &[u8], table: &[u8], proof: &[u8]) -> Answer
+    ensures { λ r. ⌜ r ≡ proofChecked depth (now (root .entry)) (now (table .entry)) (now (proof .entry)) ⌝ }
+{
+    let mut words = [0u32; MAX_WORDS];
+    let mut starts = [0usize; MAX_EQUATIONS];
+    let answer = check_in(depth, root, table, proof, &mut words, &mut starts);
+    if stops_at_depth(depth, answer) {
+        return check_deep(0, root, table, proof);
+    }
+    answer
+}
+
 // Checks a fault proof against a root and a table that comes as bytes: tests 1, 2, 3, 10, 6, then 2 again for the length its head demands, 7, 8.
 // Done: a fault is shown.
 pub fn check(depth: usize, root: &[u8], table: &[u8], proof: &[u8]) -> Answer
     ensures { λ r. ⌜ r ≡ proofChecked depth (now (root .entry)) (now (table .entry)) (now (proof .entry)) ⌝ }
 {
-    let sized = sizes_fit(root.len(), proof.len());
-    let mut words = [0u32; MAX_WORDS];
-    let mut starts = [0usize; MAX_EQUATIONS];
-    if let Answer::Stopped(s) = admit(depth, sized, table, &mut words, &mut starts) {
-        return Answer::Stopped(s);
+    if is_deep(depth) {
+        return check_deep(depth, root, table, proof);
     }
-    let n = table.len() / 4;
-    answer_of(fault_proof::check(Kind::Plain, depth, &words[..n], &starts, root, proof))
+    let mut words = [0u32; SHALLOW_WORDS];
+    let mut starts = [0usize; SHALLOW_EQUATIONS];
+    check_in(depth, root, table, proof, &mut words, &mut starts)
 }

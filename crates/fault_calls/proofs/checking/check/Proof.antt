@@ -1,92 +1,39 @@
--- `check` meets its contract: refused by a test, or as the verdict says.
-use mathlib.Core.Path.{sym, ap, _∙_}
-use mathlib.Core.Bool.{Bool}
-use mathlib.Core.List.{List}
-use Prim.Native.Nat.{ℕ}
-use lib.ListN.{length}
+-- `check` meets its contract: small arrays serve a depth that is not deep.
 use borrow.Author.Needs.{needs}
-use lib.Dec.{lit≤}
-use Rattle.parity_table.specs.Shape.{kOf}
-use Rattle.parity_table.specs.Parse.{equationsAbove, tableOf}
-use Rattle.table_bytes.specs.Bytes.{wordsOf}
-use Rattle.symbol_hash.specs.SymbolHash.{symbolHash}
-use Rattle.symbol_hash.specs.declared.Kind.the-variants.{Plain}
-use Rattle.calls.specs.declared.Answer.{Answer}
-use Rattle.calls.specs.Tests.{_then_, admitted}
-use Rattle.calls.proofs.AdmissionLaws.{ready}
-use Rattle.model.specs.Shape.{tree}
-use Rattle.model.specs.Fault.{verdict}
-use Rattle.fault_calls.specs.Checking.{judged, proofChecked}
-use Rattle.fault_calls.proofs.CheckingLaws.{judged-so, sizes}
+use Rattle.parity_table.specs.Shape.{shallow}
+use Rattle.calls.proofs.AdmissionLaws.{room-for, shallow-up-to}
 use Rattle.fault_calls.proofs.checking.check.Statement.{statement}
 use Rattle.fault_calls.proofs.checking.check.Tie as tie
 
-sizes-fit-requires : tie.Need-sizes-fit-requires
-sizes-fit-requires c κs = search needs
+is-deep-requires : tie.Need-is-deep-requires
+is-deep-requires c κs = search needs
 
-admit-requires : tie.Need-admit-requires
-admit-requires c κs = search needs
-
-enum-known-s : tie.Need-enum-known-s
-enum-known-s c = search needs
+check-deep-requires : tie.Need-check-deep-requires
+check-deep-requires c κs = search needs
 
 returns : tie.Need-returns
-unfolding proofChecked
-returns c =
-    let g = c .before .before .before .before .before .before .before .before .before .before .args in
-    ap (λ (a : Answer). a then judged (verdict tree (symbolHash Plain) (g .root .now) (tableOf (wordsOf (g .table .now))) (g .proof .now))) (sym (c .before .s .given .1) ∙ (c .before .before .before .admit .ensures .0 ∙ ap (λ (b : Bool). admitted (g .depth) b (g .table .now)) (c .before .before .before .before .before .before .sizes-fit .ensures)))
+returns c = search needs
 
-enum-told : tie.Need-enum-told
-enum-told c = search needs
+slice-aggregate-check-in : tie.Need-slice-aggregate-check-in
+slice-aggregate-check-in c = search needs
 
-array-share-prefix-words : tie.Need-array-share-prefix-words
-unfolding equationsAbove kOf
-array-share-prefix-words c =
-    let g = c .before .before .before .before .before .before .before .before .before .args in
-    ready (g .depth) (c .before .before .before .before .before .sizes-fit .result) (g .table .now) (sym (c .enum-told .given .1) ∙ c .before .before .admit .ensures .0) _ _ _ _ (c .before .before .admit .ensures .1) (c .before .before .admit .ensures .2) (lit≤ tt) .words-room
+slice-aggregate-check-in-2 : tie.Need-slice-aggregate-check-in-2
+slice-aggregate-check-in-2 c = search needs
 
-slice-aggregate-check : tie.Need-slice-aggregate-check
-unfolding equationsAbove kOf
-slice-aggregate-check c =
-    let g = c .before .before .before .before .before .before .before .before .before .before .args in
-    ready (g .depth) (c .before .before .before .before .before .before .sizes-fit .result) (g .table .now) (sym (c .before .enum-told .given .1) ∙ c .before .before .before .admit .ensures .0) _ _ _ _ (c .before .before .before .admit .ensures .1) (c .before .before .before .admit .ensures .2) (lit≤ tt) .words-count
-
-slice-aggregate-check-2 : tie.Need-slice-aggregate-check-2
-unfolding equationsAbove kOf
-slice-aggregate-check-2 c =
-    let g = c .before .before .before .before .before .before .before .before .before .before .before .args in
-    ready (g .depth) (c .before .before .before .before .before .before .before .sizes-fit .result) (g .table .now) (sym (c .before .before .enum-told .given .1) ∙ c .before .before .before .before .admit .ensures .0) _ _ _ _ (c .before .before .before .before .admit .ensures .1) (c .before .before .before .before .admit .ensures .2) (lit≤ tt) .starts-count
-
-check-requires : tie.Need-check-requires
-unfolding equationsAbove kOf
-check-requires c κs =
-    let g = c .before .before .before .before .before .before .before .before .before .before .before .args in
-    let k = ready (g .depth) (c .before .before .before .before .before .before .before .sizes-fit .result) (g .table .now) (sym (c .before .before .enum-told .given .1) ∙ c .before .before .before .before .admit .ensures .0) _ _ _ _ (c .before .before .before .before .admit .ensures .1) (c .before .before .before .before .admit .ensures .2) (lit≤ tt) in
-    let (r, l) = sizes (length (g .root .now)) (length (g .proof .now)) (sym (c .before .before .before .before .before .before .before .sizes-fit .ensures) ∙ k .admits .lengths) in
-    (k .indexed, r, l)
-
-answer-of-requires : tie.Need-answer-of-requires
-answer-of-requires c κs = search needs
+check-in-requires : tie.Need-check-in-requires
+check-in-requires c κs = room-for (c .before .before .before .before .before .before .before .args .depth) shallow (shallow-up-to (c .before .before .before .before .before .before .before .args .depth) (c .before .before .before .is-deep .ensures) (c .before .before .if1 .left))
 
 returns-2 : tie.Need-returns-2
-unfolding equationsAbove kOf
-returns-2 c =
-    let g = c .before .before .before .before .before .before .before .before .before .before .before .before .before .args in
-    let k = ready (g .depth) (c .before .before .before .before .before .before .before .before .before .sizes-fit .result) (g .table .now) (sym (c .before .before .before .before .enum-told .given .1) ∙ c .before .before .before .before .before .before .admit .ensures .0) _ _ _ _ (c .before .before .before .before .before .before .admit .ensures .1) (c .before .before .before .before .before .before .admit .ensures .2) (lit≤ tt) in
-    c .answer-of .ensures ∙ ap judged (c .before .check .ensures ∙ ap (λ (q : List ℕ). verdict tree (symbolHash Plain) (g .root .now) (tableOf q) (g .proof .now)) (k .words-there)) ∙ judged-so (g .depth) (g .root .now) (g .table .now) (g .proof .now) (sym (c .before .before .before .before .enum-told .given .1) ∙ (c .before .before .before .before .before .before .admit .ensures .0 ∙ ap (λ (b : Bool). admitted (g .depth) b (g .table .now)) (c .before .before .before .before .before .before .before .before .before .sizes-fit .ensures)))
+returns-2 c = search needs
 
 pub check-spec : {M : Type 1} → statement M
 check-spec =
     tie.close
     (tie.spec
-    sizes-fit-requires
-    admit-requires
-    enum-known-s
+    is-deep-requires
+    check-deep-requires
     returns
-    enum-told
-    array-share-prefix-words
-    slice-aggregate-check
-    slice-aggregate-check-2
-    check-requires
-    answer-of-requires
+    slice-aggregate-check-in
+    slice-aggregate-check-in-2
+    check-in-requires
     returns-2)
