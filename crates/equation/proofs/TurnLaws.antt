@@ -1,5 +1,5 @@
 -- One turn of (b) on the lent buffers: what each outcome comes to.
-use mathlib.Core.Bool.{Bool, _&&_, false, true}
+use mathlib.Core.Bool.{false, true}
 use mathlib.Core.List.{List, [], _++_, _∷_}
 use mathlib.Core.Path.{_∙_, _≡_, ap, ap₂, refl, subst, sym}
 use Prim.Native.Nat.{_*_, _+_, _-_, _<_, _^_, _≤_, suc, ℕ}
@@ -8,7 +8,7 @@ use native.Mathlib.Omega.{arith}
 use lib.Dec.{eqb, ltb}
 use lib.ListN.{drop, getD, length, length-drop, length-take, set, take}
 use lib.Seq.{paste, take-length}
-use borrow.Author.Tests.{eq-eqb, ltb-true, ne-eqb}
+use borrow.Author.Tests.{eq-eqb, leb-true, ltb-true, ne-eqb}
 use Rattle.octets.proofs.Choice.{and-yes, pick-no, pick-yes}
 use Rattle.octets.proofs.ListLaws.{part-ends}
 use Rattle.octets.specs.ByteLists.{same}
@@ -16,7 +16,7 @@ use Rattle.parity_table.proofs.Parse.{members-take}
 use Rattle.parity_table.specs.Members.{every, lastOf}
 use Rattle.parity_table.specs.Parse.{membersOf, over}
 use Rattle.model.proofs.Bytes.{length-zeros}
-use Rattle.model.proofs.Counts.{every-member, every-others, first-member, isIt, last-member, length-others}
+use Rattle.model.proofs.Counts.{every-member, every-others, first-member, firstOf-passes, isIt, last-member, length-others}
 use Rattle.model.proofs.Members.{length-xorOf, last-get}
 use Rattle.model.specs.Fault.{proofBytes, proofLength}
 use Rattle.model.specs.Repair.{St, absentAt, act, fault, fitsAt, form, refute, restOf, storeSym, twins, useEq, working, writeFault, writeTwins}
@@ -30,9 +30,9 @@ use Rattle.fault_writer.proofs.WayLaws.{layers-fewer, symbol-length}
 use Rattle.fault_writer.specs.Room.{Layers, Members, splice}
 use Rattle.equation.specs.Rooms.{Marked, Rooted, Stands, Workable, membersAt}
 use Rattle.equation.specs.States.{fitsIn, state}
-use Rattle.equation.specs.Turns.{Changed, Refuted, Told, Took, Turned, can, few}
+use Rattle.equation.specs.Turns.{Refuted, Took, few}
 use Rattle.equation.specs.declared.Turn.{Turn}
-use Rattle.equation.specs.declared.Turn.the-variants.{Fault, Left, Stored, Twins, Used}
+use Rattle.equation.specs.declared.Turn.the-variants.{Fault, Stored, Twins, Used}
 
 -- ---- what the calls of a turn ask
 
@@ -87,6 +87,14 @@ last-in xs h = subst (λ (z : ℕ). 1 ≤ count (isIt z) xs) (last-get xs 0 h) (
 pub absent-in : (ms m : List ℕ) (j x : ℕ) → 0 < count (absentAt tree m j) ms → x ≡ firstOf (absentAt tree m j) ms → 1 ≤ count (isIt x) ms
 absent-in ms m j x h e = subst (λ (z : ℕ). 1 ≤ count (isIt z) ms) (sym e) (first-member (absentAt tree m j) ms h)
 
+-- .. and absent
+pub first-is-absent : (ms m : List ℕ) (j x : ℕ) → 0 < count (absentAt tree m j) ms → x ≡ firstOf (absentAt tree m j) ms → absentAt tree m j x ≡ true
+first-is-absent ms m j x h e = ap (absentAt tree m j) e ∙ firstOf-passes (absentAt tree m j) ms h
+
+-- at most one member is absent, and not one: none is
+pub none-absent : (ms m : List ℕ) (j n : ℕ) → few j m ms ≡ true → n ≡ count (absentAt tree m j) ms → (n ≡ 1 → ⊥) → count (absentAt tree m j) ms ≡ 0
+none-absent ms m j n f e z = omega (arith, leb-true (count (absentAt tree m j) ms) 1 f, e, z)
+
 -- a number that is none of the members
 others-all : (n x : ℕ) (ms : List ℕ) → n ≤ x → every (λ y. ltb y n) ms ≡ true → others x ms ≡ ms
 unfolding others every
@@ -128,7 +136,7 @@ module _ (kind : Kind) (root ms : List ℕ) (j e : ℕ) (t m o u : List ℕ) whe
               act-forms s d ∙ pick-yes (fitsIn kind root t j x v) _ _ f
               ∙ sym (ap₂ (λ (a b : List ℕ). state a b o u′ (suc s) d working) (et ∙ ap₂ (λ (b n : ℕ). paste t (256 * (b + x)) v n) eb lv) mt
               ∙ ap (λ (a : List ℕ). state (putAt tree t j x v) (set m (place tree j x) 1) o a (suc s) d working) eu);
-          changed = (absent-in ms m j x some ex, mt, eu);
+          changed = (absent-in ms m j x some ex, first-is-absent ms m j x some ex, mt, eu);
         }
 
     pub form-faults : (n : ℕ) (o′ : List ℕ) → fitsIn kind root t j x v ≡ false → n ≡ length (proofBytes tree (symAt tree t) j e x ms)
@@ -199,23 +207,6 @@ twins-put o a b s v ls r ea eb =
     let z : 256 ≡ 0 + length s = omega arith in
     eb ∙ ap₂ (λ (q : List ℕ) (n : ℕ). splice q n v) ea z ∙ splice-more o 0 s (omega arith) v ∙ splice-over (s ++ v) o
 
--- ---- taken where at most one member is absent
-
-module _ (kind : Kind) (root ms : List ℕ) (j e : ℕ) (t m o u : List ℕ) where
-  pub left-alone : (b : Bool) → b ≡ false → Turned b kind root ms j e t m o u t m o u Left
-  left-alone b f = record { goes = λ s d. pick-no b _ _ f; told = f }
-
-  module _ (b : Bool) (f : b ≡ true) (t′ m′ o′ u′ : List ℕ) where
-    tells : (r : Turn) → Changed ms j e m u m′ u′ r → Told b ms j e m u m′ u′ r
-    tells Left c = absurd c
-    tells Used c = (f, c)
-    tells (Stored x) c = (f, c)
-    tells (Fault x n) c = f
-    tells (Twins x) c = f
-
-    pub taken : (r : Turn) → Took kind root ms j e t m o u t′ m′ o′ u′ r → Turned b kind root ms j e t m o u t′ m′ o′ u′ r
-    taken r k = record { goes = λ s d. pick-yes b _ _ f ∙ k .goes s d; told = tells r (k .changed) }
-
 -- ---- an equation in the words
 
 module _ (ws starts : List ℕ) (i : ℕ) (k : Stands ws starts i) where
@@ -228,12 +219,7 @@ module _ (ws starts : List ℕ) (i : ℕ) (k : Stands ws starts i) where
   members-are n e =
       part-ends ws (getD starts i 0) n ∙ ap (λ (q : ℕ). take q (drop (getD starts i 0) ws)) e ∙ sym (members-take (drop (getD starts i 0) ws))
 
+-- an equation that was taken by the part of the words that has its members
 module _ (kind : Kind) (root ms : List ℕ) (j e : ℕ) (t m o u : List ℕ) where
-  pub turned-there : (there t′ m′ o′ u′ : List ℕ) (r : Turn) → there ≡ ms → getD u e 0 ≡ 0 → Turned (few j m there) kind root there j e t m o u t′ m′ o′ u′ r
-      → Turned (can j m u e ms) kind root ms j e t m o u t′ m′ o′ u′ r
-  turned-there there t′ m′ o′ u′ r em z x =
-      subst (λ (b : Bool). Turned b kind root ms j e t m o u t′ m′ o′ u′ r) (sym (ap (λ (b : Bool). b && few j m ms) (eq-eqb (getD u e 0) 0 z)))
-      (subst (λ (l : List ℕ). Turned (few j m l) kind root l j e t m o u t′ m′ o′ u′ r) em x)
-
-  pub used-already : (getD u e 0 ≡ 0 → ⊥) → can j m u e ms ≡ false
-  used-already z = ap (λ (b : Bool). b && few j m ms) (ne-eqb (getD u e 0) 0 z)
+  pub took-there : (there t′ m′ o′ u′ : List ℕ) (r : Turn) → there ≡ ms → Took kind root there j e t m o u t′ m′ o′ u′ r → Took kind root ms j e t m o u t′ m′ o′ u′ r
+  took-there there t′ m′ o′ u′ r em k = subst (λ (l : List ℕ). Took kind root l j e t m o u t′ m′ o′ u′ r) em k

@@ -1,4 +1,4 @@
-// One turn of (b): an equation with at most one absent member.
+// One turn of (b): an equation with at most one absent member is taken.
 use crate::Turn;
 use crate::absent::count_absent;
 use crate::absent::first_absent;
@@ -10,6 +10,7 @@ use fault_writer::put_symbol;
 use parity_table::index;
 use symbol_hash::Kind;
 ghost use mathlib.Core.Path.{_≡_};
+ghost use mathlib.Core.Bool.{true};
 ghost use Prim.Native.Nat.{_<_};
 ghost use Rattle.octets.specs.ByteLists.{same};
 ghost use Rattle.model.specs.Shape.{tree as shape};
@@ -17,7 +18,7 @@ ghost use Rattle.model.specs.Symbols.{count, xorOf, zeros, symAt};
 ghost use Rattle.model.specs.Repair.{absentAt};
 ghost use Rattle.fault_writer.specs.Room.{Members};
 ghost use Rattle.equation.specs.Rooms.{Workable, Turnable, Stands, membersAt};
-ghost use Rattle.equation.specs.Turns.{Took, Refuted, Turned, few, can};
+ghost use Rattle.equation.specs.Turns.{Took, Refuted, few};
 
 // A number that no symbol has.
 const NONE: usize = 1 << 30;
@@ -93,8 +94,8 @@ fn holds(members: &[u32], tree: &[u8], j: usize) -> bool
     octets::equal_at(&sum, &zeros, 0)
 }
 
-// Equation e of layer j, which has these members, is taken where at most one of them is absent.
-fn take(
+// Takes equation e of layer j by its members, of which at most one is absent.
+fn settle(
     kind: Kind,
     root: &[u8],
     members: &[u32],
@@ -105,16 +106,13 @@ fn take(
     j: usize,
     e: usize,
 ) -> Turn
-    requires { ⌜ Turnable (now root) (now members) (now tree) (now marks) (now out) (now used) j e ⌝ }
+    requires { ⌜ Turnable (now root) (now members) (now tree) (now marks) (now out) (now used) j e
+        × (few j (now marks) (now members) ≡ true) ⌝ }
     ensures { λ r.
-        ⌜ Turned (few j (now (marks .entry)) (now (members .entry))) kind (now (root .entry)) (now (members .entry)) j e (now (tree .entry))
-        (now (marks .entry)) (now (out .entry)) (now (used .entry)) (now (tree .exit)) (now (marks .exit)) (now (out .exit)) (now (used .exit)) r ⌝ }
+        ⌜ Took kind (now (root .entry)) (now (members .entry)) j e (now (tree .entry)) (now (marks .entry)) (now (out .entry))
+        (now (used .entry)) (now (tree .exit)) (now (marks .exit)) (now (out .exit)) (now (used .exit)) r ⌝ }
 {
-    let absent = count_absent(members, marks, j);
-    if 1 < absent {
-        return Turn::Left;
-    }
-    if absent == 1 {
+    if count_absent(members, marks, j) == 1 {
         return form(kind, root, members, tree, marks, out, used, j, e);
     }
     if holds(members, tree, j) {
@@ -124,8 +122,8 @@ fn take(
     refute(kind, root, members, tree, out, j, e)
 }
 
-// Equation e of layer j, whose members start at starts[number] of the words, is taken where it is unused and has at most one absent member.
-pub fn solve(
+// Takes equation e of layer j, whose members start at starts[number] of the words. At most one of them is absent.
+pub fn take(
     kind: Kind,
     root: &[u8],
     words: &[u32],
@@ -139,16 +137,13 @@ pub fn solve(
     e: usize,
 ) -> Turn
     requires { ⌜ Stands (now words) (now starts) number
-        × Turnable (now root) (membersAt (now words) (now starts) number) (now tree) (now marks) (now out) (now used) j e ⌝ }
+        × Turnable (now root) (membersAt (now words) (now starts) number) (now tree) (now marks) (now out) (now used) j e
+        × (few j (now marks) (membersAt (now words) (now starts) number) ≡ true) ⌝ }
     ensures { λ r.
-        ⌜ Turned (can j (now (marks .entry)) (now (used .entry)) e (membersAt (now (words .entry)) (now (starts .entry)) number)) kind
-        (now (root .entry)) (membersAt (now (words .entry)) (now (starts .entry)) number) j e (now (tree .entry)) (now (marks .entry))
-        (now (out .entry)) (now (used .entry)) (now (tree .exit)) (now (marks .exit)) (now (out .exit)) (now (used .exit)) r ⌝ }
+        ⌜ Took kind (now (root .entry)) (membersAt (now (words .entry)) (now (starts .entry)) number) j e (now (tree .entry))
+        (now (marks .entry)) (now (out .entry)) (now (used .entry)) (now (tree .exit)) (now (marks .exit)) (now (out .exit)) (now (used .exit)) r ⌝ }
 {
-    if used[e] != 0 {
-        return Turn::Left;
-    }
     let at = starts[number];
     let end = at + index::count_members(words, at);
-    take(kind, root, &words[at..end], tree, marks, out, used, j, e)
+    settle(kind, root, &words[at..end], tree, marks, out, used, j, e)
 }
