@@ -1,17 +1,16 @@
 -- What the steps ask of the buffers that they are lent. Definitions only.
 use mathlib.Core.Path.{_≡_}
-use mathlib.Core.Bool.{true, false}
+use mathlib.Core.Bool.{false}
 use mathlib.Core.List.{List}
 use Prim.Native.Nat.{ℕ, _+_, _^_, _≤_, _<_}
 use lib.ListN.{length}
-use lib.Dec.{ltb}
-use Rattle.parity_table.specs.Members.{every}
 use Rattle.parity_table.specs.Table.{layerOf, equationOf}
 use Rattle.model.specs.Shape.{tree, places}
 use Rattle.model.specs.Fault.{proofLength}
 use Rattle.fault_writer.specs.Room.{Layers}
-use Rattle.equation.specs.Rooms.{Rooted, Stands, membersAt}
+use Rattle.equation.specs.Rooms.{Rooted, membersAt}
 use Rattle.equation.specs.Turns.{can}
+use Rattle.incidence.specs.Incidence.{Listed}
 use Rattle.peeling.specs.Firsts.{NoneBefore}
 
 -- root, tree and marks have what n symbols of layer j need
@@ -20,12 +19,7 @@ pub record Level (root t m : List ℕ) (j n : ℕ) : Type 0 where
   pub rooted : Rooted root j n
   pub marks-room : places tree j + n ≤ length m
 
--- n equations, the first being number `from` of the index, are in the words, and their members are below `symbols`
-pub record Listed (ws starts : List ℕ) (from n symbols : ℕ) : Type 0 where
-  pub stands : (e : ℕ) → e < n → Stands ws starts (from + e)
-  pub within : (e : ℕ) → e < n → every (λ y. ltb y symbols) (membersAt ws starts (from + e)) ≡ true
-
--- .. and layer j has them: each can be worked on, u saying which of them are used
+-- .. and the equations that layer j has are in the words: each can be worked on, u saying which of them are used
 pub record Lent (root ws starts t m out u : List ℕ) (from j : ℕ) : Type 0 where
   pub symbols : ℕ
   pub numbered : symbols ≤ 2 ^ 30

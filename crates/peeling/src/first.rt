@@ -5,8 +5,8 @@ ghost use mathlib.Core.Bool.{true};
 ghost use lib.ListN.{length};
 ghost use lib.Dec.{ltb};
 ghost use Rattle.parity_table.specs.Members.{every};
+ghost use Rattle.incidence.specs.Incidence.{Listed};
 ghost use Rattle.peeling.specs.Firsts.{setAll, firstsFrom};
-ghost use Rattle.peeling.specs.Levels.{Listed};
 
 // Sets e at each of the members.
 fn set_members(members: &[u32], e: usize, first: &mut [usize])

@@ -28,7 +28,8 @@ use Rattle.equation.specs.Rooms.{Stands, membersAt}
 use Rattle.equation.specs.States.{state}
 use Rattle.peeling.proofs.FirstLaws.{within-longer}
 use Rattle.peeling.specs.Firsts.{NoneBefore}
-use Rattle.peeling.specs.Levels.{Lent, Level, Listed, Peelable, Reads}
+use Rattle.incidence.specs.Incidence.{Listed}
+use Rattle.peeling.specs.Levels.{Lent, Level, Peelable, Reads}
 use Rattle.peeling.specs.States.{Came, Moved}
 use Rattle.peeling.specs.States.{endOf as endAfter}
 use Rattle.peeling.specs.declared.Outcome.{Outcome}
