@@ -1,3 +1,3 @@
 pub mod Levels
-pub mod Firsts
+pub mod Search
 pub mod States

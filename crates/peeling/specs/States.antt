@@ -2,8 +2,10 @@
 use mathlib.Core.Path.{_≡_}
 use mathlib.Core.List.{List}
 use Prim.Native.Nat.{ℕ}
+use lib.ListN.{length}
 use Rattle.model.specs.Repair.{St, End, working}
 use Rattle.equation.specs.States.{state}
+use Rattle.peeling.specs.Search.{Counted, Ordered}
 use Rattle.peeling.specs.declared.Outcome.{Outcome}
 use Rattle.peeling.specs.declared.Outcome.the-variants.{Peeled, Fault, Twins}
 use Rattle.model.specs.Repair as repair
@@ -21,3 +23,9 @@ endOf j (Twins x) = repair.twins j x
 -- steps f of layer j, from these buffers with s symbols stored, come to those with s′ stored and this outcome
 pub record Came (f : St → St) (j : ℕ) (t m o u t′ m′ o′ u′ : List ℕ) (s s′ : ℕ) (r : Outcome) : Type 0 where
   pub goes : (d : ℕ) → f (state t m o u s d working) ≡ state t′ m′ o′ u′ s′ d (endOf j r)
+
+-- where an outcome leaves more to do, the lists by which the next equation is found are right
+abbrev pub Kept : List ℕ → List ℕ → ℕ → ℕ → List ℕ → List ℕ → List ℕ → List ℕ → Outcome → Type 0
+Kept ws starts from j m u absent order Peeled = Counted ws starts from j (length u) m absent × Ordered u absent order
+Kept ws starts from j m u absent order (Fault e x n) = Unit {0}
+Kept ws starts from j m u absent order (Twins x) = Unit {0}

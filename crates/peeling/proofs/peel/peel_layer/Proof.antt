@@ -1,209 +1,222 @@
--- `peel_layer` meets its contract. The loop keeps: what is left to do from equation e on gives what all of it gives.
+-- `peel_layer` meets its contract. The loop keeps: what is left to do gives what all of it gives, and the lists of the search are right.
 use mathlib.Core.Path.{_∙_, _≡_, refl}
-use Prim.Native.Nat.{_*_, _+_, _-_, _<_, _^_}
+use Prim.Native.Nat.{_<_}
 use native.Mathlib.Omega.{arith}
 use lib.ListN.{length}
 use borrow.Author.Needs.{needs}
-use Rattle.peeling.proofs.PeelLaws.{Peeling, fault-ends, left-on, member-below, peel-over, peel-start, stored-few, stored-on, turnable, twins-ends, used-on}
-use Rattle.peeling.proofs.TurnLaws.{left-unused, stored-fewer, stored-in, unused, used-fewer}
+use Rattle.peeling.proofs.LoopLaws.{Searching, absent-kept, least-asks, lower-asks, order-kept, search-faulty, search-over, search-start, search-stored, search-twins, search-used, set-asks, stored-less, take-asks, used-less}
+use Rattle.peeling.proofs.PeelLaws.{stored-few}
+use Rattle.peeling.proofs.TurnLaws.{unused}
 use Rattle.peeling.proofs.peel.peel_layer.Statement.{statement}
 use Rattle.peeling.proofs.peel.peel_layer.Tie as tie
 
 abbrev Inv-loop : tie.InvT-loop
-Inv-loop kind root words starts from first tree₀ marks₀ out₀ used₀ j start stored n got₀ e₀ tree marks out used got e =
-    (n ≡ length used₀) × Peeling kind root words starts from j tree₀ marks₀ out₀ used₀ stored e tree marks out used got
+Inv-loop kind root words starts from last next tree₀ marks₀ out₀ used₀ absent₀ order₀ j stored n got₀ tree marks out used absent order got =
+    (n ≡ length used₀) × Searching kind root words starts from j tree₀ marks₀ out₀ used₀ stored tree marks out used absent order got
 
--- no two turns of a search, which goes through fewer than 2^31 equations, leave the same equations unused
+-- every turn takes an equation
 abbrev μ-loop : tie.MeasureT-loop
-μ-loop kind root words starts from first tree₀ marks₀ out₀ used₀ j start stored n got₀ e₀ tree marks out used got e = unused used * 2 ^ 31 + (n - e)
+μ-loop kind root words starts from last next tree₀ marks₀ out₀ used₀ absent₀ order₀ j stored n got₀ tree marks out used absent order got = unused used
 
 loop-holds : tie.Need-loop-holds Inv-loop μ-loop
-loop-holds c = let s = c .before .before .before .before .before .before .before .before in (refl, peel-start (s .args .kind) (s .args .stored) (s .pre .0))
+loop-holds c = let s = c .before .before .before .before .before .before .before .before .before .before .before in (refl, search-start (s .pre .0) (s .args .kind) (s .args .stored))
 
-add-solve : tie.Need-add-solve Inv-loop μ-loop
-add-solve c =
-    let i = c in
-    let l = i .before .loop in
-    let s = i .before .before .before .before .before .before .before .before .before .before in
-    omega (arith, s .pre .0 .lent .listed .stands (l .e) (omega (arith, l .inv .0, i .loop-test .taken)) .listed)
+least-requires : tie.Need-least-requires Inv-loop μ-loop
+least-requires c κs = let a = c .before in least-asks (a .before .before .before .before .before .before .before .before .before .before .before .before .pre .0) (a .loop .inv .1)
 
-solve-requires : tie.Need-solve-requires Inv-loop μ-loop
-solve-requires c κs =
+cast-e : tie.Need-cast-e Inv-loop μ-loop
+cast-e c = search needs
+
+same-length : tie.Need-same-length Inv-loop μ-loop
+same-length c = c .before .before .before .loop .inv .1 .peeling .tree-length
+
+same-length-2 : tie.Need-same-length-2 Inv-loop μ-loop
+same-length-2 c = c .before .before .before .loop .inv .1 .peeling .marks-length
+
+same-length-3 : tie.Need-same-length-3 Inv-loop μ-loop
+same-length-3 c = c .before .before .before .loop .inv .1 .peeling .out-length
+
+same-length-4 : tie.Need-same-length-4 Inv-loop μ-loop
+same-length-4 c = c .before .before .before .loop .inv .1 .peeling .used-length
+
+same-length-5 : tie.Need-same-length-5 Inv-loop μ-loop
+same-length-5 c = let a = c .before .before .before in absent-kept (a .before .before .before .before .before .before .before .before .before .before .before .before .pre .0) (a .loop .inv .1)
+
+same-length-6 : tie.Need-same-length-6 Inv-loop μ-loop
+same-length-6 c = let a = c .before .before .before in order-kept (a .before .before .before .before .before .before .before .before .before .before .before .before .pre .0) (a .loop .inv .1)
+
+returns : tie.Need-returns Inv-loop μ-loop
+returns c =
+    let a = c .before .before .before in
+    search-over (a .before .before .before .before .before .before .before .before .before .before .before .before .pre .0) (a .loop .inv .1) (c .before .least .ensures) (omega (arith, a .loop .inv .0, c .if1 .taken))
+
+cast-set : tie.Need-cast-set Inv-loop μ-loop
+cast-set c = let a = c .before .before .before .before in omega (arith, a .loop .inv .0, a .before .before .before .before .before .before .before .before .before .before .before .before .pre .0 .lent .low)
+
+set-requires : tie.Need-set-requires Inv-loop μ-loop
+set-requires c κs =
+    let i = c .before in
+    let b = i .before in
+    let l = b .before .before .loop in
+    let s = b .before .before .before .before .before .before .before .before .before .before .before .before .before .before in
+    let he : b .least .result < length (s .args .used .now) = omega (arith, l .inv .0, i .if1 .left) in
+    set-asks (s .pre .0) (l .inv .1) (b .least .ensures) he
+
+add-take : tie.Need-add-take Inv-loop μ-loop
+add-take c =
     let i = c .before .before .before .before in
-    let l = i .before .loop in
-    let s = i .before .before .before .before .before .before .before .before .before .before in
-    let he : l .e < length (s .args .used .now) = omega (arith, l .inv .0, i .loop-test .taken) in
-    (s .pre .0 .lent .listed .stands (l .e) he, turnable (s .pre .0 .lent) he (l .inv .1))
+    let b = i .before in
+    let l = b .before .before .loop in
+    let s = b .before .before .before .before .before .before .before .before .before .before .before .before .before .before in
+    let he : b .least .result < length (s .args .used .now) = omega (arith, l .inv .0, i .if1 .left) in
+    omega (arith, s .pre .0 .lent .listed .stands (b .least .result) he .listed)
+
+take-requires : tie.Need-take-requires Inv-loop μ-loop
+take-requires c κs =
+    let i = c .before .before .before .before .before .before .before .before in
+    let b = i .before in
+    let l = b .before .before .loop in
+    let s = b .before .before .before .before .before .before .before .before .before .before .before .before .before .before in
+    let he : b .least .result < length (s .args .used .now) = omega (arith, l .inv .0, i .if1 .left) in
+    take-asks (s .pre .0) (l .inv .1) (b .least .ensures) he
 
 enum-told : tie.Need-enum-told Inv-loop μ-loop
 enum-told c = search needs
 
-add-e : tie.Need-add-e Inv-loop μ-loop
-add-e c =
-    let i = c .before .before .before .before .before .before .before .before .before .before .before .before .before .before .before in
-    omega (arith, i .before .before .before .before .before .before .before .before .before .before .pre .0 .lent .low, i .before .loop .inv .0, i .loop-test .taken)
-
 loop-less : tie.Need-loop-less Inv-loop μ-loop
 loop-less c =
     let w = c .before .before .before .before .before .before .before .before .before .before in
-    let i = w .before .before .before .before .before in
-    omega (arith, left-unused (w .solve .ensures) (c .enum-told .given .1), i .loop-test .taken)
+    let x = w .before .before .before .before .before .before .before in
+    let i = x .before .before in
+    let b = i .before in
+    let l = b .before .before .loop in
+    let s = b .before .before .before .before .before .before .before .before .before .before .before .before .before .before in
+    let he : b .least .result < length (s .args .used .now) = omega (arith, l .inv .0, i .if1 .left) in
+    used-less (s .pre .0) (l .inv .1) (b .least .ensures) he (x .set .ensures) (l .inv .0) (w .take .ensures) (c .enum-told .given .1)
 
 loop-again : tie.Need-loop-again Inv-loop μ-loop
 loop-again c =
     let w = c .before .before .before .before .before .before .before .before .before .before in
-    let v = w .solve in
-    let i = w .before .before .before .before .before in
-    let l = i .before .loop in
-    let s = i .before .before .before .before .before .before .before .before .before .before in
-    let he : l .e < length (s .args .used .now) = omega (arith, l .inv .0, i .loop-test .taken) in
-    (l .inv .0, left-on (l .inv .1) he (v .ensures) (v .kept .1 .1 .1 .1 .1 .0) (v .kept .1 .1 .1 .1 .1 .1 .0) (v .kept .1 .1 .1 .1 .1 .1 .1 .0) (v .kept .1 .1 .1 .1 .1 .1 .1 .1 .0) (c .enum-told .given .1))
-
-enum-told-2 : tie.Need-enum-told-2 Inv-loop μ-loop
-enum-told-2 c = search needs
-
-add-e-2 : tie.Need-add-e-2 Inv-loop μ-loop
-add-e-2 c =
-    let i = c .before .before .before .before .before .before .before .before .before .before .before .before .before .before .before in
-    omega (arith, i .before .before .before .before .before .before .before .before .before .before .pre .0 .lent .low, i .before .loop .inv .0, i .loop-test .taken)
-
-loop-less-2 : tie.Need-loop-less-2 Inv-loop μ-loop
-loop-less-2 c =
-    let w = c .before .before .before .before .before .before .before .before .before .before in
-    let v = w .solve in
-    let i = w .before .before .before .before .before in
-    let l = i .before .loop in
-    let s = i .before .before .before .before .before .before .before .before .before .before in
-    let he : l .e < length (s .args .used .now) = omega (arith, l .inv .0, i .loop-test .taken) in
-    omega (arith, used-fewer (v .ensures) (omega (arith, l .inv .1 .used-length)) (c .enum-told2 .given .1), s .pre .0 .lent .low, l .inv .0)
-
-loop-again-2 : tie.Need-loop-again-2 Inv-loop μ-loop
-loop-again-2 c =
-    let w = c .before .before .before .before .before .before .before .before .before .before in
-    let v = w .solve in
-    let i = w .before .before .before .before .before in
-    let l = i .before .loop in
-    let s = i .before .before .before .before .before .before .before .before .before .before in
-    let he : l .e < length (s .args .used .now) = omega (arith, l .inv .0, i .loop-test .taken) in
-    (l .inv .0, used-on (l .inv .1) he (v .ensures) (v .kept .1 .1 .1 .1 .1 .0) (v .kept .1 .1 .1 .1 .1 .1 .0) (v .kept .1 .1 .1 .1 .1 .1 .1 .0) (v .kept .1 .1 .1 .1 .1 .1 .1 .1 .0) (c .enum-told2 .given .1))
+    let x = w .before .before .before .before .before .before .before in
+    let i = x .before .before in
+    let b = i .before in
+    let l = b .before .before .loop in
+    let s = b .before .before .before .before .before .before .before .before .before .before .before .before .before .before in
+    let he : b .least .result < length (s .args .used .now) = omega (arith, l .inv .0, i .if1 .left) in
+    let k = w .take .kept .1 .1 .1 .1 .1 in
+    (l .inv .0, search-used (s .pre .0) (l .inv .1) (b .least .ensures) he (x .set .ensures) (l .inv .0) (w .take .ensures) (k .0) (k .1 .0) (k .1 .1 .0) (k .1 .1 .1 .0) (c .enum-told .given .1))
 
 enum-known-x : tie.Need-enum-known-x Inv-loop μ-loop
 enum-known-x c = search needs
 
 add-got : tie.Need-add-got Inv-loop μ-loop
-add-got c =
-    let w = c .before .before .before .before .before .before .before .before .before .before .before in
-    let v = w .solve in
-    let i = w .before .before .before .before .before in
-    let l = i .before .loop in
-    let s = i .before .before .before .before .before .before .before .before .before .before in
-    let he : l .e < length (s .args .used .now) = omega (arith, l .inv .0, i .loop-test .taken) in
-    omega (arith, stored-few (l .inv .1), s .pre .1, s .pre .0 .lent .low)
+add-got c = let a = c .before .before .before .before .before .before .before .before .before .before .before .before .before .before .before .before .before .before .before .before .before .before .before in omega (arith, stored-few (a .loop .inv .1 .peeling), a .before .before .before .before .before .before .before .before .before .before .before .before .pre .1, a .before .before .before .before .before .before .before .before .before .before .before .before .pre .0 .lent .low)
 
-mul-e : tie.Need-mul-e Inv-loop μ-loop
-mul-e c =
-    let w = c .before .before .before .before .before .before .before .before .before .before .before in
-    let v = w .solve in
-    let i = w .before .before .before .before .before in
-    let l = i .before .loop in
-    let s = i .before .before .before .before .before .before .before .before .before .before in
-    let he : l .e < length (s .args .used .now) = omega (arith, l .inv .0, i .loop-test .taken) in
-    omega (arith, member-below (s .pre .0 .lent) he _ (stored-in (v .ensures) _ (c .before .x .given .1)), s .pre .0 .first-room)
+lower-requires : tie.Need-lower-requires Inv-loop μ-loop
+lower-requires c κs =
+    let w = c .before .before .before .before .before .before .before .before .before .before .before .before .before .before in
+    let x = w .before .before .before .before .before .before .before in
+    let i = x .before .before in
+    let b = i .before in
+    let l = b .before .before .loop in
+    let s = b .before .before .before .before .before .before .before .before .before .before .before .before .before .before in
+    let he : b .least .result < length (s .args .used .now) = omega (arith, l .inv .0, i .if1 .left) in
+    let k = w .take .kept .1 .1 .1 .1 .1 in
+    lower-asks (s .pre .0) (l .inv .1) (b .least .ensures) he (x .set .ensures) (l .inv .0) (w .take .ensures) (k .0) (k .1 .0) (k .1 .1 .0) (k .1 .1 .1 .0) _ (c .before .before .before .before .x .given .1)
 
-shared-slice-read-e : tie.Need-shared-slice-read-e Inv-loop μ-loop
-shared-slice-read-e c =
-    let w = c .before .before .before .before .before .before .before .before .before .before .before .before in
-    let v = w .solve in
-    let i = w .before .before .before .before .before in
-    let l = i .before .loop in
-    let s = i .before .before .before .before .before .before .before .before .before .before in
-    let he : l .e < length (s .args .used .now) = omega (arith, l .inv .0, i .loop-test .taken) in
-    omega (arith, member-below (s .pre .0 .lent) he _ (stored-in (v .ensures) _ (c .before .before .x .given .1)), s .pre .0 .first-room)
+loop-less-2 : tie.Need-loop-less-2 Inv-loop μ-loop
+loop-less-2 c =
+    let w = c .before .before .before .before .before .before .before .before .before .before .before .before .before .before .before .before .before .before .before in
+    let x = w .before .before .before .before .before .before .before in
+    let i = x .before .before in
+    let b = i .before in
+    let l = b .before .before .loop in
+    let s = b .before .before .before .before .before .before .before .before .before .before .before .before .before .before in
+    let he : b .least .result < length (s .args .used .now) = omega (arith, l .inv .0, i .if1 .left) in
+    stored-less (s .pre .0) (l .inv .1) (b .least .ensures) he (x .set .ensures) (l .inv .0) (w .take .ensures) _ (c .before .before .before .before .before .before .before .before .before .x .given .1)
 
-loop-less-3 : tie.Need-loop-less-3 Inv-loop μ-loop
-loop-less-3 c =
-    let w = c .before .before .before .before .before .before .before .before .before .before .before .before in
-    let v = w .solve in
-    let i = w .before .before .before .before .before in
-    let l = i .before .loop in
-    let s = i .before .before .before .before .before .before .before .before .before .before in
-    let he : l .e < length (s .args .used .now) = omega (arith, l .inv .0, i .loop-test .taken) in
-    omega (arith, stored-fewer (v .ensures) (omega (arith, l .inv .1 .used-length)) _ (c .before .before .x .given .1), s .pre .0 .lent .low, l .inv .0)
-
-loop-again-3 : tie.Need-loop-again-3 Inv-loop μ-loop
-loop-again-3 c =
-    let w = c .before .before .before .before .before .before .before .before .before .before .before .before in
-    let v = w .solve in
-    let i = w .before .before .before .before .before in
-    let l = i .before .loop in
-    let s = i .before .before .before .before .before .before .before .before .before .before in
-    let he : l .e < length (s .args .used .now) = omega (arith, l .inv .0, i .loop-test .taken) in
-    (l .inv .0, stored-on (l .inv .1) he (v .ensures) (v .kept .1 .1 .1 .1 .1 .0) (v .kept .1 .1 .1 .1 .1 .1 .0) (v .kept .1 .1 .1 .1 .1 .1 .1 .0) (v .kept .1 .1 .1 .1 .1 .1 .1 .1 .0) (s .args .first .now) (s .pre .0 .none-before) _ (c .before .before .x .given .1))
+loop-again-2 : tie.Need-loop-again-2 Inv-loop μ-loop
+loop-again-2 c =
+    let y = c .before .before .before .before .lower in
+    let w = c .before .before .before .before .before .before .before .before .before .before .before .before .before .before .before .before .before .before .before in
+    let x = w .before .before .before .before .before .before .before in
+    let i = x .before .before in
+    let b = i .before in
+    let l = b .before .before .loop in
+    let s = b .before .before .before .before .before .before .before .before .before .before .before .before .before .before in
+    let he : b .least .result < length (s .args .used .now) = omega (arith, l .inv .0, i .if1 .left) in
+    let k = w .take .kept .1 .1 .1 .1 .1 in
+    (l .inv .0, search-stored (s .pre .0) (l .inv .1) (b .least .ensures) he (x .set .ensures) (l .inv .0) (w .take .ensures) (k .0) (k .1 .0) (k .1 .1 .0) (k .1 .1 .1 .0) _ (c .before .before .before .before .before .before .before .before .before .x .given .1) _ _ (y .kept .1 .1 .1 .0) (y .ensures .0) (y .ensures .1))
 
 enum-known-withheld : tie.Need-enum-known-withheld Inv-loop μ-loop
 enum-known-withheld c = search needs
 
-same-length : tie.Need-same-length Inv-loop μ-loop
-same-length c = let w = c .before .before .before .before .before .before .before .before .before .before .before in w .solve .kept .1 .1 .1 .1 .1 .0 ∙ w .before .before .before .before .before .before .loop .inv .1 .tree-length
-
-same-length-2 : tie.Need-same-length-2 Inv-loop μ-loop
-same-length-2 c = let w = c .before .before .before .before .before .before .before .before .before .before .before in w .solve .kept .1 .1 .1 .1 .1 .1 .0 ∙ w .before .before .before .before .before .before .loop .inv .1 .marks-length
-
-same-length-3 : tie.Need-same-length-3 Inv-loop μ-loop
-same-length-3 c = let w = c .before .before .before .before .before .before .before .before .before .before .before in w .solve .kept .1 .1 .1 .1 .1 .1 .1 .0 ∙ w .before .before .before .before .before .before .loop .inv .1 .out-length
-
-same-length-4 : tie.Need-same-length-4 Inv-loop μ-loop
-same-length-4 c = let w = c .before .before .before .before .before .before .before .before .before .before .before in w .solve .kept .1 .1 .1 .1 .1 .1 .1 .1 .0 ∙ w .before .before .before .before .before .before .loop .inv .1 .used-length
-
-returns : tie.Need-returns Inv-loop μ-loop
-returns c =
-    let w = c .before .before .before .before .before .before .before .before .before .before .before in
-    let v = w .solve in
-    let i = w .before .before .before .before .before in
-    let l = i .before .loop in
-    let s = i .before .before .before .before .before .before .before .before .before .before in
-    let he : l .e < length (s .args .used .now) = omega (arith, l .inv .0, i .loop-test .taken) in
-    (fault-ends (l .inv .1) he (v .ensures) _ _ (c .before .withheld .given .1), stored-few (l .inv .1))
-
-enum-known-x-2 : tie.Need-enum-known-x-2 Inv-loop μ-loop
-enum-known-x-2 c = search needs
-
-same-length-5 : tie.Need-same-length-5 Inv-loop μ-loop
-same-length-5 c = let w = c .before .before .before .before .before .before .before .before .before .before .before in w .solve .kept .1 .1 .1 .1 .1 .0 ∙ w .before .before .before .before .before .before .loop .inv .1 .tree-length
-
-same-length-6 : tie.Need-same-length-6 Inv-loop μ-loop
-same-length-6 c = let w = c .before .before .before .before .before .before .before .before .before .before .before in w .solve .kept .1 .1 .1 .1 .1 .1 .0 ∙ w .before .before .before .before .before .before .loop .inv .1 .marks-length
-
 same-length-7 : tie.Need-same-length-7 Inv-loop μ-loop
-same-length-7 c = let w = c .before .before .before .before .before .before .before .before .before .before .before in w .solve .kept .1 .1 .1 .1 .1 .1 .1 .0 ∙ w .before .before .before .before .before .before .loop .inv .1 .out-length
+same-length-7 c = let w = c .before .before .before .before .before .before .before .before .before .before .before in w .take .kept .1 .1 .1 .1 .1 .0 ∙ w .before .before .before .before .before .before .before .before .before .before .before .before .loop .inv .1 .peeling .tree-length
 
 same-length-8 : tie.Need-same-length-8 Inv-loop μ-loop
-same-length-8 c = let w = c .before .before .before .before .before .before .before .before .before .before .before in w .solve .kept .1 .1 .1 .1 .1 .1 .1 .1 .0 ∙ w .before .before .before .before .before .before .loop .inv .1 .used-length
+same-length-8 c = let w = c .before .before .before .before .before .before .before .before .before .before .before in w .take .kept .1 .1 .1 .1 .1 .1 .0 ∙ w .before .before .before .before .before .before .before .before .before .before .before .before .loop .inv .1 .peeling .marks-length
+
+same-length-9 : tie.Need-same-length-9 Inv-loop μ-loop
+same-length-9 c = let w = c .before .before .before .before .before .before .before .before .before .before .before in w .take .kept .1 .1 .1 .1 .1 .1 .1 .0 ∙ w .before .before .before .before .before .before .before .before .before .before .before .before .loop .inv .1 .peeling .out-length
+
+same-length-10 : tie.Need-same-length-10 Inv-loop μ-loop
+same-length-10 c = let w = c .before .before .before .before .before .before .before .before .before .before .before in w .take .kept .1 .1 .1 .1 .1 .1 .1 .1 .0 ∙ w .before .before .before .before .before .before .before .before .before .before .before .before .loop .inv .1 .peeling .used-length
+
+same-length-11 : tie.Need-same-length-11 Inv-loop μ-loop
+same-length-11 c = let a = c .before .before .before .before .before .before .before .before .before .before .before .before .before .before .before .before .before .before .before .before .before .before .before in absent-kept (a .before .before .before .before .before .before .before .before .before .before .before .before .pre .0) (a .loop .inv .1)
+
+same-length-12 : tie.Need-same-length-12 Inv-loop μ-loop
+same-length-12 c =
+    let x = c .before .before .before .before .before .before .before .before .before .before .before .before .before .before .before .before .before .before in
+    let a = x .before .before .before .before .before in
+    x .set .kept .0 ∙ order-kept (a .before .before .before .before .before .before .before .before .before .before .before .before .pre .0) (a .loop .inv .1)
 
 returns-2 : tie.Need-returns-2 Inv-loop μ-loop
 returns-2 c =
     let w = c .before .before .before .before .before .before .before .before .before .before .before in
-    let v = w .solve in
-    let i = w .before .before .before .before .before in
-    let l = i .before .loop in
-    let s = i .before .before .before .before .before .before .before .before .before .before in
-    let he : l .e < length (s .args .used .now) = omega (arith, l .inv .0, i .loop-test .taken) in
-    (twins-ends (l .inv .1) he (v .ensures) _ (c .before .x2 .given .1), stored-few (l .inv .1))
+    let x = w .before .before .before .before .before .before .before in
+    let i = x .before .before in
+    let b = i .before in
+    let l = b .before .before .loop in
+    let s = b .before .before .before .before .before .before .before .before .before .before .before .before .before .before in
+    let he : b .least .result < length (s .args .used .now) = omega (arith, l .inv .0, i .if1 .left) in
+    (search-faulty (s .pre .0) (l .inv .1) (b .least .ensures) he (x .set .ensures) (l .inv .0) (w .take .ensures) _ _ (c .before .withheld .given .1), stored-few (l .inv .1 .peeling), tt)
 
-same-length-9 : tie.Need-same-length-9 Inv-loop μ-loop
-same-length-9 c = c .before .loop .inv .1 .tree-length
+enum-known-x-2 : tie.Need-enum-known-x-2 Inv-loop μ-loop
+enum-known-x-2 c = search needs
 
-same-length-10 : tie.Need-same-length-10 Inv-loop μ-loop
-same-length-10 c = c .before .loop .inv .1 .marks-length
+same-length-13 : tie.Need-same-length-13 Inv-loop μ-loop
+same-length-13 c = let w = c .before .before .before .before .before .before .before .before .before .before .before in w .take .kept .1 .1 .1 .1 .1 .0 ∙ w .before .before .before .before .before .before .before .before .before .before .before .before .loop .inv .1 .peeling .tree-length
 
-same-length-11 : tie.Need-same-length-11 Inv-loop μ-loop
-same-length-11 c = c .before .loop .inv .1 .out-length
+same-length-14 : tie.Need-same-length-14 Inv-loop μ-loop
+same-length-14 c = let w = c .before .before .before .before .before .before .before .before .before .before .before in w .take .kept .1 .1 .1 .1 .1 .1 .0 ∙ w .before .before .before .before .before .before .before .before .before .before .before .before .loop .inv .1 .peeling .marks-length
 
-same-length-12 : tie.Need-same-length-12 Inv-loop μ-loop
-same-length-12 c = c .before .loop .inv .1 .used-length
+same-length-15 : tie.Need-same-length-15 Inv-loop μ-loop
+same-length-15 c = let w = c .before .before .before .before .before .before .before .before .before .before .before in w .take .kept .1 .1 .1 .1 .1 .1 .1 .0 ∙ w .before .before .before .before .before .before .before .before .before .before .before .before .loop .inv .1 .peeling .out-length
+
+same-length-16 : tie.Need-same-length-16 Inv-loop μ-loop
+same-length-16 c = let w = c .before .before .before .before .before .before .before .before .before .before .before in w .take .kept .1 .1 .1 .1 .1 .1 .1 .1 .0 ∙ w .before .before .before .before .before .before .before .before .before .before .before .before .loop .inv .1 .peeling .used-length
+
+same-length-17 : tie.Need-same-length-17 Inv-loop μ-loop
+same-length-17 c = let a = c .before .before .before .before .before .before .before .before .before .before .before .before .before .before .before .before .before .before .before .before .before .before .before in absent-kept (a .before .before .before .before .before .before .before .before .before .before .before .before .pre .0) (a .loop .inv .1)
+
+same-length-18 : tie.Need-same-length-18 Inv-loop μ-loop
+same-length-18 c =
+    let x = c .before .before .before .before .before .before .before .before .before .before .before .before .before .before .before .before .before .before in
+    let a = x .before .before .before .before .before in
+    x .set .kept .0 ∙ order-kept (a .before .before .before .before .before .before .before .before .before .before .before .before .pre .0) (a .loop .inv .1)
 
 returns-3 : tie.Need-returns-3 Inv-loop μ-loop
-returns-3 c = let l = c .before .loop in (peel-over (l .inv .1) (omega (arith, l .inv .0)), stored-few (l .inv .1))
+returns-3 c =
+    let w = c .before .before .before .before .before .before .before .before .before .before .before in
+    let x = w .before .before .before .before .before .before .before in
+    let i = x .before .before in
+    let b = i .before in
+    let l = b .before .before .loop in
+    let s = b .before .before .before .before .before .before .before .before .before .before .before .before .before .before in
+    let he : b .least .result < length (s .args .used .now) = omega (arith, l .inv .0, i .if1 .left) in
+    (search-twins (s .pre .0) (l .inv .1) (b .least .ensures) he (x .set .ensures) (l .inv .0) (w .take .ensures) _ (c .before .x2 .given .1), stored-few (l .inv .1 .peeling), tt)
 
 pub peel-layer-spec : {M : Type 1} → statement M
 peel-layer-spec =
@@ -212,36 +225,40 @@ peel-layer-spec =
     Inv-loop
     μ-loop
     loop-holds
-    add-solve
-    solve-requires
-    enum-told
-    add-e
-    loop-less
-    loop-again
-    enum-told-2
-    add-e-2
-    loop-less-2
-    loop-again-2
-    enum-known-x
-    add-got
-    mul-e
-    shared-slice-read-e
-    loop-less-3
-    loop-again-3
-    enum-known-withheld
+    least-requires
+    cast-e
     same-length
     same-length-2
     same-length-3
     same-length-4
-    returns
-    enum-known-x-2
     same-length-5
     same-length-6
+    returns
+    cast-set
+    set-requires
+    add-take
+    take-requires
+    enum-told
+    loop-less
+    loop-again
+    enum-known-x
+    add-got
+    lower-requires
+    loop-less-2
+    loop-again-2
+    enum-known-withheld
     same-length-7
     same-length-8
-    returns-2
     same-length-9
     same-length-10
     same-length-11
     same-length-12
+    returns-2
+    enum-known-x-2
+    same-length-13
+    same-length-14
+    same-length-15
+    same-length-16
+    same-length-17
+    same-length-18
     returns-3)
