@@ -1,14 +1,15 @@
 -- What repairing a tree answers and leaves.
-use mathlib.Core.Path.{_≡_, ap, ap₂, _∙_}
+use mathlib.Core.Path.{_≡_, sym, ap, ap₂, _∙_}
 use mathlib.Core.Bool.{true, _&&_}
 use mathlib.Core.List.{List}
-use Prim.Native.Nat.{ℕ, _+_, _-_, _*_, _≤_}
+use Prim.Native.Nat.{ℕ, _+_, _-_, _*_, _^_, _≤_}
 use native.Mathlib.Omega.{arith}
-use lib.ListN.{length}
+use lib.ListN.{length, length-replicate, replicate}
+use lib.Pow.{pow-mono}
 use lib.Dec.{eqb}
 use borrow.Author.Tests.{eqb-true}
 use Rattle.octets.proofs.Choice.{and-yes}
-use Rattle.parity_table.specs.Shape.{maxDepth}
+use Rattle.parity_table.specs.Shape.{depthFits, kOf, maxDepth}
 use Rattle.table_bytes.specs.Bytes.{wordsOf}
 use Rattle.parity_table.specs.Parse.{tableOf}
 use Rattle.parity_table.proofs.Shape.{depth-is}
@@ -17,8 +18,10 @@ use Rattle.symbol_hash.specs.declared.Kind.the-variants.{Plain}
 use Rattle.model.specs.Shape.{tree, places}
 use Rattle.model.specs.Repair.{St, repair}
 use Rattle.repair.specs.declared.End.{End}
+use Rattle.repair.specs.Buffers.{Lists}
 use Rattle.repair.specs.Reports.{endOf, Repaired}
 use Rattle.calls.specs.declared.Stop.{Stop}
+use Rattle.calls.specs.declared.Stop.the-variants.{Depth}
 use Rattle.calls.specs.declared.Answer.{Answer}
 use Rattle.calls.specs.declared.Answer.the-variants.{Done, Stopped}
 use Rattle.calls.specs.Lengths.{treeSized, rootSized}
@@ -26,8 +29,10 @@ use Rattle.calls.specs.Tests.{_then_, admitted, testMarks}
 use Rattle.calls.proofs.LengthLaws.{places-small, tree-lengths}
 use Rattle.calls.specs.Stops.{Small}
 use Rattle.calls.proofs.TestLaws.{then-done, small-then, small-marks}
-use Rattle.calls.proofs.AdmissionLaws.{Admitted, admission, small-admitted}
-use Rattle.fault_calls.specs.Repairing.{Result, ended, stopped, RepairLeft, leaves, repairSized, repairTested, repairOf, repairedBy, repaired}
+use Rattle.calls.proofs.AdmissionLaws.{Admitted, admission, none-admitted, small-admitted}
+use Rattle.fault_calls.specs.declared.Outcome.{Outcome}
+use Rattle.fault_calls.specs.declared.Outcome.the-variants as outcome
+use Rattle.fault_calls.specs.Repairing.{Result, ended, stopped, RepairLeft, leaves, repairSized, repairTested, repairOf, repairedBy, repaired, outcomeOf}
 
 -- ---- the lengths, where their test passes
 
@@ -55,6 +60,25 @@ module _ (root : List ℕ) (tbl : List (List (List ℕ))) (t m o : List ℕ) whe
       ∙ ap₂ (λ (x y : List ℕ). leaves (ended (steps .stored) (steps .end)) x y o′) (r .tree-is) (r .marks-is)
       ∙ ap (λ (x : List ℕ). leaves (ended (steps .stored) (steps .end)) (steps .tree) (steps .marks) x) (r .out-is)
       ∙ ap (λ (a : Answer). repairedBy a steps t m o) e
+
+-- ---- arrays for the search
+
+-- arrays of these lengths, by depth b, serve every depth up to b
+pub lists-for : (d b : ℕ) → (depthFits d ≡ true → d ≤ b) → depthFits d ≡ true
+    → Lists (kOf (d - 1)) (replicate (3 * (4 * 2 ^ (b - 1))) 0) (replicate (3 * (4 * 2 ^ (b - 1))) 0) (replicate (6 * (4 * 2 ^ (b - 1))) 0)
+    (replicate (4 * (4 * 2 ^ (b - 1))) 0) (replicate (24 * (4 * 2 ^ (b - 1))) 0)
+unfolding kOf
+lists-for d b up-to f =
+    let h = up-to f in
+    let p : 2 ^ (d - 1) ≤ 2 ^ (b - 1) = pow-mono {i = d - 1} {j = b - 1} (omega arith) in
+    let n : (x : ℕ) → length (replicate {A = ℕ} x 0) ≡ x = λ x. length-replicate {A = ℕ} x 0 in
+    record {
+      used-room = omega (arith, n (3 * (4 * 2 ^ (b - 1))));
+      absent-room = omega (arith, n (3 * (4 * 2 ^ (b - 1))));
+      order-room = omega (arith, n (6 * (4 * 2 ^ (b - 1))));
+      last-room = omega (arith, n (4 * (4 * 2 ^ (b - 1))));
+      next-room = omega (arith, n (24 * (4 * 2 ^ (b - 1))));
+    }
 
 -- ---- of the whole call
 
@@ -107,3 +131,16 @@ module _ (d : ℕ) (root table t m o : List ℕ) where
       small-then (admitted d (repairSized d (length root) (length t) (length m) (length o)) table) (testMarks m)
       (small-admitted d (repairSized d (length root) (length t) (length m) (length o)) table)
       (λ e. let k = admitted-formed e in small-marks m (omega (arith, k .marks-full, places-small d (k .shallow))))
+
+-- a repair that stopped
+pub stops-so : {q : Outcome} {s : Stop} {t m o : List ℕ} {x : RepairLeft Result} → q ≡ outcome.Stopped s → leaves (outcomeOf q) t m o ≡ x
+    → leaves (stopped s) t m o ≡ x
+stops-so {t = t} {m = m} {o = o} e f = ap (λ (z : Outcome). leaves (outcomeOf z) t m o) (sym e) ∙ f
+
+-- what is answered and left with 1 is answered and left at depth 0
+pub as-at-none : (d : ℕ) (root table t m o : List ℕ) (s : Stop) (t′ m′ o′ : List ℕ) → leaves (stopped s) t′ m′ o′ ≡ repaired d root table t m o
+    → Stopped s ≡ Stopped Depth → repaired 0 root table t′ m′ o′ ≡ repaired d root table t m o
+as-at-none d root table t m o s t′ m′ o′ e z =
+    let same : s ≡ Depth = cc in
+    sym (refused 0 root table t′ m′ o′ Depth (none-admitted (repairSized 0 (length root) (length t′) (length m′) (length o′)) table))
+    ∙ ap (λ (q : Stop). leaves (stopped q) t′ m′ o′) (sym same) ∙ e

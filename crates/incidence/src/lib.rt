@@ -5,15 +5,6 @@ ghost use Prim.Native.Nat.{_+_};
 ghost use lib.ListN.{length, replicate};
 ghost use Rattle.incidence.specs.Incidence.{Threadable, Threaded};
 
-// Every entry becomes 0.
-fn clear(last: &mut [u32])
-    ensures { λ r. ⌜ now (last .exit) ≡ replicate (length (now (last .entry))) 0 ⌝ }
-{
-    for i in 0..last.len() {
-        last[i] = 0;
-    }
-}
-
 // Equation e follows the ones before it: the slot of each of its members leads to the last one that held the symbol, and is now the last one itself.
 fn add_equation(
     words: &[u32],
@@ -49,7 +40,7 @@ pub fn fill(
     requires { ⌜ Threadable (now words) (now starts) from n (length (now last)) (length (now next)) ⌝ }
     ensures { λ r. ⌜ Threaded (now (words .entry)) (now (starts .entry)) from n (now (last .exit)) (now (next .exit)) ⌝ }
 {
-    clear(last);
+    octets::fill_words(last, 0);
     for e in 0..n {
         add_equation(words, starts, from, e, last, next);
     }

@@ -13,6 +13,15 @@ pub fn fill(s: &mut [u8], x: u8)
     }
 }
 
+// Every word of s becomes x.
+pub fn fill_words(s: &mut [u32], x: u32)
+    ensures { λ r. ⌜ now (s .exit) ≡ replicate (length (now (s .entry))) x ⌝ }
+{
+    for i in 0..s.len() {
+        s[i] = x;
+    }
+}
+
 // Whether the bytes of s are those of t from byte at on.
 pub fn equal_at(s: &[u8], t: &[u8], at: usize) -> bool
     requires { ⌜ at + length (now s) ≤ length (now t) ⌝ }

@@ -30,7 +30,8 @@ use Rattle.peeling.specs.States.{Came, endOf}
 use Rattle.peeling.specs.declared.Outcome.{Outcome}
 use Rattle.peeling.specs.declared.Outcome.the-variants as outcome
 
--- Peeling of layer j began with t₀ m₀ o₀ u₀ and s₀ symbols stored. What is left to do is a turn for each unused equation, with the turns that u₀ left over.
+-- Peeling of layer j began with t₀ m₀ o₀ u₀ and s₀ symbols stored. What is left to do is a turn for each unused equation, with the turns that u₀ left
+-- over.
 pub record Peeling (kind : Kind) (root ws starts : List ℕ) (from j : ℕ) (t₀ m₀ o₀ u₀ : List ℕ) (s₀ : ℕ) (t m o u : List ℕ) (s : ℕ) : Type 0 where
   pub tree-length : length t ≡ length t₀
   pub marks-length : length m ≡ length m₀

@@ -29,7 +29,8 @@ pub record Lent (root ws starts t m out u : List ℕ) (from j : ℕ) : Type 0 wh
   pub out-room : proofLength j most ≤ length out
   pub twins-room : 512 ≤ length out
 
--- .. and the next one to take can be found: `last` and `next` lead through the equations of each symbol, `absent` has each one's absent members and `order` those to take
+-- .. and the next one to take can be found: `last` and `next` lead through the equations of each symbol, `absent` has how many members of each are
+-- absent, and `order` those to take
 pub record Peelable (root ws starts last next t m out u absent order : List ℕ) (from j : ℕ) : Type 0 where
   pub lent : Lent root ws starts t m out u from j
   pub some : 1 ≤ length u

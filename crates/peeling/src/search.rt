@@ -2,7 +2,6 @@
 // that is unused and has at most one. A stored symbol changes only the equations that it stands in.
 use equation::count_absent;
 use parity_table::index;
-use tournament::clear;
 use tournament::set;
 ghost use mathlib.Core.Path.{_≡_};
 ghost use mathlib.Core.List.{List};
@@ -71,7 +70,7 @@ pub fn prepare(
         × Ordered (now (used .entry)) (now (absent .exit)) (now (order .exit)) ⌝ }
 {
     let n = used.len();
-    clear(order, n as u32);
+    octets::fill_words(order, n as u32);
     for e in 0..n {
         enter(words, starts, from, marks, used, absent, order, j, e);
     }

@@ -12,7 +12,7 @@ use Rattle.octets.specs.Choice.{pick}
 use Rattle.parity_table.proofs.Accepts.{accepted-depth, accepted-table, located, start-inside, start-known}
 use Rattle.parity_table.proofs.Parse.{members-take}
 use Rattle.parity_table.proofs.Rules.{members-below}
-use Rattle.parity_table.proofs.Shape.{k-low}
+use Rattle.parity_table.proofs.Shape.{k-grows, k-low, k-pos}
 use Rattle.parity_table.specs.Members.{every}
 use Rattle.parity_table.specs.Parse.{HasEquation, numberIn, tableOf}
 use Rattle.parity_table.specs.Shape.{kOf, maxDepth, nOf}
@@ -26,23 +26,18 @@ use Rattle.symbol_hash.specs.SymbolHash.{symbolHash}
 use Rattle.symbol_hash.specs.declared.Kind.{Kind}
 use Rattle.equation.specs.Rooms.{Stands, membersAt}
 use Rattle.equation.specs.States.{state}
-use Rattle.peeling.proofs.FirstLaws.{within-longer}
-use Rattle.peeling.specs.Firsts.{NoneBefore}
-use Rattle.incidence.specs.Incidence.{Listed}
+use Rattle.incidence.specs.Incidence.{Listed, Narrow, Threadable, Threaded}
+use Rattle.peeling.specs.Search.{Countable, Counted, Ordered}
 use Rattle.peeling.specs.Levels.{Lent, Level, Peelable, Reads}
 use Rattle.peeling.specs.States.{Came, Moved}
 use Rattle.peeling.specs.States.{endOf as endAfter}
 use Rattle.peeling.specs.declared.Outcome.{Outcome}
 use Rattle.peeling.specs.declared.Outcome.the-variants as outcome
-use Rattle.repair.specs.Buffers.{Given}
+use Rattle.repair.specs.Buffers.{Given, Lists, Own}
 use Rattle.repair.specs.Reports.{Layered, passes, settled}
 use Rattle.repair.specs.declared.layer.Passage.{Passage}
 
 -- ---- what its calls ask
-
--- the equations of the lowest layer of a tree of the largest depth
-abbrev pub mostEquations : ℕ
-mostEquations = 3 * (4 * 2 ^ (maxDepth - 1))
 
 pub given-keep : {d : ℕ} {ws starts root t m o t′ m′ o′ : List ℕ} → length t′ ≡ length t → length m′ ≡ length m → length o′ ≡ length o
     → Given d ws starts root t m o → Given d ws starts root t′ m′ o′
@@ -85,14 +80,17 @@ module _ {d : ℕ} {ws starts root t m o : List ℕ} (k : Given d ws starts root
       rules : EquationOk j e (equationOf (tableOf ws) j e)
       rules = accepted-table d ws (k .indexed .accepted) .members j e hj he
 
-    pub listed : (n symbols : ℕ) → n ≡ 3 * kOf j → nOf j ≤ symbols → Listed ws starts from n symbols
-    listed n symbols en h =
+    listed : (n symbols : ℕ) → n ≡ 3 * kOf j → symbols ≡ nOf j → Listed ws starts from n symbols
+    listed n symbols en es =
         record {
           stands = λ e l. stands e (omega arith);
           within = λ e l.
-              within-longer (nOf j) symbols (membersAt ws starts (from + e)) h
-              (ap (every (λ y. ltb y (nOf j))) (there e (omega arith)) ∙ members-below d (tableOf ws) (accepted-table d ws (k .indexed .accepted)) j e hj (omega arith));
+              ap (λ (q : ℕ). every (λ y. ltb y q) (membersAt ws starts (from + e))) es
+              ∙ ap (every (λ y. ltb y (nOf j))) (there e (omega arith)) ∙ members-below d (tableOf ws) (accepted-table d ws (k .indexed .accepted)) j e hj (omega arith);
         }
+
+    narrow : (n : ℕ) → n ≡ 3 * kOf j → (e : ℕ) → e < n → Narrow ws starts from e
+    narrow n en e l = let he : e < 3 * kOf j = omega arith in omega (arith, ap length (there e he), rules e he .few)
 
     pub reads : (n : ℕ) → n ≡ 3 * kOf j → Reads (tableOf ws) ws starts from j n
     reads n en = record { count = equations ∙ sym en; members = λ e l. sym (there e (omega arith)) }
@@ -104,7 +102,7 @@ module _ {d : ℕ} {ws starts root t m o : List ℕ} (k : Given d ws starts root
           symbols = nOf j;
           numbered = omega (arith, n-small j layer-below);
           level = level;
-          listed = listed (length u) (nOf j) l (omega arith);
+          listed = listed (length u) (nOf j) l refl;
           low = omega (arith, k-low j layer-below);
           most = 8;
           sized = λ e h.
@@ -114,10 +112,71 @@ module _ {d : ℕ} {ws starts root t m o : List ℕ} (k : Given d ws starts root
           twins-room = omega (arith, k .out-full);
         }
 
-    pub peelable : (first u : List ℕ) → length u ≡ 3 * kOf j → nOf j ≤ length first → NoneBefore ws starts from (length u) first
-        → Peelable root ws starts first t m o u from j 0
-    unfolding lent
-    peelable first u l h nb = record { lent = lent u l; first-room = h; none-before = nb; passed = λ e b. absurd (omega arith) }
+    -- the lists of the search
+    module _ {used absent order last next : List ℕ} (own : Own j used absent order last next) where
+      pub threadable : Threadable ws starts from (length used) (length last) (length next)
+      unfolding nOf
+      threadable =
+          record {
+            listed = listed (length used) (length last) (own .used-full) (own .last-full);
+            narrow = narrow (length used) (own .used-full);
+            room = omega (arith, own .used-full, own .next-room);
+            low = omega (arith, own .used-full, k-low j layer-below);
+          }
+
+      pub countable : Countable ws starts from j (length used) m
+      countable =
+          record {
+            layer = layer-below;
+            symbols = nOf j;
+            room = level .marks-room;
+            listed = listed (length used) (nOf j) (own .used-full) refl;
+            narrow = narrow (length used) (own .used-full);
+            low = omega (arith, own .used-full, k-low j layer-below);
+          }
+
+      pub peelable : Threaded ws starts from (length used) last next → Counted ws starts from j (length used) m absent → Ordered used absent order
+          → Peelable root ws starts last next t m o used absent order from j
+      unfolding lent nOf
+      peelable th co ro =
+          record {
+            lent = lent used (own .used-full);
+            some = omega (arith, own .used-full, k-pos j);
+            eight = omega arith;
+            threaded = th;
+            last-room = omega (arith, own .last-full);
+            next-room = omega (arith, own .used-full, own .next-room);
+            counted = co;
+            ordered = ro;
+          }
+
+-- the lists keep their lengths
+pub own-keep : {j : ℕ} {used absent order last next used′ absent′ order′ last′ next′ : List ℕ} → length used′ ≡ length used → length absent′ ≡ length absent
+    → length order′ ≡ length order → length last′ ≡ length last → length next′ ≡ length next → Own j used absent order last next
+    → Own j used′ absent′ order′ last′ next′
+own-keep eu ea eo el en k =
+    record {
+      used-full = eu ∙ k .used-full;
+      absent-full = ea ∙ k .absent-full;
+      order-full = eo ∙ k .order-full;
+      last-full = el ∙ k .last-full;
+      next-room = omega (arith, k .next-room);
+    }
+
+-- lists for the lowest layer serve each one, and keep their lengths
+pub lists-layer : (j d : ℕ) {used absent order last next used′ absent′ order′ last′ next′ : List ℕ} → j < d → length used′ ≡ length used
+    → length absent′ ≡ length absent → length order′ ≡ length order → length last′ ≡ length last → length next′ ≡ length next
+    → Lists (kOf (d - 1)) used absent order last next → Lists (kOf j) used′ absent′ order′ last′ next′
+lists-layer j d h eu ea eo el en k =
+    let same : kOf (j + (d - 1 - j)) ≡ kOf (d - 1) = ap kOf (omega arith) in
+    let low : kOf j ≤ kOf (d - 1) = omega (arith, k-grows j (d - 1 - j)) in
+    record {
+      used-room = omega (arith, k .used-room);
+      absent-room = omega (arith, k .absent-room);
+      order-room = omega (arith, k .order-room);
+      last-room = omega (arith, k .last-room);
+      next-room = omega (arith, k .next-room);
+    }
 
 -- ---- (c)
 

@@ -1,20 +1,21 @@
 // One layer of a repair: (a) the sweep, (b) peeling, (c) "gaps left mean "unavailable" with this layer, else go on".
 use crate::End;
-use parity_table::MAX_DATA;
 use parity_table::data_count;
 use parity_table::index;
 use peeling::Outcome;
-use peeling::first;
 use peeling::peel_layer;
+use peeling::prepare;
 use peeling::sweep_layer;
 use symbol_hash::Kind;
 ghost use mathlib.Core.Path.{_≡_};
 ghost use Prim.Native.Nat.{ℕ, suc, _+_, _*_, _^_, _<_, _≤_};
-ghost use lib.ListN.{length};
+ghost use lib.ListN.{length, replicate};
 ghost use Rattle.parity_table.specs.Shape.{maxDepth, kOf};
 ghost use Rattle.parity_table.specs.Parse.{tableOf};
 ghost use Rattle.model.specs.Shape.{tree as shape, places};
-ghost use Rattle.repair.specs.Buffers.{Given};
+ghost use Rattle.incidence.specs.Incidence.{Threadable, Threaded};
+ghost use Rattle.peeling.specs.Search.{Countable, Counted, Ordered};
+ghost use Rattle.repair.specs.Buffers.{Given, Lists, Own};
 ghost use Rattle.repair.specs.Reports.{passes, settled, Layered};
 
 // Whether the repair goes on after a layer.
@@ -59,8 +60,35 @@ fn settle(outcome: Outcome, marks: &[u8], j: usize) -> Passage
     }
 }
 
-// Repairs layer j, with so many symbols stored before.
-pub fn repair_layer(
+// The lists of a search in layer j, before its first equation is taken.
+fn set_up(
+    words: &[u32],
+    starts: &[usize],
+    from: usize,
+    marks: &[u8],
+    used: &mut [u8],
+    absent: &mut [u8],
+    order: &mut [u32],
+    last: &mut [u32],
+    next: &mut [u32],
+    j: usize,
+)
+    requires { ⌜ Threadable (now words) (now starts) from (length (now used)) (length (now last)) (length (now next))
+        × Countable (now words) (now starts) from j (length (now used)) (now marks) × (length (now absent) ≡ length (now used))
+        × (length (now order) ≡ 2 * length (now used)) ⌝ }
+    ensures { λ r.
+        ⌜ (now (used .exit) ≡ replicate (length (now (used .entry))) 0)
+        × Threaded (now (words .entry)) (now (starts .entry)) from (length (now (used .exit))) (now (last .exit)) (now (next .exit))
+        × Counted (now (words .entry)) (now (starts .entry)) from j (length (now (used .exit))) (now (marks .entry)) (now (absent .exit))
+        × Ordered (now (used .exit)) (now (absent .exit)) (now (order .exit)) ⌝ }
+{
+    octets::fill(used, 0);
+    incidence::fill(words, starts, from, used.len(), last, next);
+    prepare(words, starts, from, marks, used, absent, order, j);
+}
+
+// repair_layer, with lists that have just the entries of this layer: of its symbols `last`, of its equations the others, two in `order`.
+fn repair_with(
     kind: Kind,
     words: &[u32],
     starts: &[usize],
@@ -68,35 +96,50 @@ pub fn repair_layer(
     tree: &mut [u8],
     marks: &mut [u8],
     out: &mut [u8],
+    used: &mut [u8],
+    absent: &mut [u8],
+    order: &mut [u32],
+    last: &mut [u32],
+    next: &mut [u32],
     j: usize,
     stored: usize,
 ) -> Passed
-    requires { ⌜ ((depth : ℕ) × Given depth (now words) (now starts) (now root) (now tree) (now marks) (now out) × (j < depth)) × (stored ≤ 2 ^ 20) ⌝ }
+    requires { ⌜ ((depth : ℕ) × Given depth (now words) (now starts) (now root) (now tree) (now marks) (now out) × (j < depth)) × (stored ≤ 2 ^ 20)
+        × Own j (now used) (now absent) (now order) (now last) (now next) ⌝ }
     ensures { λ r.
         ⌜ Layered kind (now (root .entry)) (tableOf (now (words .entry))) j (now (tree .entry)) (now (marks .entry)) (now (out .entry))
         (now (tree .exit)) (now (marks .exit)) (now (out .exit)) stored (r .stored) (r .passage)
         × (r .stored ≤ stored + 3 * kOf j) ⌝ }
 {
-    let k = data_count(j);
-    let n = 3 * k;
     let from = index::number_of(j, 0);
-    let mut first = [0usize; 4 * MAX_DATA];
-    let mut used = [0u8; 3 * MAX_DATA];
-    first::fill(words, starts, from, n, &mut first);
-    sweep_layer(kind, root, tree, marks, j, 4 * k);
+    sweep_layer(kind, root, tree, marks, j, last.len());
+    set_up(
+        words,
+        starts,
+        from,
+        marks,
+        used,
+        absent,
+        order,
+        last,
+        next,
+        j,
+    );
     let run = peel_layer(
         kind,
         root,
         words,
         starts,
         from,
-        &first,
+        last,
+        next,
         tree,
         marks,
         out,
-        &mut used[..n],
+        used,
+        absent,
+        order,
         j,
-        0,
         stored,
     );
     let outcome = run.outcome;
@@ -105,4 +148,48 @@ pub fn repair_layer(
         stored,
         passage: settle(outcome, marks, j),
     }
+}
+
+// Repairs layer j, with so many symbols stored before. The five lists are for the search; what they hold doesn't matter.
+pub fn repair_layer(
+    kind: Kind,
+    words: &[u32],
+    starts: &[usize],
+    root: &[u8],
+    tree: &mut [u8],
+    marks: &mut [u8],
+    out: &mut [u8],
+    used: &mut [u8],
+    absent: &mut [u8],
+    order: &mut [u32],
+    last: &mut [u32],
+    next: &mut [u32],
+    j: usize,
+    stored: usize,
+) -> Passed
+    requires { ⌜ ((depth : ℕ) × Given depth (now words) (now starts) (now root) (now tree) (now marks) (now out) × (j < depth)) × (stored ≤ 2 ^ 20)
+        × Lists (kOf j) (now used) (now absent) (now order) (now last) (now next) ⌝ }
+    ensures { λ r.
+        ⌜ Layered kind (now (root .entry)) (tableOf (now (words .entry))) j (now (tree .entry)) (now (marks .entry)) (now (out .entry))
+        (now (tree .exit)) (now (marks .exit)) (now (out .exit)) stored (r .stored) (r .passage)
+        × (r .stored ≤ stored + 3 * kOf j) ⌝ }
+{
+    let k = data_count(j);
+    let n = 3 * k;
+    repair_with(
+        kind,
+        words,
+        starts,
+        root,
+        tree,
+        marks,
+        out,
+        &mut used[..n],
+        &mut absent[..n],
+        &mut order[..2 * n],
+        &mut last[..4 * k],
+        next,
+        j,
+        stored,
+    )
 }

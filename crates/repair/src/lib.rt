@@ -4,9 +4,10 @@ mod layer; // one layer: (a), (b), (c)
 use layer::Passage;
 use layer::repair_layer;
 use symbol_hash::Kind;
-ghost use Prim.Native.Nat.{_≤_};
+ghost use Prim.Native.Nat.{_-_, _≤_};
+ghost use Rattle.parity_table.specs.Shape.{kOf};
 ghost use Rattle.parity_table.specs.Parse.{tableOf, equationsAbove};
-ghost use Rattle.repair.specs.Buffers.{Given};
+ghost use Rattle.repair.specs.Buffers.{Given, Lists};
 ghost use Rattle.repair.specs.Reports.{Repaired};
 
 // "The ends are: whole, fault, unavailable, twins."
@@ -34,7 +35,7 @@ pub struct Report {
     pub end: End,
 }
 
-// Repairs a tree whose symbols are hashed by their volume's kind.
+// Repairs a tree whose symbols are hashed by their volume's kind. The last five lists are for the search in a layer; what they hold doesn't matter.
 pub fn repair(
     kind: Kind,
     depth: usize,
@@ -44,8 +45,14 @@ pub fn repair(
     tree: &mut [u8],
     marks: &mut [u8],
     out: &mut [u8],
+    used: &mut [u8],
+    absent: &mut [u8],
+    order: &mut [u32],
+    last: &mut [u32],
+    next: &mut [u32],
 ) -> Report
-    requires { ⌜ Given depth (now words) (now starts) (now root) (now tree) (now marks) (now out) ⌝ }
+    requires { ⌜ Given depth (now words) (now starts) (now root) (now tree) (now marks) (now out)
+        × Lists (kOf (depth - 1)) (now used) (now absent) (now order) (now last) (now next) ⌝ }
     ensures { λ r.
         ⌜ Repaired kind (now (root .entry)) (tableOf (now (words .entry))) (now (tree .entry)) (now (marks .entry)) (now (out .entry))
         (now (tree .exit)) (now (marks .exit)) (now (out .exit)) (r .stored) (r .end)
@@ -53,7 +60,22 @@ pub fn repair(
 {
     let mut stored: usize = 0;
     for j in 0..depth {
-        let r = repair_layer(kind, words, starts, root, tree, marks, out, j, stored);
+        let r = repair_layer(
+            kind,
+            words,
+            starts,
+            root,
+            tree,
+            marks,
+            out,
+            used,
+            absent,
+            order,
+            last,
+            next,
+            j,
+            stored,
+        );
         stored = r.stored;
         let passage = r.passage;
         if let Passage::Stop(end) = passage {

@@ -10,15 +10,6 @@ fn lesser(a: u32, b: u32) -> u32
     if a < b { a } else { b }
 }
 
-// Every place of tree becomes v: a tournament all of whose entries are v, where there are 2 n places.
-pub fn clear(tree: &mut [u32], v: u32)
-    ensures { λ r. ⌜ now (tree .exit) ≡ replicate (length (now (tree .entry))) v ⌝ }
-{
-    for i in 0..tree.len() {
-        tree[i] = v;
-    }
-}
-
 // Entry e becomes v, and each node above it, from the lowest up to one that stays as it is, the lesser of the two below it.
 pub fn set(tree: &mut [u32], e: usize, v: u32)
     requires { ⌜ Tournament (now tree) × (e < length (now tree) / 2) ⌝ }

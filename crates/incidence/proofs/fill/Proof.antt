@@ -16,14 +16,14 @@ Inv-loop words starts from n last₀ next₀ e₀ last next e =
 abbrev μ-loop : tie.MeasureT-loop
 μ-loop words starts from n last₀ next₀ e₀ last next e = n - e
 
-clear-requires : tie.Need-clear-requires Inv-loop μ-loop
-clear-requires c κs = search needs
+fill-words-requires : tie.Need-fill-words-requires Inv-loop μ-loop
+fill-words-requires c κs = search needs
 
 loop-holds : tie.Need-loop-holds Inv-loop μ-loop
 loop-holds c =
     let s = c .before .before .before .before .before .before .before .before in
     let a = s .args in
-    let v = c .before .before .clear in
+    let v = c .before .before .fill-words in
     (omega arith, refl, refl, rw (v .ensures) (threaded-none (a .words .now) (a .starts .now) (a .from) (length (a .last .now)) (a .next .now)))
 
 add-equation-requires : tie.Need-add-equation-requires Inv-loop μ-loop
@@ -31,7 +31,7 @@ add-equation-requires c κs =
     let l = c .before .before .before in
     let s = c .before .before .before .before .before .before .before .before .before .before .before .before in
     let a = s .args in
-    let v = l .before .before .before .clear in (
+    let v = l .before .before .before .fill-words in (
       subst (λ (q : ℕ). Threadable (a .words .now) (a .starts .now) (a .from) (l .loop .e + 1) q (length (l .loop .next))) (sym (l .loop .inv .1 ∙ v .kept .0))
           (subst (λ (q : ℕ). Threadable (a .words .now) (a .starts .now) (a .from) (l .loop .e + 1) (length (a .last .now)) q) (sym (l .loop .inv .2))
           (threadable-fewer (a .words .now) (a .starts .now) (a .from) (a .n) (l .loop .e + 1) (length (a .last .now)) (length (a .next .now)) (omega (arith, c .before .before .loop-test .taken)) (s .pre))),
@@ -51,7 +51,7 @@ loop-again c =
     (omega (arith, c .before .before .before .before .before .before .before .loop-test .taken), v .kept .1 .1 .1 .1 .0 ∙ l .loop .inv .1, v .kept .1 .1 .1 .1 .1 .0 ∙ l .loop .inv .2, v .ensures)
 
 same-length : tie.Need-same-length Inv-loop μ-loop
-same-length c = c .before .loop .inv .1 ∙ c .before .before .before .before .clear .kept .0
+same-length c = c .before .loop .inv .1 ∙ c .before .before .before .before .fill-words .kept .0
 
 same-length-2 : tie.Need-same-length-2 Inv-loop μ-loop
 same-length-2 c = c .before .loop .inv .2
@@ -69,7 +69,7 @@ fill-spec =
     (tie.spec
     Inv-loop
     μ-loop
-    clear-requires
+    fill-words-requires
     loop-holds
     add-equation-requires
     add-e

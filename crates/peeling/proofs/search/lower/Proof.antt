@@ -40,20 +40,20 @@ note-requires c κs =
     let l = c .before .before .before .loop in
     let k = s .pre .thread in
     let w = l .inv .3 (s .pre .words) (s .pre .starts) (s .pre .from) k in
-    let h : 0 < l .at = c .before .before .loop-test .taken in
+    let h : 0 < l .at = omega (arith, c .before .before .loop-test .taken) in
     (l .inv .2, l .inv .0 ∙ s .pre .sized, s .pre .low, walk-equation k w h, walk-some k w h (s .pre .enough))
 
 mul-at-2 : tie.Need-mul-at-2 Inv-loop μ-loop
 mul-at-2 c =
     let s = c .before .before .before .before .before .before .before .before .before .before .before .before .before .before .before in
     let l = c .before .before .before .before .before .before .before .before .loop in
-    omega (arith, walk-slot (s .pre .thread) (l .inv .3 (s .pre .words) (s .pre .starts) (s .pre .from) (s .pre .thread)) (c .before .before .before .before .before .before .before .loop-test .taken), s .pre .thread .room)
+    omega (arith, walk-slot (s .pre .thread) (l .inv .3 (s .pre .words) (s .pre .starts) (s .pre .from) (s .pre .thread)) (omega (arith, c .before .before .before .before .before .before .before .loop-test .taken)), s .pre .thread .room)
 
 shared-slice-read-at-2 : tie.Need-shared-slice-read-at-2 Inv-loop μ-loop
 shared-slice-read-at-2 c =
     let s = c .before .before .before .before .before .before .before .before .before .before .before .before .before .before .before .before in
     let l = c .before .before .before .before .before .before .before .before .before .loop in
-    omega (arith, walk-slot (s .pre .thread) (l .inv .3 (s .pre .words) (s .pre .starts) (s .pre .from) (s .pre .thread)) (c .before .before .before .before .before .before .before .before .loop-test .taken), s .pre .thread .room)
+    omega (arith, walk-slot (s .pre .thread) (l .inv .3 (s .pre .words) (s .pre .starts) (s .pre .from) (s .pre .thread)) (omega (arith, c .before .before .before .before .before .before .before .before .loop-test .taken)), s .pre .thread .room)
 
 cast-at-2 : tie.Need-cast-at-2 Inv-loop μ-loop
 cast-at-2 c = omega (arith, c .shared-slice-known5 .given (c .before .before .before .before .before .before .before .before .before .loop .at - 1))
@@ -62,14 +62,14 @@ loop-less : tie.Need-loop-less Inv-loop μ-loop
 loop-less c =
     let s = c .before .before .before .before .before .before .before .before .before .before .before .before .before .before .before .before in
     let l = c .before .before .before .before .before .before .before .before .before .loop in
-    walk-less (s .pre .thread) (l .inv .3 (s .pre .words) (s .pre .starts) (s .pre .from) (s .pre .thread)) (c .before .before .before .before .before .before .before .before .loop-test .taken)
+    walk-less (s .pre .thread) (l .inv .3 (s .pre .words) (s .pre .starts) (s .pre .from) (s .pre .thread)) (omega (arith, c .before .before .before .before .before .before .before .before .loop-test .taken))
 
 loop-again : tie.Need-loop-again Inv-loop μ-loop
 loop-again c =
     let s = c .before .before .before .before .before .before .before .before .before .before .before .before .before .before .before .before in
     let l = c .before .before .before .before .before .before .before .before .before .loop in
     let v = c .before .before .before .before .before .note in
-    let h : 0 < l .at = c .before .before .before .before .before .before .before .before .loop-test .taken in
+    let h : 0 < l .at = omega (arith, c .before .before .before .before .before .before .before .before .loop-test .taken) in
     let k₀ = s .pre .thread in
     let some = walk-some k₀ (l .inv .3 (s .pre .words) (s .pre .starts) (s .pre .from) k₀) h (s .pre .enough) in
     (v .kept .1 .0 ∙ l .inv .0, v .kept .1 .1 .0 ∙ l .inv .1, v .ensures .1, λ ws starts from k. walk-turn k (l .inv .3 ws starts from k) h _ (v .ensures .0) (l .inv .0 ∙ s .pre .sized) some)

@@ -17,16 +17,16 @@ Inv-loop words starts from marks used absent₀ order₀ j n e₀ absent order e
 abbrev μ-loop : tie.MeasureT-loop
 μ-loop words starts from marks used absent₀ order₀ j n e₀ absent order e = n - e
 
-cast-clear : tie.Need-cast-clear Inv-loop μ-loop
-cast-clear c = omega (arith, c .before .before .before .before .before .before .before .pre .0 .low)
+cast-fill-words : tie.Need-cast-fill-words Inv-loop μ-loop
+cast-fill-words c = omega (arith, c .before .before .before .before .before .before .before .pre .0 .low)
 
-clear-requires : tie.Need-clear-requires Inv-loop μ-loop
-clear-requires c κs = search needs
+fill-words-requires : tie.Need-fill-words-requires Inv-loop μ-loop
+fill-words-requires c κs = search needs
 
 loop-holds : tie.Need-loop-holds Inv-loop μ-loop
 loop-holds c =
     let s = c .before .before .before .before .before .before .before .before .before .before in
-    let v = c .before .before .clear in
+    let v = c .before .before .fill-words in
     (refl, omega arith, refl, refl, prepared-start _ _ _ _ _ _ _ (s .pre .1) (s .pre .2) (v .ensures))
 
 enter-requires : tie.Need-enter-requires Inv-loop μ-loop
@@ -51,7 +51,7 @@ same-length : tie.Need-same-length Inv-loop μ-loop
 same-length c = c .before .loop .inv .2
 
 same-length-2 : tie.Need-same-length-2 Inv-loop μ-loop
-same-length-2 c = c .before .loop .inv .3 ∙ c .before .before .before .before .clear .kept .0
+same-length-2 c = c .before .loop .inv .3 ∙ c .before .before .before .before .fill-words .kept .0
 
 returns : tie.Need-returns Inv-loop μ-loop
 returns c =
@@ -64,8 +64,8 @@ prepare-spec =
     (tie.spec
     Inv-loop
     μ-loop
-    cast-clear
-    clear-requires
+    cast-fill-words
+    fill-words-requires
     loop-holds
     enter-requires
     add-e
