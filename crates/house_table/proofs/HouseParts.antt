@@ -5,9 +5,10 @@ use Prim.Native.Nat.{ℕ, zero, suc, _+_, _-_, _*_, _%_, _^_, _≤_, _<_, min, m
 use native.Mathlib.Nat.{add-zero}
 use native.Mathlib.Numerals.{add-one}
 use native.Mathlib.Omega.{arith}
-use lib.ListN.{length, set, length-set, length-append}
+use lib.ListN.{length, replicate, set, length-set, length-append, length-replicate}
 use lib.Seq.{sets}
 use lib.Dec.{eqb}
+use lib.Pow.{pow-mono}
 use borrow.Author.Tests.{eq-eqb, ne-eqb}
 use mathlib.Core.Bool.{true, false}
 use Rattle.octets.specs.Choice.{pick}
@@ -15,9 +16,9 @@ use Rattle.parity_table.specs.declared.Answer.{Answer}
 use Rattle.parity_table.specs.declared.Answer.the-variants.{Depth, Length, Wrong, Whole}
 use Rattle.parity_table.specs.Shape.{maxDepth, depthFits, kOf}
 use Rattle.parity_table.specs.Table.{word, equationsWords, layersWords, tableWords}
-use Rattle.house_table.specs.House.{dataOne, dataTwo, houseEquation, houseEquations, houseLayers, houseTable, houseWords, houseRow, houseLayer, houseAnswer}
+use Rattle.house_table.specs.House.{dataOne, dataTwo, houseEquation, houseEquations, houseLayers, houseTable, houseWords, houseRow, houseLayer, houseAnswer, houseOut}
 use Rattle.octets.proofs.Choice.{pick-yes, pick-no, pick-ind}
-use Rattle.parity_table.proofs.Shape.{shift-is, shift-small}
+use Rattle.parity_table.proofs.Shape.{depth-low, shift-is, shift-small}
 use Rattle.house_table.proofs.HouseRules.{house-count}
 use Rattle.octets.proofs.Writes.{Putting, sets-whole}
 
@@ -162,6 +163,19 @@ answer-whole d n m t q = sym (answer-by d n m t ∙ pick-yes (eqb n m) Whole Len
 -- the house table has few words
 pub house-small : (d : ℕ) → d ≤ maxDepth → length (houseWords d) ≤ 60 * (2 ^ maxDepth - 1) + 1
 house-small d h = omega (arith, size-is d h, shift-small d h)
+
+-- .. no more than one of depth b, where its depth is at most that
+pub house-room : (d b : ℕ) → (depthFits d ≡ true → d ≤ b) → b ≤ maxDepth → depthFits d ≡ true
+    → length (houseWords d) ≤ length (replicate {A = ℕ} (60 * (2 ^ b - 1) + 1) 0)
+house-room d b up-to h f =
+    let g = up-to f in
+    let p : 2 ^ d ≤ 2 ^ b = pow-mono {i = d} {j = b} g in
+    omega (arith, size-is d (omega arith), shift-is d (omega arith), length-replicate {A = ℕ} (60 * (2 ^ b - 1) + 1) 0)
+
+-- what is answered, and left, at depth 0
+pub none-written : (n m : ℕ) (table lent : List ℕ) (r : Answer) → r ≡ houseAnswer 0 n m → (r ≡ Depth) × (houseOut r table lent ≡ lent)
+none-written n m table lent r e =
+    let z : r ≡ Depth = e ∙ sym (answer-depth 0 n m (sym (depth-low 0 (omega arith)))) in (z, ap (λ (a : Answer). houseOut a table lent) z)
 
 pub answer-not-wrong : (d n m i : ℕ) → houseAnswer d n m ≡ Wrong i → ⊥
 unfolding houseAnswer

@@ -4,19 +4,24 @@ use parity_table::END;
 use parity_table::EQUATION;
 use parity_table::LAYER;
 use parity_table::MAX_DEPTH;
+use parity_table::SHALLOW;
 use parity_table::data_count;
 use parity_table::depth_fits;
+use parity_table::is_deep;
 use table_bytes::bytes_from;
 ghost use mathlib.Core.Path.{_≡_};
+ghost use mathlib.Core.Bool.{true};
 ghost use Prim.Native.Nat.{_+_, _*_, _<_, _≤_, _^_, min, max};
 ghost use lib.ListN.{length};
 ghost use lib.Seq.{sets};
 ghost use Rattle.octets.specs.BigEndian.{bytesOf};
-ghost use Rattle.parity_table.specs.Shape.{maxDepth};
+ghost use Rattle.parity_table.specs.Shape.{maxDepth, depthFits};
 ghost use Rattle.house_table.specs.House.{houseWords, houseRow, houseLayer, houseAnswer, houseOut};
 
-// The words of the house table of the largest depth: 5·12·(2^D−1)+1.
+// The words of the house table of the largest depth, and of the largest that needs little stack: 5·12·(2^D−1)+1.
 const HOUSE_WORDS: usize = 60 * ((1 << MAX_DEPTH) - 1) + 1;
+
+const SHALLOW_WORDS: usize = 60 * ((1 << SHALLOW) - 1) + 1;
 
 // The lower of two numbers.
 fn low(a: u32, b: u32) -> u32
@@ -125,8 +130,9 @@ fn put_bytes(out: &mut [u8], depth: usize, words: &mut [u32])
     bytes_from(&words[..n], out);
 }
 
-// Writes the house table of this depth as bytes, into exactly as many as it has.
-pub fn write_bytes(out: &mut [u8], depth: usize) -> Answer
+// write_bytes, by way of words that have room for the table.
+fn write_in(out: &mut [u8], depth: usize, words: &mut [u32]) -> Answer
+    requires { ⌜ (depthFits depth ≡ true → length (houseWords depth) ≤ length (now words)) ⌝ }
     ensures { λ r.
         ⌜ (r ≡ houseAnswer depth (length (now (out .entry))) (length (houseWords depth) * 4))
         × (now (out .exit) ≡ houseOut r (bytesOf (houseWords depth)) (now (out .entry))) ⌝ }
@@ -137,7 +143,36 @@ pub fn write_bytes(out: &mut [u8], depth: usize) -> Answer
     if out.len() != word_count(depth) * 4 {
         return Answer::Length;
     }
-    let mut words = [0u32; HOUSE_WORDS];
-    put_bytes(out, depth, &mut words);
+    put_bytes(out, depth, words);
     Answer::Whole
+}
+
+// write_bytes for a deeper tree. It is entered at a depth that fits, so it never calls itself: but the compiler takes no function that does into
+// another's frame, so that these words are on the stack of a deeper call alone.
+fn write_deep(out: &mut [u8], depth: usize) -> Answer
+    ensures { λ r.
+        ⌜ (r ≡ houseAnswer depth (length (now (out .entry))) (length (houseWords depth) * 4))
+        × (now (out .exit) ≡ houseOut r (bytesOf (houseWords depth)) (now (out .entry))) ⌝ }
+{
+    let mut words = [0u32; HOUSE_WORDS];
+    let answer = write_in(out, depth, &mut words);
+    if let Answer::Depth = answer {
+        if 0 < depth {
+            return write_deep(out, 0);
+        }
+    }
+    answer
+}
+
+// Writes the house table of this depth as bytes, into exactly as many as it has.
+pub fn write_bytes(out: &mut [u8], depth: usize) -> Answer
+    ensures { λ r.
+        ⌜ (r ≡ houseAnswer depth (length (now (out .entry))) (length (houseWords depth) * 4))
+        × (now (out .exit) ≡ houseOut r (bytesOf (houseWords depth)) (now (out .entry))) ⌝ }
+{
+    if is_deep(depth) {
+        return write_deep(out, depth);
+    }
+    let mut words = [0u32; SHALLOW_WORDS];
+    write_in(out, depth, &mut words)
 }
