@@ -6,6 +6,7 @@ use crate::stop::Stop;
 use crate::table::{self, byte_length, layers_of, Layers};
 use crate::tree::{committed_hash, exactly, exclusive_or, marks_in_form, place, symbol_at};
 use crate::tree::{symbols, tree_symbols, Symbol, HASH, ROOT, SYMBOL};
+use std::collections::BTreeSet;
 
 /// How a repair ends.
 #[derive(Clone, Copy, Debug, PartialEq, Eq)]
@@ -53,6 +54,15 @@ pub fn repair(
     Ok(Repaired { end, stored: repair.stored })
 }
 
+/// For each of so many symbols the equations that it is a member of.
+fn equations_with(symbols: usize, equations: &[Vec<usize>]) -> Vec<Vec<usize>> {
+    let mut with = vec![Vec::new(); symbols];
+    for (equation, members) in equations.iter().enumerate() {
+        members.iter().for_each(|&member| with[member].push(equation));
+    }
+    with
+}
+
 struct Repair<'a> {
     /// The hash of a symbol. Only a test has another than SHA-256.
     hash: fn(&[u8]) -> [u8; HASH],
@@ -87,20 +97,33 @@ impl Repair<'_> {
         }
     }
 
-    /// Steps (b) and (c): how the repair ends in this layer, if it does.
+    /// Steps (b) and (c): how the repair ends in this layer, if it does. The equations that
+    /// can be taken are kept in a set, whose lowest is taken. Only an equation with a symbol
+    /// that was just stored can come into it; none leaves it untaken.
     fn peel(&mut self, layer: usize, equations: &[Vec<usize>]) -> Option<End> {
+        let with = equations_with(symbols(layer), equations);
         let mut used = vec![false; equations.len()];
-        let takeable = |repair: &Self, used: &[bool], equation: usize| {
-            !used[equation] && repair.absent(layer, &equations[equation]).len() <= 1
-        };
-        while let Some(equation) = (0..equations.len()).find(|&e| takeable(self, &used, e)) {
+        let all = 0..equations.len();
+        let mut takeable: BTreeSet<usize> =
+            all.filter(|&e| self.takeable(layer, &equations[e])).collect();
+        while let Some(&equation) = takeable.iter().next() {
+            takeable.remove(&equation);
             used[equation] = true;
-            if let Some(end) = self.take(layer, equation, &equations[equation]) {
+            let members = &equations[equation];
+            let absent = self.absent(layer, members);
+            if let Some(end) = self.take(layer, equation, members) {
                 return Some(end);
             }
+            let changed = absent.iter().flat_map(|&stored| with[stored].iter().copied());
+            takeable.extend(changed.filter(|&e| !used[e] && self.takeable(layer, &equations[e])));
         }
         let gaps = (0..symbols(layer)).any(|symbol| !self.held(layer, symbol));
         gaps.then_some(End::Unavailable(layer))
+    }
+
+    /// Whether at most one of these members is absent.
+    fn takeable(&self, layer: usize, members: &[usize]) -> bool {
+        self.absent(layer, members).len() <= 1
     }
 
     /// Takes an equation: how the repair ends with it, if it does.

@@ -1,14 +1,14 @@
 //! Parity tables, written from the sections "Layers", "Parity table", "House
-//! table" and "What stops a call" of 01.
+//! table" and "What stops a call" of 01 and from CR 6 of 02.
 
 use crate::cover::covered;
 use crate::stop::Stop;
 
 /// The largest depth.
-pub const MAX_DEPTH: u64 = 5;
+pub const MAX_DEPTH: u64 = 9;
 
 /// The longest table that comes as bytes.
-pub const MAX_BYTES: usize = 16_384;
+pub const MAX_BYTES: usize = 220_792;
 
 /// The kinds of words: the top two bits.
 pub const MEMBER: u32 = 0b00;
@@ -219,12 +219,30 @@ mod tests {
 
     #[test]
     fn house_tables_are_whole() {
-        for depth in 1..=5 {
+        for depth in 1..=MAX_DEPTH as usize {
             let words = house(depth);
             assert_eq!(words.len(), 5 * 12 * ((1 << depth) - 1) + 1);
             assert_eq!(check_words(depth as u64, &words), Ok(()));
             assert_eq!(check_bytes(depth as u64, &to_bytes(&words)), Ok(()));
         }
+    }
+
+    /// The longest list that comes as bytes has eight members in each equation. No table of
+    /// the largest depth is so long: layer 0's first three equations have room for 5, 6 and 7.
+    #[test]
+    fn longest_tables() {
+        let layers: Layers = (0..MAX_DEPTH as usize)
+            .map(|layer| {
+                let k = data_symbols(layer);
+                (k..4 * k).map(|last| (0..last.min(7)).chain([last]).collect()).collect()
+            })
+            .collect();
+        let words = write(&layers);
+        assert_eq!(check_words(MAX_DEPTH, &words), Ok(()));
+        assert_eq!(4 * words.len(), 220_768);
+        let layers = MAX_DEPTH as usize;
+        let equations: usize = (0..layers).map(|layer| 3 * data_symbols(layer)).sum();
+        assert_eq!(4 * (layers + 9 * equations + 1), MAX_BYTES);
     }
 
     #[test]
@@ -262,11 +280,19 @@ mod tests {
     fn tests_in_their_order() {
         let bytes = to_bytes(&house(1));
         assert_eq!(check_bytes(0, &bytes[1..]), Err(Stop::Depth));
-        assert_eq!(check_bytes(6, &bytes), Err(Stop::Depth));
+        assert_eq!(check_bytes(10, &to_bytes(&house(10))[1..]), Err(Stop::Depth));
         assert_eq!(check_bytes(1 << 32 | 1, &bytes), Err(Stop::Depth));
+        assert_eq!(check_bytes(1 << 32 | 9, &to_bytes(&house(9))), Err(Stop::Depth));
         assert_eq!(check_bytes(1, &bytes[1..]), Err(Stop::Length));
         assert_eq!(check_bytes(1, &[0xff; MAX_BYTES + 4]), Err(Stop::Length));
         assert_eq!(check_bytes(1, &[0xff; MAX_BYTES]), Err(Stop::Word(0)));
+        assert_eq!(check_bytes(9, &[0xff; MAX_BYTES]), Err(Stop::Word(0)));
+        for (depth, len) in [(1, 16_388), (5, 16_388), (5, MAX_BYTES), (9, MAX_BYTES)] {
+            let words = house(depth);
+            let mut longer = to_bytes(&words);
+            longer.resize(len.max(longer.len() + 4), 0);
+            assert_eq!(check_bytes(depth as u64, &longer), Err(Stop::Word(words.len())));
+        }
         assert_eq!(check_bytes(1, &[]), Err(Stop::Word(0)));
         let uncovered = to_bytes(&without(1, 0, 2));
         assert_eq!(check_bytes(1, &uncovered[1..]), Err(Stop::Length));

@@ -1,5 +1,5 @@
 use super::*;
-use crate::table::{house, listed, Layers};
+use crate::table::{house, listed, Layers, MAX_DEPTH};
 use crate::written::without;
 
 fn uncovered(layer: usize, symbol: usize) -> Result<(), Stop> {
@@ -23,7 +23,7 @@ fn alone_in(layer: usize, symbol: usize, equations: &[usize]) -> Layers {
 
 #[test]
 fn house_tables_are_covered() {
-    for depth in 1..=5 {
+    for depth in 1..=MAX_DEPTH as usize {
         assert_eq!(covered(&house_layers(depth)), Ok(()));
     }
 }

@@ -1,5 +1,5 @@
 use super::*;
-use crate::table::{house, to_bytes};
+use crate::table::{house, to_bytes, MAX_DEPTH};
 use crate::written::{block_of, cases_block, without, Written};
 
 /// The tree of 01's case 7.
@@ -34,10 +34,11 @@ fn proof_of_case_7() {
     assert_eq!(check_of(&w, &proof), Ok(()));
 }
 
-/// Case 9.
+/// Case 9, and that of CR 6.
 #[test]
 fn longest_proof() {
     assert_eq!(proof_len(4, 8), 9996);
+    assert_eq!(proof_len(MAX_DEPTH as usize - 1, 8), 18_188);
 }
 
 #[test]

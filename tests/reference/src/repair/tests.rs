@@ -183,6 +183,65 @@ fn the_search_begins_again() {
     assert_eq!(output[..HEAD], Head { layer: 0, equation: 0, withheld: 0 }.bytes());
 }
 
+/// Steps (b) and (c) by their words: after each take the search begins again at equation 0.
+fn plain_peel(repair: &mut Repair, layer: usize, equations: &[Vec<usize>]) -> Option<End> {
+    let mut used = vec![false; equations.len()];
+    let takeable = |repair: &Repair, used: &[bool], equation: usize| {
+        !used[equation] && repair.absent(layer, &equations[equation]).len() <= 1
+    };
+    while let Some(equation) = (0..equations.len()).find(|&e| takeable(repair, &used, e)) {
+        used[equation] = true;
+        if let Some(end) = repair.take(layer, equation, &equations[equation]) {
+            return Some(end);
+        }
+    }
+    let gaps = (0..symbols(layer)).any(|symbol| !repair.held(layer, symbol));
+    gaps.then_some(End::Unavailable(layer))
+}
+
+/// Miscoded bases with gaps: which equation is taken first decides what is stored and which
+/// fault shows. A set of equations and a plain search take the same ones in the same order.
+#[test]
+fn equations_are_taken_in_the_order_of_a_plain_search() {
+    let mut ends = [0; 3];
+    for (depth, turns) in [(1, 600), (2, 300), (4, 90), (6, 12), (9, 3)] {
+        let base = depth - 1;
+        for turn in 0..turns {
+            let mixed = |i: usize| (i * 7919 + turn * 104_729 + i * i * 31) % 1009;
+            let miscoded =
+                Written::altered(depth, &house(depth), &block_of(depth), |layer, coded| {
+                    let replaced = (0..turn % 4).map(|i| mixed(i + 5000) % symbols(base));
+                    replaced.filter(|_| layer == base).for_each(|symbol| coded[symbol][3] ^= 1);
+                });
+            let lost = (0..symbols(base)).filter(|&i| mixed(i) % 100 < turn * 7 % 60);
+            let mut w = miscoded.clone();
+            lose(&mut w, &lost.map(|symbol| place(base, symbol)).collect::<Vec<_>>());
+            let equations = w.equations().swap_remove(base);
+            let results = [true, false].map(|plain| {
+                let mut w = w.clone();
+                let mut output = vec![LENT; output_len(depth)];
+                let (root, tree, marks) = (&w.root, &mut w.tree, &mut w.marks);
+                let mut repair =
+                    Repair { hash: sha256, root, tree, marks, output: &mut output, stored: 0 };
+                repair.sweep(base);
+                let end = match plain {
+                    true => plain_peel(&mut repair, base, &equations),
+                    false => repair.peel(base, &equations),
+                };
+                let stored = repair.stored;
+                (end, stored, w.tree, w.marks, output)
+            });
+            assert!(results[0] == results[1], "depth {depth}, turn {turn}");
+            ends[match results[0].0 {
+                None => 0,
+                Some(End::Fault(_)) => 1,
+                _ => 2,
+            }] += 1;
+        }
+    }
+    assert!(ends.iter().all(|&times| times >= 40), "{ends:?}");
+}
+
 /// With a hash that all symbols share, a formed symbol always fits, and an
 /// equation that is complete and fails shows twins: equation 1, {1, 2, 4, 5},
 /// gives symbol 5, and then 2, {2, 3, 5, 6}, fails.

@@ -1,6 +1,9 @@
 use super::*;
-use crate::table::house;
+use crate::table::{house, MAX_DEPTH};
 use crate::written::{block_of, Written};
+
+/// The depths that there are.
+const DEPTHS: std::ops::RangeInclusive<usize> = 1..=MAX_DEPTH as usize;
 
 /// A tree of the house table.
 fn written(depth: usize) -> Written {
@@ -23,7 +26,7 @@ fn members_of_a_sample() {
 /// Each data symbol of a sample is the one that the hashes below stand in.
 #[test]
 fn members_stand_under_the_next_data_symbol() {
-    for depth in 1..=5 {
+    for depth in DEPTHS {
         for number in 0..symbols(depth - 1) {
             let members = members(depth, number);
             for &(layer, symbol) in &members {
@@ -37,12 +40,14 @@ fn members_stand_under_the_next_data_symbol() {
 
 #[test]
 fn samples_of_a_written_tree_pass() {
-    for depth in 1..=5 {
+    for depth in DEPTHS {
         let w = written(depth);
         for number in 0..symbols(depth - 1) {
             let sample = sample_of(&w, depth, number);
             assert_eq!(check(depth as u64, number as u64, &w.root, &sample), Ok(()));
         }
+        let (n, sample) = (symbols(depth - 1), vec![0; sample_len(depth)]);
+        assert_eq!(check(depth as u64, n as u64, &w.root, &sample), Err(Stop::Number));
     }
 }
 
@@ -54,7 +59,7 @@ fn breaks_in(layer: usize) -> Result<(), Stop> {
 /// the path breaks there, a layer further down.
 #[test]
 fn a_damaged_sample_is_refused() {
-    for depth in 1..=5 {
+    for depth in DEPTHS {
         let w = written(depth);
         let number = symbols(depth - 1) - 3;
         let sample = sample_of(&w, depth, number);
@@ -135,7 +140,7 @@ fn tests_of_the_sampler_in_their_order() {
     marks[47] = 2;
     assert_eq!(take_of(2, 32, &marks), Err(Stop::Mark(47)));
     assert_eq!(take_of(2, 32, &marks[1..]), Err(Stop::Length));
-    assert_eq!(take_of(6, 32, &marks[1..]), Err(Stop::Depth));
+    assert_eq!(take_of(10, 32, &marks[1..]), Err(Stop::Depth));
 }
 
 #[test]

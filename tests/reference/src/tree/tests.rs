@@ -1,5 +1,5 @@
 use super::*;
-use crate::table::{house, house_equation, to_bytes, write as write_table};
+use crate::table::{house, house_equation, to_bytes, write as write_table, MAX_DEPTH};
 use crate::written::{block_of, cases_block, without, Written};
 
 /// Case 3.
@@ -11,16 +11,17 @@ fn symbols_of_the_cases_tree() {
     }
 }
 
-/// Case 8.
+/// Case 8, with the depths of CR 6.
 #[test]
 fn depths() {
-    for depth in [0, 6, 1 << 32 | 1, u64::MAX] {
+    for depth in [0, 10, 1 << 32 | 1, 1 << 32 | 9, u64::MAX] {
         let mut w = Written::lent(1, &house(1));
         let stop = write(depth, &w.table, &cases_block(), &mut w.tree, &mut w.marks, &mut w.root);
         assert_eq!(stop, Err(Stop::Depth));
         assert_eq!(read_block(depth, &w.tree, &w.marks, &mut [0; 3]), Err(Stop::Depth));
     }
-    assert_eq!(tree_symbols(5), 496);
+    assert_eq!([tree_symbols(5), tree_symbols(9)], [496, 8176]);
+    assert_eq!(data_symbols(8), 1024);
 }
 
 /// Case 10.
@@ -37,7 +38,7 @@ fn place_of_a_hash() {
 /// back.
 #[test]
 fn written_trees_are_correctly_coded() {
-    for depth in 1..=5 {
+    for depth in 1..=MAX_DEPTH as usize {
         let words = house(depth);
         let block = block_of(depth);
         let w = Written::new(depth, &words, &block);
@@ -72,8 +73,13 @@ fn roots_by_another_implementation() {
         "de16359339f52c0279d13e0859a67b66636d6a1075f851d6b834cd5cfeaf1df0",
         "314798f148451ac47457477bb5f61558a88d9380ad8fdf1044185c286dd1dc88",
         "5c684b01529fc751539c8f79657adbbb56293f6c1d99d4d3d834e47e291b3f70",
+        "23cb2887d84dc982ae3bf029c7bc6d880829c10626375e2dea862dbf6e4d3e6a",
+        "534ef8502e0132cf21578b8bdee8c795fa0f9c10fade9e510f3cd9b9e5774a0b",
+        "35cc1fa7f9a52ced4c52fe8044c32bfbc2e182708a0bfe6789681a3b9c1bd93d",
+        "9c33f0f2a594ea7938701d1a140d74aa464f8ee4e1395c93e8fd68b7c61cd149",
     ];
-    for (depth, expected) in (1..=5).zip(expected) {
+    assert_eq!(expected.len() as u64, MAX_DEPTH);
+    for (depth, expected) in (1..).zip(expected) {
         let w = Written::new(depth, &house(depth), &block_of(depth));
         let digest: String = sha256(&w.root).iter().map(|byte| format!("{byte:02x}")).collect();
         assert_eq!(digest, expected);
@@ -114,7 +120,7 @@ fn tests_of_the_writer_in_their_order() {
         let mut lens = right;
         lens[buffer] += 1;
         assert_eq!(stop_of(1, lens), Some(Stop::Length));
-        assert_eq!(stop_of(6, lens), Some(Stop::Depth));
+        assert_eq!(stop_of(10, lens), Some(Stop::Depth));
         lens[0] = 248;
         let last = if buffer == 0 { Stop::Word(61) } else { Stop::Length };
         assert_eq!(stop_of(1, lens), Some(last));
