@@ -33,6 +33,8 @@ pub struct Call {
     /// How often a result must come, where that is oftener than each must, or a call
     /// that is counted.
     pub least: &'static [(&'static str, u64)],
+    /// The same at the deep sizes.
+    pub least_deep: &'static [(&'static str, u64)],
 }
 
 pub type Own = fn(&mut Comparisons) -> Compared;
@@ -49,6 +51,7 @@ pub const CALL: Call = Call {
     also: |_, _, _, _| Ok(()),
     own: &[],
     least: &[],
+    least_deep: &[],
 };
 
 pub enum Argument {
@@ -116,8 +119,13 @@ pub struct Buffer {
 impl Call {
     /// The sorts of all tests and sizes.
     pub fn sorts(&self) -> impl Iterator<Item = String> + '_ {
+        self.sorts_at(self.sizes)
+    }
+
+    /// The sorts of all tests at these sizes.
+    pub fn sorts_at(&self, sizes: &'static [usize]) -> impl Iterator<Item = String> + '_ {
         let of_test =
-            |test: &'static Test| self.sizes.iter().flat_map(|&size| (test.sorts.all)(size));
+            move |test: &'static Test| sizes.iter().flat_map(|&size| (test.sorts.all)(size));
         self.tests.iter().flat_map(of_test)
     }
 

@@ -9,6 +9,8 @@ use crate::library::{Function, Library};
 use crate::met::Met;
 use crate::random::Random;
 use crate::results::{number, outcome, same};
+use crate::stops::{BEYOND, DEEP};
+use crate::volumes::some_depth;
 use reference::stop::Stop;
 use reference::tree::SYMBOL;
 
@@ -24,8 +26,32 @@ const TURNS: usize = 4;
 const LEAST: u64 = 40;
 const LEAST_OF_SORT: u64 = 3;
 
+/// How often each result must come at each size.
+const LEAST_AT_A_SIZE: u64 = 2;
+
+/// The sizes are compared in two parts: at the deep ones fewer calls are made.
+#[derive(Clone, Copy, PartialEq, Eq)]
+pub enum Part {
+    Shallow,
+    Deep,
+}
+
+impl Part {
+    /// The sizes of a call that are in this part.
+    fn sizes(self, call: &Call) -> &'static [usize] {
+        let (shallow, deep) = call.sizes.split_at(call.sizes.partition_point(|&s| s < DEEP));
+        match self {
+            Part::Shallow => shallow,
+            Part::Deep => deep,
+        }
+    }
+}
+
 pub struct Comparisons {
     pub call: &'static Call,
+    /// Those of the part that is compared.
+    pub sizes: &'static [usize],
+    pub part: Part,
     pub library: Library,
     pub random: Random,
     pub met: Met,
@@ -34,16 +60,46 @@ pub struct Comparisons {
 
 /// Makes every comparison of a call.
 pub fn compare(call: &'static Call, library: &Library) -> Result<Met, Failure> {
+    let shallow = compare_part(call, library, Part::Shallow)?;
+    let deep = compare_part(call, library, Part::Deep)?;
+    Ok(shallow.and(deep))
+}
+
+/// Makes every comparison of a call at the sizes of a part. At each size each number and
+/// each end must come.
+pub fn compare_part(call: &'static Call, library: &Library, part: Part) -> Result<Met, Failure> {
     let mut comparisons = Comparisons::of(call, library, Random::new(SEED));
+    comparisons.part = part;
+    comparisons.sizes = part.sizes(call);
+    if comparisons.sizes.is_empty() {
+        return Ok(comparisons.met);
+    }
     comparisons.described()?;
     for own in call.own {
         own(&mut comparisons)?;
     }
-    let met = comparisons.met;
-    call.tests.iter().for_each(|test| met.outcomes.demand(&outcome(test.number), LEAST));
-    call.least.iter().for_each(|&(what, least)| met.outcomes.demand(what, least));
-    call.sorts().for_each(|sort| met.sorts.demand(&sort, LEAST_OF_SORT));
+    let (sizes, met) = (comparisons.sizes, comparisons.met);
+    let numbers = call.tests.iter().map(|test| outcome(test.number));
+    let ends = call.least.iter().filter(|(what, _)| what.starts_with("end "));
+    let each: Vec<String> = numbers.chain(ends.map(|(what, _)| what.to_string())).collect();
+    for (outcome, &size) in each.iter().flat_map(|outcome| sizes.iter().map(move |s| (outcome, s)))
+    {
+        met.at_sizes.demand(&at_size(outcome, size), LEAST_AT_A_SIZE);
+    }
+    if part == Part::Shallow {
+        each.iter().for_each(|outcome| met.outcomes.demand(outcome, LEAST));
+        call.least.iter().for_each(|&(what, least)| met.outcomes.demand(what, least));
+    } else {
+        call.least_deep.iter().for_each(|&(what, least)| met.outcomes.demand(what, least));
+    }
+    let least = if part == Part::Shallow { LEAST_OF_SORT } else { 1 };
+    call.sorts_at(sizes).for_each(|sort| met.sorts.demand(&sort, least));
     Ok(met)
+}
+
+/// An outcome at a size.
+fn at_size(outcome: &str, size: usize) -> String {
+    format!("{outcome} at size {size}")
 }
 
 /// Numbers that are `low` only where bits are lost.
@@ -54,7 +110,42 @@ pub fn large(low: u64) -> [u64; 5] {
 impl Comparisons {
     pub fn of(call: &'static Call, library: &Library, random: Random) -> Comparisons {
         let (library, function) = (library.clone(), library.function(call));
-        Comparisons { call, library, random, met: Met::default(), function }
+        let (sizes, part) = (call.sizes, Part::Shallow);
+        Comparisons { call, sizes, part, library, random, met: Met::default(), function }
+    }
+
+    pub fn is_deep(&self) -> bool {
+        self.part == Part::Deep
+    }
+
+    /// How many turns of a comparison whose depths are random: so many, or, of deep ones, fewer.
+    pub fn turns(&self, shallow: usize) -> usize {
+        if self.is_deep() {
+            (shallow >> 7).max(2)
+        } else {
+            shallow
+        }
+    }
+
+    /// A depth of the part, the smaller ones more often.
+    pub fn some_depth(&mut self) -> usize {
+        match self.part {
+            Part::Shallow => some_depth(&mut self.random),
+            Part::Deep => match self.random.below(15) {
+                0..=7 => DEEP,
+                8..=11 => DEEP + 1,
+                12..=13 => DEEP + 2,
+                _ => DEEP + 3,
+            },
+        }
+    }
+
+    /// The sizes that tables are made for: those of the part, and those beside.
+    pub fn made_sizes(&self) -> std::ops::RangeInclusive<usize> {
+        match self.part {
+            Part::Shallow => 0..=DEEP - 1,
+            Part::Deep => DEEP..=BEYOND,
+        }
     }
 
     /// A call of a size that no test stops.
@@ -63,11 +154,21 @@ impl Comparisons {
     }
 
     fn described(&mut self) -> Compared {
-        for &size in self.call.sizes {
+        if self.is_deep() {
+            for &size in self.sizes {
+                let good = self.good(size);
+                self.make_done("a size of the deep ones", &good)?;
+            }
+            self.sizes()?;
+        }
+        for &size in self.sizes {
             self.causes(size)?;
             for own in self.call.tests.iter().flat_map(|test| test.own) {
                 own(self, size)?;
             }
+        }
+        if self.is_deep() {
+            return self.lengths();
         }
         self.sizes()?;
         self.lengths()?;
@@ -79,7 +180,8 @@ impl Comparisons {
         let tests = self.call.tests;
         let sets = 1 << tests.len();
         let mut good = self.good(size);
-        for turn in 0..SETS.min(64 * sets).max(sets) {
+        let turns = if self.is_deep() { sets } else { SETS.min(64 * sets).max(sets) };
+        for turn in 0..turns {
             if turn % 64 == 0 {
                 good = self.good(size);
                 self.make_done("nothing is wrong", &good)?;
@@ -103,7 +205,9 @@ impl Comparisons {
         if self.call.numbers().count() == 0 {
             return Ok(());
         }
-        for &made_for in beside.iter().chain(&beside) {
+        let made = beside.iter().filter(|size| self.made_sizes().contains(size));
+        let made: Vec<usize> = made.copied().collect();
+        for made_for in made.repeat(if self.is_deep() { 1 } else { 2 }) {
             let mut input = self.made_for(made_for);
             let asked = (0..=beside[beside.len() - 1] as u64 + 1)
                 .chain(large(made_for as u64))
@@ -136,10 +240,11 @@ impl Comparisons {
     /// One buffer of another length.
     fn lengths(&mut self) -> Compared {
         let sizes = self.sizes_and_beside();
-        for &size in self.call.sizes {
-            for turn in 0..TURNS * self.call.buffers().count() {
+        let turns = if self.is_deep() { 1 } else { TURNS };
+        for &size in self.sizes {
+            for turn in 0..turns * self.call.buffers().count() {
                 let good = self.good(size);
-                let b = turn / TURNS;
+                let b = turn / turns;
                 let buffer = self.call.buffers().nth(b).expect("a buffer");
                 let len = good.buffers[b].len();
                 let others = other_lengths(len).into_iter().chain(buffer.length.edges(&sizes));
@@ -195,6 +300,9 @@ impl Comparisons {
         let mut after = input.clone();
         let result = (self.call.reference)(&mut after);
         self.met.outcomes.count(&outcome(result));
+        if let Some(size) = input.size() {
+            self.met.at_sizes.count(&at_size(&outcome(result), size));
+        }
         if let Some(sort) = self.call.sort(input, result) {
             self.met.sorts.count(&sort);
         }

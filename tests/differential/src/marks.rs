@@ -7,7 +7,10 @@ use crate::call::{Test, TEST};
 use crate::comparisons::Comparisons;
 use crate::difference::Compared;
 use crate::random::Random;
-use reference::tree::marks_in_form;
+use crate::stops::{sparse, turns, DEEP};
+use reference::table::data_symbols;
+use reference::tree::{marks_in_form, place, tree_symbols};
+use std::collections::BTreeSet;
 
 pub const MARKS: Test = Test {
     number: 4,
@@ -28,16 +31,31 @@ fn spoil_mark(marks: &mut [u8], random: &mut Random) {
     marks[at] = 2 + random.below(BAD_MARKS) as u8;
 }
 
+/// The places of a depth: all, or, of a deep one, the first and the last of the data and of the
+/// parity of each layer, and some between.
+fn places(depth: usize) -> Vec<usize> {
+    if depth < DEEP {
+        return (0..tree_symbols(depth)).collect();
+    }
+    let ends = |layer| {
+        let k = data_symbols(layer);
+        [0, k - 1, k, 4 * k - 1].map(|symbol| place(layer, symbol))
+    };
+    let ends = (depth - 4..depth).flat_map(ends);
+    let all: BTreeSet<usize> = ends.chain(sparse(depth, tree_symbols(depth))).collect();
+    all.into_iter().collect()
+}
+
 /// Each place alone with a mark that is none, and several beside random marks.
 fn bad_marks(c: &mut Comparisons, size: usize) -> Compared {
     let mut input = c.good(size);
-    for place in 0..input["marks"].len() {
+    for place in places(size) {
         let mark = 2 + (place % BAD_MARKS) as u8;
         let before = std::mem::replace(&mut input["marks"][place], mark);
         c.make("one bad mark", &input)?;
         input["marks"][place] = before;
     }
-    for turn in 0..200 {
+    for turn in 0..turns(size, 200) {
         input["marks"].fill_with(|| c.random.below(2) as u8);
         for _ in 0..1 + turn % 4 {
             spoil_mark(&mut input["marks"], &mut c.random);
@@ -49,17 +67,17 @@ fn bad_marks(c: &mut Comparisons, size: usize) -> Compared {
 
 /// Each place alone absent, and many.
 pub fn absent(c: &mut Comparisons) -> Compared {
-    for &size in c.call.sizes {
+    for &size in c.sizes {
         let mut input = c.good(size);
-        for place in 0..input["marks"].len() {
-            if place % 16 == 0 {
+        for place in places(size) {
+            if place % 16 == 0 && size < DEEP {
                 input = c.good(size);
             }
             input["marks"][place] = 0;
             c.make("one absent", &input)?;
             input["marks"][place] = 1;
         }
-        for turn in 0..150 {
+        for turn in 0..turns(size, 150) {
             let mut input = c.good(size);
             let some = [2, 8, 32][turn % 3];
             input["marks"].fill_with(|| c.random.below(some).min(1) as u8);

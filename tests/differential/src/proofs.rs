@@ -16,7 +16,7 @@ use crate::difference::Compared;
 use crate::input::Input;
 use crate::random::Random;
 use crate::results::number;
-use crate::stops::{DEPTH, DEPTHS, LENGTHS};
+use crate::stops::{DEEP, DEPTH, DEPTHS, LENGTHS};
 use crate::tables::cover::COVER;
 use crate::tables::{TABLE_LEN, WORDS};
 use crate::trees::ROOT_LEN;
@@ -53,6 +53,7 @@ pub static PROOF_CHECK: Call = Call {
         breaks::damaged_sets,
         breaks::damaged_roots,
         shown::committed_otherwise,
+        shown::longest_proofs,
         damaged::bytes,
         damaged::root_bytes,
         heads::values,
@@ -81,6 +82,22 @@ pub static PROOF_CHECK: Call = Call {
         ("two symbols damaged", 1600),
         ("some symbols damaged", 700),
         ("a hash of the root", 1400),
+    ],
+    least_deep: &[
+        ("end 0", 500),
+        ("1", 100),
+        ("2", 150),
+        ("3", 100),
+        ("6", 500),
+        ("7", 2000),
+        ("8", 200),
+        ("10", 100),
+        ("nothing damaged", 200),
+        ("a symbol damaged", 1600),
+        ("two symbols damaged", 100),
+        ("some symbols damaged", 30),
+        ("a hash of the root", 64),
+        ("the longest proof", 3),
     ],
     ..CALL
 };
@@ -203,8 +220,10 @@ fn each_fault(
     c: &mut Comparisons,
     compare: impl Fn(&mut Comparisons, &Input, &Volume, Head) -> Compared,
 ) -> Compared {
-    for depth in DEPTHS {
-        for layer in 0..depth {
+    for &depth in c.sizes {
+        // Of a deep depth the base, and one layer above it.
+        let above = depth - 1 - depth % 4;
+        for layer in (0..depth).filter(|l| depth < DEEP || [above, depth - 1].contains(l)) {
             let (input, volume, head) = of_fault(depth, layer, &mut c.random);
             compare(c, &input, &volume, head)?;
         }

@@ -1,6 +1,7 @@
 //! `cmt_repair` beside the reference, and each fault proof that it writes
 //! beside both checkers.
 
+mod deep;
 mod losses;
 mod miscoded;
 mod promises;
@@ -66,6 +67,9 @@ pub static REPAIR: Call = Call {
         miscoded::faults_in_some_layers,
         miscoded::other_hashes,
         losses::junk,
+        deep::losses,
+        deep::chains,
+        deep::longest_proofs,
     ],
     // Whole, fault, unavailable; a lone fault in each layer; the numbers.
     least: &[
@@ -82,6 +86,22 @@ pub static REPAIR: Call = Call {
         ("3", 1000),
         ("4", 1000),
         ("10", 2000),
+    ],
+    least_deep: &[
+        ("end 0", 100),
+        ("end 1", 150),
+        ("end 2", 40),
+        ("layer 5", 4),
+        ("layer 6", 4),
+        ("layer 7", 4),
+        ("layer 8", 4),
+        ("1", 80),
+        ("2", 200),
+        ("3", 80),
+        ("4", 100),
+        ("10", 80),
+        ("a chain", 16),
+        ("the longest proof of 18188 bytes", 3),
     ],
     ..CALL
 };

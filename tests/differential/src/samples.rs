@@ -9,6 +9,7 @@ use crate::call::{Length, Test, TEST};
 use crate::comparisons::{large, Comparisons};
 use crate::difference::Compared;
 use crate::input::Input;
+use crate::stops::{sparse, DEEP};
 use reference::sample;
 use reference::stop::Stop;
 use reference::tree::symbols;
@@ -60,7 +61,9 @@ fn wrong_numbers(depth: usize, low: u64) -> Vec<u64> {
 
 fn every_wrong_number(c: &mut Comparisons, depth: usize) -> Compared {
     let mut input = c.good(depth);
-    for low in 0..base_symbols(depth).min(40) {
+    let lows = sparse(depth, base_symbols(depth).min(40) as usize).into_iter().map(|low| low as u64);
+    let most = if depth < DEEP { usize::MAX } else { 4 };
+    for low in lows.take(most).chain([base_symbols(depth) - 1]) {
         for number in wrong_numbers(depth, low) {
             input.set("number", number);
             c.make("a wrong number", &input)?;

@@ -16,8 +16,29 @@ pub const DEPTHS: [usize; MAX_DEPTH as usize] = {
     depths
 };
 
-/// The depths that tables are made for go two beyond.
-pub const BEYOND: usize = DEPTHS.len() + 2;
+/// The depths that tables are made for go one beyond.
+pub const BEYOND: usize = DEPTHS.len() + 1;
+
+/// The first of the deep depths, whose calls take long.
+pub const DEEP: usize = 6;
+
+/// How many turns there are at a depth: those that a shallow one gets, or fewer.
+pub fn turns(depth: usize, shallow: usize) -> usize {
+    match depth.checked_sub(DEEP) {
+        Some(deeper) => (shallow >> (4 + deeper)).max(1),
+        None => shallow,
+    }
+}
+
+/// Numbers below a limit: all at a shallow depth, some at a deep one, the first and the last
+/// among them.
+pub fn sparse(depth: usize, limit: usize) -> Vec<usize> {
+    let most = match depth.checked_sub(DEEP) {
+        Some(deeper) => limit.min(24 - 5 * deeper.min(3)),
+        None => return (0..limit).collect(),
+    };
+    (0..most).map(|i| i * (limit - 1) / (most - 1).max(1)).collect()
+}
 
 pub const DEPTH: Test = Test {
     number: 1,

@@ -4,6 +4,7 @@
 pub mod cover;
 mod damaged;
 pub mod lists;
+mod long;
 pub mod uses;
 
 #[cfg(test)]
@@ -19,12 +20,12 @@ use crate::difference::Compared;
 use crate::input::Input;
 use crate::random::Random;
 use crate::results::number;
-use crate::stops::{BEYOND, DEPTH, DEPTHS, LENGTHS};
+use crate::stops::{sparse, turns, BEYOND, DEEP, DEPTH, DEPTHS, LENGTHS};
 use lists::{alterations, random_damage, random_table, some_table};
 use lists::{perhaps_uncovered, WORD_KINDS};
 use reference::stop::Stop;
 use reference::table::{self, check_words, house, layers_of, to_bytes, to_words};
-use reference::table::{MAX_BYTES, MAX_DEPTH};
+use reference::table::{LAYER, MAX_BYTES, MAX_DEPTH};
 
 pub static TABLE_CHECK: Call = Call {
     name: "table_check",
@@ -42,8 +43,13 @@ pub static TABLE_CHECK: Call = Call {
         random_tables,
         random_words,
         byte_lengths,
+        long::longest_tables,
+        long::more_words_than_a_table,
+        long::neighbouring_depths,
+        long::chains,
     ],
     least: &[("end 0", 15_000), ("1", 2000), ("2", 1000), ("3", 100_000), ("10", 1000)],
+    least_deep: &[("end 0", 200), ("1", 100), ("2", 100), ("3", 1000), ("10", 100)],
     ..CALL
 };
 
@@ -104,7 +110,7 @@ fn asked() -> impl Iterator<Item = u64> {
 
 /// House tables and random ones, each read for every depth.
 fn depths(c: &mut Comparisons) -> Compared {
-    for made_for in 0..=BEYOND {
+    for made_for in c.made_sizes() {
         for words in [house(made_for), random_table(made_for, &mut c.random)] {
             for depth in asked() {
                 c.make("a table of some depth", &listed(depth, &words))?;
@@ -115,11 +121,15 @@ fn depths(c: &mut Comparisons) -> Compared {
 }
 
 /// A house table and a random one of each depth: each word altered in each
-/// way, and the list cut at each length.
+/// way, and the list cut at each length. Of a deep depth some words, and those beside the
+/// opener of the base.
 fn every_word(c: &mut Comparisons) -> Compared {
-    for depth in DEPTHS {
+    for &depth in c.sizes {
         for words in [house(depth), random_table(depth, &mut c.random)] {
-            for at in 0..words.len() {
+            let base = words.iter().position(|&word| word == table::word(LAYER, depth - 1));
+            let base = base.expect("the opener of the base");
+            let beside = (base - 1..base + 4).filter(|_| depth >= DEEP);
+            for at in sparse(depth, words.len()).into_iter().chain(beside) {
                 for (damage, altered) in alterations(&words, at) {
                     c.make(damage, &listed(depth as u64, &altered))?;
                 }
@@ -132,7 +142,7 @@ fn every_word(c: &mut Comparisons) -> Compared {
 
 /// Words after the end word.
 fn more_words(c: &mut Comparisons) -> Compared {
-    for depth in DEPTHS {
+    for &depth in c.sizes {
         let whole = house(depth);
         for kind in WORD_KINDS {
             for value in [0, 1, whole.len() - 1, whole.len(), (1 << 30) - 1] {
@@ -149,8 +159,8 @@ fn more_words(c: &mut Comparisons) -> Compared {
 
 /// Random tables, covered or not, whole and with some words damaged.
 fn random_tables(c: &mut Comparisons) -> Compared {
-    for depth in DEPTHS {
-        for _ in 0..300 {
+    for &depth in c.sizes {
+        for _ in 0..turns(depth, 300) {
             let words = random_table(depth, &mut c.random);
             let words = perhaps_uncovered(depth, words, &mut c.random);
             c.make("a random table", &listed(depth as u64, &words))?;
@@ -165,8 +175,9 @@ fn random_tables(c: &mut Comparisons) -> Compared {
 
 /// Lists that are no tables at all.
 fn random_words(c: &mut Comparisons) -> Compared {
+    let lens: &[usize] = if c.is_deep() { &[MAX_BYTES / 4] } else { &[0, 1, 2, 3, 61, 62, 4096] };
     for depth in asked() {
-        for len in [0, 1, 2, 3, 61, 62, 4096] {
+        for &len in lens {
             let random = c.random.bytes(4 * len);
             for bytes in [random, vec![0; 4 * len], vec![0xff; 4 * len]] {
                 c.make("random words", &Input::new(&TABLE_CHECK, [depth], [bytes]))?;
@@ -179,15 +190,17 @@ fn random_words(c: &mut Comparisons) -> Compared {
 /// Lengths that are no multiple of 4, or over the limit, or just not.
 fn byte_lengths(c: &mut Comparisons) -> Compared {
     for depth in asked() {
-        for made_for in 1..=BEYOND {
+        for made_for in c.made_sizes().skip_while(|&made_for| made_for == 0) {
             let len = house_len(made_for);
-            for other in (len - 9..len + 10).chain(MAX_BYTES - 9..MAX_BYTES + 10) {
+            // The limit with a table of few words, and with one of many.
+            let limit = if matches!(made_for, 1 | 9) { MAX_BYTES - 9..MAX_BYTES + 10 } else { 0..0 };
+            for other in (len - 9..len + 10).chain(16_380..16_389).chain(limit) {
                 let mut input = listed(depth, &house(made_for));
                 input["table"].resize(other, 0);
                 c.make("a length", &input)?;
             }
         }
-        for len in [1, 2, 3, 5, 17_000, 20_000, 65_536 + 244] {
+        for len in [1, 2, 3, 5, 17_000, 20_000, 65_536 + 244, MAX_BYTES + 16_384] {
             let bytes = c.random.bytes(len);
             c.make("random bytes", &Input::new(&TABLE_CHECK, [depth], [bytes]))?;
         }
@@ -199,7 +212,7 @@ fn byte_lengths(c: &mut Comparisons) -> Compared {
 fn house_tables(c: &mut Comparisons) -> Compared {
     for depth in asked() {
         let near = |made_for| [-4, -1, 0, 1, 4].map(|more| house_len(made_for) as isize + more);
-        for len in (0..=BEYOND).flat_map(near).chain([0, 1, 4, 60, 16_384]) {
+        for len in c.made_sizes().flat_map(near).chain([0, 1, 4, 60, MAX_BYTES as isize]) {
             let input = to_fill(depth, len as usize, &mut c.random);
             c.make("a length", &input)?;
         }

@@ -6,7 +6,7 @@ use crate::comparisons::Comparisons;
 use crate::damage::{damage, damage_root};
 use crate::difference::Compared;
 use crate::input::Input;
-use crate::stops::DEPTHS;
+use crate::stops::sparse;
 use crate::tables::lists::table_of;
 use crate::tables::uses::MOST;
 use crate::volumes::Volume;
@@ -112,8 +112,11 @@ fn each_proof(
     sizes: impl IntoIterator<Item = usize>,
     compare: impl Fn(&mut Comparisons, &Proof) -> Compared,
 ) -> Compared {
+    if c.is_deep() {
+        return each_deep_proof(c, sizes, compare);
+    }
     for size in sizes {
-        for (depth, layer) in DEPTHS.iter().flat_map(|&depth| (0..depth).map(move |l| (depth, l))) {
+        for (depth, layer) in c.sizes.iter().flat_map(|&depth| (0..depth).map(move |l| (depth, l))) {
             // The first equations of layer 0 have room for fewer members.
             let equation = 3 + c.random.below(3 * data_symbols(layer) - 3);
             let last = data_symbols(layer) + equation;
@@ -129,11 +132,40 @@ fn each_proof(
     Ok(())
 }
 
-/// None, and each symbol.
+/// The same of deep depths: one tree for a size, with a fault in each layer, and one of the
+/// withheld members.
+fn each_deep_proof(
+    c: &mut Comparisons,
+    sizes: impl IntoIterator<Item = usize>,
+    compare: impl Fn(&mut Comparisons, &Proof) -> Compared,
+) -> Compared {
+    for size in sizes {
+        for &depth in c.sizes {
+            let some = |layer| 3 + c.random.below(3 * data_symbols(layer) - 3);
+            let equations: Vec<usize> = (0..depth).map(some).collect();
+            let lasts = equations.iter().enumerate().map(|(l, e)| (l, data_symbols(l) + e));
+            let lasts: Vec<(usize, usize)> = lasts.collect();
+            let volume = Volume::miscoded(depth, &table_of(depth, size), &lasts, &mut c.random);
+            for (layer, equation) in equations.into_iter().enumerate() {
+                let members = &volume.equations[layer][equation];
+                assert_eq!(members.len(), size);
+                let withheld = members[[0, size / 2, size - 1][(layer + depth) % 3]];
+                compare(c, &Proof::new(&volume, Head { layer, equation, withheld }))?;
+            }
+        }
+    }
+    Ok(())
+}
+
+/// None, and each symbol. Of fewer than eight members at a deep depth, those of the withheld
+/// one's path.
 pub fn damaged_symbols(c: &mut Comparisons) -> Compared {
     each_proof(c, 2..=MOST, |c, proof| {
         proof.make(c, "nothing damaged", &[])?;
-        for index in 0..proof.symbols.len() {
+        let all = proof.symbols.len();
+        let path = all - proof.head.layer..all;
+        let some = c.is_deep() && proof.given.len() + 1 < MOST;
+        for index in if some { path } else { 0..all } {
             proof.make(c, "a symbol damaged", &[index])?;
             if proof.has_copies(index) {
                 c.met.outcomes.count("one of some copies");
@@ -145,8 +177,10 @@ pub fn damaged_symbols(c: &mut Comparisons) -> Compared {
 
 /// Each symbol with one before it: of the same path, and of another.
 pub fn damaged_pairs(c: &mut Comparisons) -> Compared {
-    each_proof(c, [4, MOST], |c, proof| {
-        for index in 0..proof.symbols.len() {
+    let sizes = if c.is_deep() { vec![MOST] } else { vec![4, MOST] };
+    each_proof(c, sizes, |c, proof| {
+        let depth = proof.input.number("depth") as usize;
+        for index in sparse(depth, proof.symbols.len()) {
             let start = index - index % (proof.head.layer + 1);
             for before in [0..start, start..index].into_iter().filter(|before| !before.is_empty()) {
                 let first = before.start + c.random.below(before.len());
@@ -160,7 +194,7 @@ pub fn damaged_pairs(c: &mut Comparisons) -> Compared {
 /// One symbol in four.
 pub fn damaged_sets(c: &mut Comparisons) -> Compared {
     each_proof(c, [3, MOST], |c, proof| {
-        for _ in 0..8 {
+        for _ in 0..if c.is_deep() { 1 } else { 8 } {
             let all = 0..proof.symbols.len();
             let some: Vec<usize> = all.filter(|_| c.random.below(4) == 0).collect();
             proof.make(c, "some symbols damaged", &some)?;
@@ -171,8 +205,12 @@ pub fn damaged_sets(c: &mut Comparisons) -> Compared {
 
 /// Each hash of the root, whether a path ends there or not.
 pub fn damaged_roots(c: &mut Comparisons) -> Compared {
-    each_proof(c, [2, MOST], |c, proof| {
-        for hash in 0..symbols(0) {
+    let sizes = if c.is_deep() { vec![MOST] } else { vec![2, MOST] };
+    each_proof(c, sizes, |c, proof| {
+        // Of a deep depth each second hash.
+        let step = if c.is_deep() { 2 } else { 1 };
+        let first = proof.head.layer % step;
+        for hash in (first..symbols(0)).step_by(step) {
             let mut input = proof.input.clone();
             damage_root(&mut input["root"], hash, &mut c.random);
             let position = proof.position_under(hash);

@@ -3,7 +3,7 @@
 use super::{each_fault, of, of_fault};
 use crate::comparisons::Comparisons;
 use crate::difference::Compared;
-use crate::stops::DEPTHS;
+use crate::stops::{sparse, DEEP};
 use reference::proof::HEAD;
 use reference::tree::{HASH, ROOT, SYMBOL};
 
@@ -11,8 +11,9 @@ use reference::tree::{HASH, ROOT, SYMBOL};
 /// changed.
 pub fn bytes(c: &mut Comparisons) -> Compared {
     each_fault(c, |c, right, volume, _| {
+        let one_in = if volume.depth < DEEP { 12 } else { 300 };
         for at in HEAD..right["proof"].len() {
-            if volume.depth > 2 && c.random.below(12) > 0 {
+            if volume.depth > 2 && c.random.below(one_in) > 0 {
                 continue;
             }
             let mut input = right.clone();
@@ -24,10 +25,10 @@ pub fn bytes(c: &mut Comparisons) -> Compared {
 }
 
 pub fn root_bytes(c: &mut Comparisons) -> Compared {
-    for depth in DEPTHS {
+    for &depth in c.sizes {
         let layer = c.random.below(depth);
         let (right, ..) = of_fault(depth, layer, &mut c.random);
-        for at in 0..ROOT {
+        for at in (0..ROOT).step_by(if depth < DEEP { 1 } else { 31 }) {
             let mut input = right.clone();
             input["root"][at] ^= 1 << c.random.below(8);
             c.make("a damaged root", &input)?;
@@ -40,8 +41,10 @@ pub fn root_bytes(c: &mut Comparisons) -> Compared {
 /// one byte.
 pub fn hashes(c: &mut Comparisons) -> Compared {
     each_fault(c, |c, _, volume, head| {
-        for (layer, symbol) in head.symbols(volume.members(head)) {
-            for byte in [0, c.random.below(HASH), HASH - 1] {
+        let symbols = head.symbols(volume.members(head));
+        for (layer, symbol) in sparse(volume.depth, symbols.len()).into_iter().map(|at| symbols[at]) {
+            let bytes = [0, c.random.below(HASH), HASH - 1].into_iter();
+            for byte in bytes.skip(if volume.depth < DEEP { 0 } else { 2 }) {
                 let mut broken = volume.clone();
                 broken.break_hash(layer, symbol, byte);
                 let input = of(&broken, broken.proof(head));
@@ -57,7 +60,9 @@ pub fn hashes(c: &mut Comparisons) -> Compared {
 pub fn lengths_of_proofs(c: &mut Comparisons) -> Compared {
     each_fault(c, |c, right, volume, _| {
         let len = right["proof"].len();
-        for other in 0..len + 300 {
+        let deep = volume.depth >= DEEP;
+        let far = |other: usize| other % 2048 > 300 && other + 300 < len && deep;
+        for other in (0..len + 300).filter(|&other| !far(other)) {
             let edge = (other + SYMBOL - HEAD) % SYMBOL;
             if volume.depth == 1 || other < 40 || !(3..SYMBOL - 2).contains(&edge) {
                 let mut input = right.clone();
@@ -71,15 +76,15 @@ pub fn lengths_of_proofs(c: &mut Comparisons) -> Compared {
 
 /// Two symbols of the proof in each other's place.
 pub fn swapped_symbols(c: &mut Comparisons) -> Compared {
-    each_fault(c, |c, right, _, _| {
+    each_fault(c, |c, right, volume, _| {
         let symbols = (right["proof"].len() - HEAD) / SYMBOL;
-        for one in 0..symbols {
-            for other in 0..one {
-                let mut input = right.clone();
-                let (low, high) = input["proof"].split_at_mut(HEAD + SYMBOL * one);
-                low[HEAD + SYMBOL * other..][..SYMBOL].swap_with_slice(&mut high[..SYMBOL]);
-                c.make("two symbols swapped", &input)?;
-            }
+        let pairs = (0..symbols).flat_map(|one| (0..one).map(move |other| (one, other)));
+        let pairs: Vec<(usize, usize)> = pairs.collect();
+        for (one, other) in sparse(volume.depth, pairs.len()).into_iter().map(|at| pairs[at]) {
+            let mut input = right.clone();
+            let (low, high) = input["proof"].split_at_mut(HEAD + SYMBOL * one);
+            low[HEAD + SYMBOL * other..][..SYMBOL].swap_with_slice(&mut high[..SYMBOL]);
+            c.make("two symbols swapped", &input)?;
         }
         Ok(())
     })

@@ -4,9 +4,9 @@
 use super::{make_for_right_tree, of, of_fault};
 use crate::comparisons::Comparisons;
 use crate::difference::Compared;
-use crate::stops::DEPTHS;
+use crate::stops::{turns, DEEP};
 use crate::tables::lists::{any_table, random_table};
-use crate::volumes::{some_depth, some_symbol, Volume};
+use crate::volumes::{some_symbol, Volume};
 use reference::proof::{self, Head, HEAD};
 use reference::table::{house, to_bytes};
 use reference::tree::{symbol_at, ROOT, SYMBOL};
@@ -14,8 +14,8 @@ use reference::tree::{symbol_at, ROOT, SYMBOL};
 /// A proof for another root or another table of its depth. A correctly
 /// coded tree has the other root.
 pub fn other_volumes(c: &mut Comparisons) -> Compared {
-    for _ in 0..400 {
-        let depth = some_depth(&mut c.random);
+    for _ in 0..c.turns(400) {
+        let depth = c.some_depth();
         let layer = c.random.below(depth);
         let (right, volume, _) = of_fault(depth, layer, &mut c.random);
         let words = volume.words();
@@ -36,8 +36,8 @@ pub fn other_volumes(c: &mut Comparisons) -> Compared {
 /// Proofs of another equation than the table's, in which a symbol that is no
 /// member stands for one: for the withheld one, or for a given one.
 pub fn forged_members(c: &mut Comparisons) -> Compared {
-    for depth in DEPTHS {
-        for turn in 0..200 {
+    for &depth in c.sizes {
+        for turn in 0..turns(depth, 200) {
             let words = any_table(depth, &mut c.random);
             let volume = Volume::new(depth, &words, &mut c.random);
             let layer = turn % depth;
@@ -59,8 +59,8 @@ pub fn forged_members(c: &mut Comparisons) -> Compared {
 
 /// Bytes that are no proofs, with a head that is one or without.
 pub fn random_proofs(c: &mut Comparisons) -> Compared {
-    for turn in 0..3000 {
-        let depth = some_depth(&mut c.random);
+    for turn in 0..c.turns(3000) {
+        let depth = c.some_depth();
         let words = random_table(depth, &mut c.random);
         let volume = Volume::new(depth, &words, &mut c.random);
         let layer = c.random.below(depth);
@@ -68,7 +68,7 @@ pub fn random_proofs(c: &mut Comparisons) -> Compared {
         let right = volume.proof(head);
         let len = match turn % 4 {
             0 => c.random.below(2 * HEAD),
-            1 => c.random.below(12_000),
+            1 => c.random.below(if depth < DEEP { 12_000 } else { 20_000 }),
             2 => HEAD + SYMBOL * c.random.below(40),
             _ => right.len(),
         };
@@ -83,8 +83,8 @@ pub fn random_proofs(c: &mut Comparisons) -> Compared {
 
 /// Proofs of correctly coded trees, damaged in some ways at once.
 pub fn damage_for_right_trees(c: &mut Comparisons) -> Compared {
-    for _ in 0..650 {
-        let depth = some_depth(&mut c.random);
+    for _ in 0..c.turns(650) {
+        let depth = c.some_depth();
         let words = any_table(depth, &mut c.random);
         let volume = Volume::new(depth, &words, &mut c.random);
         let layer = c.random.below(depth);

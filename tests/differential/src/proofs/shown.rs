@@ -4,22 +4,27 @@
 use super::{make_for_right_tree, of};
 use crate::comparisons::Comparisons;
 use crate::difference::Compared;
-use crate::stops::DEPTHS;
+use crate::stops::{sparse, DEEP, DEPTHS};
 use crate::tables::lists::{random_table, some_table, table_of};
-use crate::volumes::{equation_of, some_depth, some_parity, some_symbol, Volume};
-use reference::proof::Head;
+use crate::volumes::{equation_of, some_parity, some_symbol, Volume};
+use crate::results::number;
+use crate::tables::uses::MOST;
+use reference::proof::{Head, HEAD};
 use reference::repair::{output_len, repair, End};
 use reference::table::{house, to_bytes};
-use reference::tree::{tree_symbols, HASH};
+use reference::stop::Stop;
+use reference::tree::{symbols, tree_symbols, HASH};
 
 /// Every equation with every member withheld, of a tree with one replaced
 /// symbol and of one without.
 pub fn withheld_members(c: &mut Comparisons) -> Compared {
-    for depth in DEPTHS.into_iter().chain([1, 2]) {
+    let again: &[usize] = if c.is_deep() { &[] } else { &[1, 2] };
+    for depth in c.sizes.iter().chain(again).copied() {
         let random = random_table(depth, &mut c.random);
-        for words in [house(depth), random, table_of(depth, 8), table_of(depth, 2)] {
+        let tables = [random, house(depth), table_of(depth, 8), table_of(depth, 2)];
+        for words in tables.into_iter().take(if depth < DEEP { 4 } else { 1 }) {
             let right = Volume::new(depth, &words, &mut c.random);
-            for layer in 0..depth {
+            for layer in (0..depth).filter(|&l| depth < DEEP || l == depth - 1 || l == depth % 4) {
                 let symbol = some_symbol(layer, &mut c.random);
                 let faults = [(layer, symbol)];
                 let wrong = Volume::miscoded(depth, &words, &faults, &mut c.random);
@@ -37,7 +42,11 @@ fn withheld_members_of_layer(
     layer: usize,
     replaced: usize,
 ) -> Compared {
-    for (equation, members) in wrong.equations[layer].iter().enumerate() {
+    let equations = &wrong.equations[layer];
+    let with = equations.iter().position(|members| members.contains(&replaced));
+    let with = with.filter(|_| wrong.depth >= DEEP);
+    for equation in sparse(wrong.depth, equations.len()).into_iter().chain(with) {
+        let members = &equations[equation];
         for &withheld in members {
             let head = Head { layer, equation, withheld };
             let input = of(right, right.proof(head));
@@ -55,8 +64,8 @@ fn withheld_members_of_layer(
 
 /// What a repair writes.
 pub fn written_by_repair(c: &mut Comparisons) -> Compared {
-    for _ in 0..4000 {
-        let depth = some_depth(&mut c.random);
+    for _ in 0..c.turns(4000) {
+        let depth = c.some_depth();
         let words = some_table(depth, &mut c.random);
         let layer = c.random.below(depth);
         let faults: Vec<(usize, usize)> = (0..1 + c.random.below(3))
@@ -79,9 +88,9 @@ pub fn written_by_repair(c: &mut Comparisons) -> Compared {
 /// The root says nothing of the depth: a proof passes for any depth whose
 /// table has its layers.
 pub fn other_depths(c: &mut Comparisons) -> Compared {
-    for depth in DEPTHS {
+    for &depth in c.sizes {
         let words = house(depth);
-        for layer in 0..depth {
+        for layer in (0..depth).filter(|&l| depth < DEEP || l % 3 == depth % 3 || l == depth - 1) {
             let symbol = some_parity(layer, &mut c.random);
             let volume = Volume::miscoded(depth, &words, &[(layer, symbol)], &mut c.random);
             let head = volume.withholding(layer, equation_of(layer, symbol), &mut c.random);
@@ -100,16 +109,51 @@ pub fn other_depths(c: &mut Comparisons) -> Compared {
 /// The symbols are correctly coded, but the hash for the withheld one is
 /// another, in one byte.
 pub fn committed_otherwise(c: &mut Comparisons) -> Compared {
-    for depth in DEPTHS {
+    for &depth in c.sizes {
         let words = some_table(depth, &mut c.random);
         let right = Volume::new(depth, &words, &mut c.random);
         for layer in 0..depth {
-            for byte in 0..HASH {
+            let first = if depth < DEEP { 0 } else { 3 * layer };
+            for byte in (first..HASH).step_by(if depth < DEEP { 1 } else { HASH }) {
                 let head = right.some_head(layer, &mut c.random);
                 let mut volume = right.clone();
                 volume.break_hash(layer, head.withheld, byte);
                 let input = of(&volume, volume.proof(head));
                 c.make_done("another hash for the withheld member", &input)?;
+            }
+        }
+    }
+    Ok(())
+}
+
+/// Eight members in the base: the proof fills the output of a repair. It is accepted with any
+/// member withheld, refused with its first or its last byte changed, and with one byte more or
+/// fewer.
+pub fn longest_proofs(c: &mut Comparisons) -> Compared {
+    for &depth in c.sizes {
+        let (base, words) = (depth - 1, table_of(depth, MOST));
+        let last = symbols(base) - 1;
+        let volume = Volume::miscoded(depth, &words, &[(base, last)], &mut c.random);
+        let equation = equation_of(base, last);
+        for withheld in [0, 3, MOST - 1].map(|at| volume.equations[base][equation][at]) {
+            let right = of(&volume, volume.proof(Head { layer: base, equation, withheld }));
+            let len = right["proof"].len();
+            assert_eq!(len, output_len(depth));
+            c.make_so("the longest proof", &right, Ok(()))?;
+            for (at, stop) in [(HEAD, (base, 0)), (len - 1, (0, MOST - 1))] {
+                let mut input = right.clone();
+                input["proof"][at] ^= 1;
+                let result = c.make("a byte of the longest proof", &input)?;
+                let (layer, position) = stop;
+                // The last byte may be one of the hash for the symbol below it.
+                let stops = [layer, layer + 1]
+                    .map(|layer| number(Err(Stop::Hash { layer, position: Some(position) })));
+                assert!(depth == 1 || stops.contains(&result), "{result}");
+            }
+            for other in [len - 1, len + 1] {
+                let mut input = right.clone();
+                input["proof"].resize(other, 0);
+                c.make_so("the longest proof, cut or longer", &input, Err(Stop::Length))?;
             }
         }
     }

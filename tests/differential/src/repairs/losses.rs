@@ -4,11 +4,10 @@ use super::{lose, lose_some, of, spoil, REPAIR};
 use crate::comparisons::Comparisons;
 use crate::difference::Compared;
 use crate::input::Input;
-use crate::random::Random;
 use crate::results::repaired;
-use crate::stops::DEPTHS;
+use crate::stops::{turns, DEEP};
 use crate::tables::lists::{any_table, some_table};
-use crate::volumes::{some_depth, Volume};
+use crate::volumes::Volume;
 use reference::repair::{End, Repaired};
 use reference::table::{data_symbols, house};
 use reference::tree::{place, symbols, tree_symbols, ROOT, SYMBOL};
@@ -20,23 +19,23 @@ const PARTS: [usize; 9] = [0, 4, 16, 32, 64, 96, 120, 180, 256];
 const STOPPING_SET: [usize; 7] = [0, 4, 5, 6, 8, 9, 12];
 
 /// A tree of the house table or of a random one, of some depth.
-fn some_volume(random: &mut Random) -> Volume {
-    let depth = some_depth(random);
-    let words = some_table(depth, random);
-    Volume::new(depth, &words, random)
+fn some_volume(c: &mut Comparisons) -> Volume {
+    let depth = c.some_depth();
+    let words = some_table(depth, &mut c.random);
+    Volume::new(depth, &words, &mut c.random)
 }
 
 /// The same of a table that may not be covered.
-fn any_volume(random: &mut Random) -> Volume {
-    let depth = some_depth(random);
-    let words = any_table(depth, random);
-    Volume::new(depth, &words, random)
+fn any_volume(c: &mut Comparisons) -> Volume {
+    let depth = c.some_depth();
+    let words = any_table(depth, &mut c.random);
+    Volume::new(depth, &words, &mut c.random)
 }
 
 /// In the top layer, with a symbol beside it that can be stored, or none;
 /// and every symbol of each layer.
 pub fn known_stopping_sets(c: &mut Comparisons) -> Compared {
-    for depth in DEPTHS {
+    for &depth in c.sizes {
         let volume = Volume::new(depth, &house(depth), &mut c.random);
         for more in [None, Some(15)] {
             let mut input = of(&volume, &mut c.random);
@@ -46,7 +45,7 @@ pub fn known_stopping_sets(c: &mut Comparisons) -> Compared {
             let stored = more.into_iter().count();
             ends(c, "a known stopping set", &input, End::Unavailable(0), stored)?;
         }
-        for layer in 0..depth {
+        for layer in (0..depth).filter(|&l| depth < DEEP || l % 4 == 0 || l == depth - 1) {
             let mut input = of(&volume, &mut c.random);
             for symbol in 0..symbols(layer) {
                 lose(&mut input, layer, symbol, &mut c.random);
@@ -60,8 +59,8 @@ pub fn known_stopping_sets(c: &mut Comparisons) -> Compared {
 /// All parity of all layers, absent or bad copies: the data give it back,
 /// by any table.
 pub fn lost_parity(c: &mut Comparisons) -> Compared {
-    for turn in 0..20 {
-        let depth = DEPTHS[turn % DEPTHS.len()];
+    for turn in 0..if c.is_deep() { c.sizes.len() } else { 20 } {
+        let depth = c.sizes[turn % c.sizes.len()];
         let words = some_table(depth, &mut c.random);
         let volume = Volume::new(depth, &words, &mut c.random);
         let mut input = of(&volume, &mut c.random);
@@ -80,6 +79,9 @@ pub fn lost_parity(c: &mut Comparisons) -> Compared {
 
 /// Many sets of the sixteen symbols of depth 1.
 pub fn sets_of_one_layer(c: &mut Comparisons) -> Compared {
+    if c.is_deep() {
+        return Ok(());
+    }
     for turn in 0..6000 {
         let words = any_table(1, &mut c.random);
         let volume = Volume::new(1, &words, &mut c.random);
@@ -93,11 +95,14 @@ pub fn sets_of_one_layer(c: &mut Comparisons) -> Compared {
 
 /// Each place alone: absent, and a bad copy.
 pub fn one_symbol(c: &mut Comparisons) -> Compared {
-    for depth in DEPTHS {
+    for &depth in c.sizes {
         let volume = Volume::new(depth, &house(depth), &mut c.random);
         let right = of(&volume, &mut c.random);
-        for (layer, symbol) in volume.all_symbols() {
-            if depth > 3 && c.random.below(4) > 0 {
+        let all = volume.all_symbols();
+        let some = if depth < DEEP { all.len() } else { turns(depth, 64) + 1 };
+        for at in (0..some).map(|at| at * (all.len() - 1) / (some - 1)) {
+            let (layer, symbol) = all[at];
+            if (4..DEEP).contains(&depth) && c.random.below(4) > 0 {
                 continue;
             }
             let mut input = right.clone();
@@ -112,8 +117,8 @@ pub fn one_symbol(c: &mut Comparisons) -> Compared {
 }
 
 pub fn random_losses(c: &mut Comparisons) -> Compared {
-    for turn in 0..4000 {
-        let volume = any_volume(&mut c.random);
+    for turn in 0..c.turns(4000) {
+        let volume = any_volume(c);
         let mut input = of(&volume, &mut c.random);
         let parts = PARTS[turn % PARTS.len()];
         lose_some(&mut input, &volume.all_symbols(), parts, &mut c.random);
@@ -124,8 +129,8 @@ pub fn random_losses(c: &mut Comparisons) -> Compared {
 
 /// Few lost above a layer that loses much, and any below.
 pub fn lost_layers(c: &mut Comparisons) -> Compared {
-    for turn in 0..600 {
-        let depth = 2 + turn % 4;
+    for turn in 0..c.turns(600) {
+        let depth = if c.is_deep() { c.some_depth() } else { 2 + turn % 4 };
         let words = any_table(depth, &mut c.random);
         let volume = Volume::new(depth, &words, &mut c.random);
         let mut input = of(&volume, &mut c.random);
@@ -140,8 +145,8 @@ pub fn lost_layers(c: &mut Comparisons) -> Compared {
 }
 
 pub fn bad_copies(c: &mut Comparisons) -> Compared {
-    for turn in 0..4000 {
-        let volume = any_volume(&mut c.random);
+    for turn in 0..c.turns(4000) {
+        let volume = any_volume(c);
         let mut input = of(&volume, &mut c.random);
         let parts = PARTS[turn % PARTS.len()];
         lose_some(&mut input, &volume.all_symbols(), parts / 2, &mut c.random);
@@ -158,8 +163,8 @@ pub fn bad_copies(c: &mut Comparisons) -> Compared {
 /// The gaps that a repair left are all that is lost: nothing is stored in
 /// that layer.
 pub fn found_stopping_sets(c: &mut Comparisons) -> Compared {
-    for _ in 0..800 {
-        let volume = some_volume(&mut c.random);
+    for _ in 0..c.turns(800) {
+        let volume = some_volume(c);
         let right = of(&volume, &mut c.random);
         let layer = c.random.below(volume.depth);
         let of_layer: Vec<_> = (0..symbols(layer)).map(|symbol| (layer, symbol)).collect();
@@ -181,8 +186,8 @@ pub fn found_stopping_sets(c: &mut Comparisons) -> Compared {
 
 /// Random bytes, marks and roots, in some or in all of the buffers.
 pub fn junk(c: &mut Comparisons) -> Compared {
-    for turn in 0..1100 {
-        let volume = any_volume(&mut c.random);
+    for turn in 0..c.turns(1100) {
+        let volume = any_volume(c);
         let mut input = of(&volume, &mut c.random);
         let junk = 1 + turn % 7;
         if junk & 1 != 0 {

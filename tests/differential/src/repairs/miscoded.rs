@@ -6,9 +6,9 @@ use crate::difference::Compared;
 use crate::input::Input;
 use crate::random::Random;
 use crate::results::ended;
-use crate::stops::DEPTHS;
+use crate::stops::DEEP;
 use crate::tables::lists::any_table;
-use crate::volumes::{equation_of, some_depth, some_parity, some_symbol, Volume};
+use crate::volumes::{equation_of, some_parity, some_symbol, Volume};
 use reference::proof::HEAD;
 use reference::repair::{End, Repaired};
 use reference::tree::{HASH, SYMBOL};
@@ -16,9 +16,9 @@ use reference::tree::{HASH, SYMBOL};
 /// One replaced symbol of each layer: all held, the symbol itself absent
 /// or a bad copy, or another member of its equation absent.
 pub fn one_fault(c: &mut Comparisons) -> Compared {
-    for turn in 0..60 {
-        for depth in DEPTHS.into_iter().filter(|depth| turn % depth == 0) {
-            for layer in 0..depth {
+    for turn in 0..if c.is_deep() { 1 } else { 60 } {
+        for &depth in c.sizes.iter().filter(|&depth| turn % depth == 0) {
+            for layer in (0..depth).filter(|&l| depth < DEEP || l == depth - 1 || l == depth % 5) {
                 let (volume, parity) = Volume::with_fault(depth, layer, &mut c.random);
                 let right = of(&volume, &mut c.random);
                 shows_fault(c, "all held", &right, layer)?;
@@ -54,8 +54,8 @@ fn shows_fault(c: &mut Comparisons, what: &str, input: &Input, layer: usize) -> 
 /// Several replaced symbols of one layer, data too, and losses and bad
 /// copies: which equation is taken first decides.
 pub fn some_faults(c: &mut Comparisons) -> Compared {
-    for turn in 0..7000 {
-        let depth = some_depth(&mut c.random);
+    for turn in 0..c.turns(7000) {
+        let depth = c.some_depth();
         let words = any_table(depth, &mut c.random);
         let layer = c.random.below(depth);
         let faults = some_symbols(layer, &mut c.random);
@@ -75,8 +75,8 @@ pub fn some_faults(c: &mut Comparisons) -> Compared {
 
 /// Replaced symbols in more than one layer: the topmost shows.
 pub fn faults_in_some_layers(c: &mut Comparisons) -> Compared {
-    for turn in 0..500 {
-        let depth = 2 + turn % 4;
+    for turn in 0..c.turns(500) {
+        let depth = if c.is_deep() { c.some_depth() } else { 2 + turn % 4 };
         let words = any_table(depth, &mut c.random);
         let mut faults = Vec::new();
         for _ in 0..3 {
@@ -93,8 +93,8 @@ pub fn faults_in_some_layers(c: &mut Comparisons) -> Compared {
 
 /// The symbols are correctly coded, but the hash for one is another.
 pub fn other_hashes(c: &mut Comparisons) -> Compared {
-    for turn in 0..800 {
-        let depth = some_depth(&mut c.random);
+    for turn in 0..c.turns(800) {
+        let depth = c.some_depth();
         let words = any_table(depth, &mut c.random);
         let mut volume = Volume::new(depth, &words, &mut c.random);
         let layer = c.random.below(depth);

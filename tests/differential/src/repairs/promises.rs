@@ -41,12 +41,15 @@ pub fn hold(before: &Input, after: &Input, Repaired { end, stored }: Repaired) {
 fn largest_stopping_set(equations: &[Vec<usize>], gaps: Vec<bool>) -> Vec<bool> {
     let mut set = gaps;
     loop {
-        let met = |members: &Vec<usize>| -> Vec<usize> {
-            members.iter().copied().filter(|&member| set[member]).collect()
-        };
-        match equations.iter().map(met).find(|met| met.len() == 1) {
-            Some(once) => set[once[0]] = false,
-            None => return set,
+        let before = set.iter().filter(|&&in_set| in_set).count();
+        for members in equations {
+            let mut met = members.iter().copied().filter(|&member| set[member]);
+            if let (Some(once), None) = (met.next(), met.next()) {
+                set[once] = false;
+            }
+        }
+        if set.iter().filter(|&&in_set| in_set).count() == before {
+            return set;
         }
     }
 }

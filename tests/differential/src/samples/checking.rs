@@ -12,7 +12,7 @@ use crate::difference::Compared;
 use crate::input::Input;
 use crate::random::Random;
 use crate::results::number;
-use crate::stops::{DEPTH, DEPTHS, LENGTHS};
+use crate::stops::{turns, DEEP, DEPTH, DEPTHS, LENGTHS};
 use crate::tables::lists::some_table;
 use crate::trees::ROOT_LEN;
 use crate::volumes::Volume;
@@ -52,6 +52,14 @@ pub static SAMPLE_CHECK: Call = Call {
         ("one wrong hash", 800),
         ("some symbols damaged", 600),
         ("a hash of the root", 400),
+    ],
+    least_deep: &[
+        ("end 0", 1000),
+        ("5", 100),
+        ("7", 2000),
+        ("one wrong hash", 100),
+        ("some symbols damaged", 500),
+        ("a hash of the root", 64),
     ],
     ..CALL
 };
@@ -125,11 +133,13 @@ fn break_hash(input: &mut Input, index: usize, byte: usize) {
 }
 
 fn every_number(c: &mut Comparisons) -> Compared {
-    for depth in DEPTHS {
-        for _ in 0..2 {
+    for &depth in c.sizes {
+        for _ in 0..turns(depth, 2) {
             let words = some_table(depth, &mut c.random);
             let volume = Volume::new(depth, &words, &mut c.random);
-            for number in 0..base_symbols(depth) as usize {
+            let n = base_symbols(depth) as usize;
+            let step = if depth < DEEP { 1 } else { 7 };
+            for number in (0..n).filter(|number| number % step == 0 || number + 3 > n) {
                 c.make_done("a sample", &sample_of(&volume, number))?;
             }
         }
@@ -139,10 +149,10 @@ fn every_number(c: &mut Comparisons) -> Compared {
 
 /// Each byte of a sample and of a root, one bit of it changed.
 fn every_byte(c: &mut Comparisons) -> Compared {
-    for depth in DEPTHS {
+    for &depth in c.sizes {
         let right = c.good(depth);
         for buffer in 0..2 {
-            for at in 0..right.buffers[buffer].len() {
+            for at in (0..right.buffers[buffer].len()).step_by(if depth < DEEP { 1 } else { 11 }) {
                 let mut input = right.clone();
                 input.buffers[buffer][at] ^= 1 << c.random.below(8);
                 c.make("a damaged byte", &input)?;
@@ -154,10 +164,13 @@ fn every_byte(c: &mut Comparisons) -> Compared {
 
 /// Each byte of each hash, the only wrong hash of the sample.
 fn every_hash(c: &mut Comparisons) -> Compared {
-    for depth in DEPTHS {
+    for &depth in c.sizes {
+        let mut right = c.good(depth);
         for index in 0..2 * depth - 1 {
-            let right = c.good(depth);
-            for byte in 0..HASH {
+            if depth < DEEP && index > 0 {
+                right = c.good(depth);
+            }
+            for byte in (0..HASH).step_by(if depth < DEEP { 1 } else { 31 }) {
                 let mut input = right.clone();
                 break_hash(&mut input, index, byte);
                 let layer = depth - 1 - (index + 1) / 2;
@@ -170,10 +183,11 @@ fn every_hash(c: &mut Comparisons) -> Compared {
 
 /// The sample of one number, given for another.
 fn other_numbers(c: &mut Comparisons) -> Compared {
-    for depth in DEPTHS {
-        for _ in 0..8 {
+    for &depth in c.sizes {
+        for _ in 0..turns(depth, 8) {
             let mut input = c.good(depth);
-            for other in 0..base_symbols(depth) {
+            let all = 0..base_symbols(depth);
+            for other in all.step_by(if depth < DEEP { 1 } else { 13 }) {
                 input.set("number", other);
                 c.make("another number", &input)?;
             }
@@ -184,7 +198,7 @@ fn other_numbers(c: &mut Comparisons) -> Compared {
 
 /// Symbols in each other's place, another root, and no sample at all.
 fn other_symbols(c: &mut Comparisons) -> Compared {
-    for depth in DEPTHS {
+    for &depth in c.sizes {
         let right = c.good(depth);
         for one in 0..2 * depth - 1 {
             for other in 0..one {
@@ -194,7 +208,7 @@ fn other_symbols(c: &mut Comparisons) -> Compared {
                 c.make("two symbols swapped", &input)?;
             }
         }
-        for _ in 0..20 {
+        for _ in 0..turns(depth, 20) {
             let mut input = right.clone();
             input["root"] = c.good(depth)["root"].clone();
             c.make("another root", &input)?;

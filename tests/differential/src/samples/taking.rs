@@ -12,7 +12,7 @@ use crate::input::Input;
 use crate::marks::{absent, MARKS};
 use crate::random::Random;
 use crate::results::number;
-use crate::stops::{DEPTH, DEPTHS, LENGTHS};
+use crate::stops::{sparse, DEEP, DEPTH, DEPTHS, LENGTHS};
 use crate::tables::lists::random_table;
 use crate::trees::{tree_len, MARKS_LEN, TREE_LEN};
 use crate::volumes::Volume;
@@ -71,14 +71,14 @@ fn places(input: &Input) -> Vec<usize> {
 }
 
 /// Of random bytes, which no table gives, and of a coded tree; with every
-/// other symbol absent, too.
+/// other symbol absent, too. Of a deep depth some numbers, and the last.
 fn every_number(c: &mut Comparisons) -> Compared {
-    for depth in DEPTHS {
+    for &depth in c.sizes {
         let mut random = to_sample(depth, &mut c.random);
         let mut coded = random.clone();
         let words = random_table(depth, &mut c.random);
         coded["tree"] = Volume::new(depth, &words, &mut c.random).tree;
-        for number in 0..base_symbols(depth) {
+        for number in sparse(depth, base_symbols(depth) as usize).into_iter().map(|n| n as u64) {
             random.set("number", number);
             c.make_done("random bytes", &random)?;
             coded.set("number", number);
@@ -92,15 +92,20 @@ fn every_number(c: &mut Comparisons) -> Compared {
     Ok(())
 }
 
-/// Each set of the sample's own symbols absent.
+/// Each set of the sample's own symbols absent, or some: each that is one symbol and those
+/// after it.
 fn absent_members(c: &mut Comparisons) -> Compared {
-    for depth in DEPTHS {
+    for &depth in c.sizes {
         let mut input = to_sample(depth, &mut c.random);
-        for set in 0..1 << (2 * depth - 1) {
+        let sets: Vec<u64> = match depth < DEEP {
+            true => (0..1 << (2 * depth - 1)).collect(),
+            false => (0..2 * depth - 1).map(|i| c.random.next() << (i + 1) | 1 << i).collect(),
+        };
+        for set in sets {
             input.set("number", c.random.below(base_symbols(depth) as usize) as u64);
             input["marks"].fill(1);
             for (index, place) in places(&input).into_iter().enumerate() {
-                input["marks"][place] = 1 - (set >> index & 1);
+                input["marks"][place] = 1 - (set >> index & 1) as u8;
             }
             c.make("some of its own absent", &input)?;
         }

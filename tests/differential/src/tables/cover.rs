@@ -12,7 +12,7 @@ use crate::difference::Compared;
 use crate::input::Input;
 use crate::random::Random;
 use crate::results::number;
-use crate::stops::DEPTHS;
+use crate::stops::{sparse, turns, DEEP};
 use reference::cover::covered;
 use reference::stop::Stop;
 use reference::table::Layers;
@@ -85,10 +85,14 @@ fn none_one_two(
 /// one, in two.
 fn few_equations(c: &mut Comparisons, depth: usize) -> Compared {
     let mut input = c.good(depth);
-    for turn in 0..TURNS * depth {
+    for turn in 0..turns(depth, TURNS) * depth {
         let layer = turn % depth;
         let k = data_symbols(layer);
-        for symbol in [0, k / 2, k - 1] {
+        // One of them of each deep layer, all of the base.
+        let symbols = [0, k / 2, k - 1].into_iter().enumerate();
+        let chosen =
+            symbols.filter(|(at, _)| depth < DEEP || layer == depth - 1 || layer % 3 == *at);
+        for (_, symbol) in chosen {
             none_one_two(c, "a symbol in few equations", &mut input, depth, (layer, symbol))?;
         }
     }
@@ -99,9 +103,9 @@ fn few_equations(c: &mut Comparisons, depth: usize) -> Compared {
 /// members, or in the last alone: it is each of their first seven in turn.
 fn long_equations(c: &mut Comparisons, depth: usize) -> Compared {
     let mut input = c.good(depth);
-    for layer in 0..depth {
+    for layer in if depth < DEEP { 0..depth } else { depth - 1..depth } {
         let k = data_symbols(layer);
-        for symbol in 0..k.min(7) {
+        for symbol in (0..k.min(7)).step_by(if depth < DEEP { 1 } else { 3 }) {
             for first in [3 * k - 2, 3 * k - 1] {
                 let chosen: Vec<usize> = (first..3 * k).collect();
                 let mut layers = some_equations(depth, &mut c.random);
@@ -122,7 +126,7 @@ fn long_equations(c: &mut Comparisons, depth: usize) -> Compared {
 /// lowest is named.
 fn several_symbols(c: &mut Comparisons, depth: usize) -> Compared {
     let mut input = c.good(depth);
-    for turn in 0..10 * TURNS {
+    for turn in 0..turns(depth, 10 * TURNS) {
         let mut layers = some_equations(depth, &mut c.random);
         let first = c.random.below(depth);
         let mut few = None;
@@ -152,7 +156,7 @@ fn some_data(layer: usize, number: usize, random: &mut Random) -> Vec<usize> {
 /// named.
 fn wrong_words(c: &mut Comparisons, depth: usize) -> Compared {
     let mut input = c.good(depth);
-    for turn in 0..10 * TURNS {
+    for turn in 0..turns(depth, 10 * TURNS) {
         let mut layers = some_equations(depth, &mut c.random);
         uncover(&mut layers, &mut c.random);
         let words = write(&layers);
@@ -174,7 +178,7 @@ fn wrong_words(c: &mut Comparisons, depth: usize) -> Compared {
 fn later_tests(c: &mut Comparisons, depth: usize) -> Compared {
     let later = c.call.tests.iter().skip_while(|test| test.number != COVER.number).skip(1);
     for test in later {
-        for _ in 0..TURNS {
+        for _ in 0..turns(depth, TURNS) {
             let mut input = c.good(depth);
             (test.spoil)(&mut input, &mut c.random);
             let mut layers = whole_layers(&input);
@@ -185,12 +189,12 @@ fn later_tests(c: &mut Comparisons, depth: usize) -> Compared {
     Ok(())
 }
 
-/// Every data symbol of every layer: in no equation, in one, in two.
+/// Every data symbol of every layer, or some: in no equation, in one, in two.
 pub fn every_symbol(c: &mut Comparisons) -> Compared {
-    for depth in DEPTHS {
+    for &depth in c.sizes {
         let mut input = c.good(depth);
-        for layer in 0..depth {
-            for symbol in 0..data_symbols(layer) {
+        for layer in if depth < DEEP { 0..depth } else { depth - 2..depth } {
+            for symbol in sparse(depth, data_symbols(layer)) {
                 none_one_two(
                     c,
                     "each symbol in few equations",
@@ -206,6 +210,9 @@ pub fn every_symbol(c: &mut Comparisons) -> Compared {
 
 /// At depth 1, each data symbol in each two equations alone, and in each one.
 pub fn every_two_equations(c: &mut Comparisons) -> Compared {
+    if c.is_deep() {
+        return Ok(());
+    }
     let mut input = c.good(1);
     for symbol in 0..data_symbols(0) {
         for one in 0..3 * data_symbols(0) {

@@ -9,10 +9,28 @@ pub const WORD_KINDS: [u32; 4] = [MEMBER, LAYER, EQUATION, END];
 
 const VALUE: u32 = (1 << 30) - 1;
 
+/// So many symbols that a shuffle of all takes long.
+const MANY: usize = 256;
+
+/// So many different numbers below a limit that is far larger.
+fn some_below(limit: usize, number: usize, random: &mut Random) -> Vec<usize> {
+    let mut some = Vec::new();
+    while some.len() < number {
+        let one = random.below(limit);
+        if !some.contains(&one) {
+            some.push(one);
+        }
+    }
+    some
+}
+
 /// A table that is taken, each equation of 2 to 8 members.
 pub fn random_table(depth: usize, random: &mut Random) -> Vec<u32> {
     let mut layers = layers_by(depth, |_, last| {
         let others = 1 + random.below(7.min(last));
+        if last >= MANY {
+            return some_below(last, others, random);
+        }
         let mut members: Vec<usize> = (0..last).collect();
         // The first `others` of a shuffle.
         for i in 0..others {
@@ -64,6 +82,34 @@ pub fn table_of(depth: usize, size: usize) -> Vec<u32> {
     write(&layers_by(depth, |k, last| {
         (0..last.min(size - 1)).map(|more| (last % k + more) % last).collect()
     }))
+}
+
+/// An order of equations by its name: the equation of each link of a layer of k data symbols.
+pub type Links = (&'static str, fn(usize, usize) -> usize);
+
+/// Each link makes the next one takeable: a lower equation, a far one above it or below it in
+/// turn, a higher one behind equations that wait for the last.
+pub const LINKS: [Links; 4] = [
+    ("each lower", |k, i| k - 1 - i),
+    ("each lower from the far end", |k, i| 3 * k - 1 - i),
+    ("far ones in turn", |k, i| if i % 2 == 0 { i / 2 } else { 3 * k - 1 - i / 2 }),
+    ("each higher at the far end", |k, i| 2 * k + i),
+];
+
+/// A table whose data symbols, where all are absent and all parity is held, can be formed in
+/// one order alone: the first by its own link, each other by the link that it shares with the
+/// one before it. All other equations wait for the last three.
+pub fn chained(depth: usize, (_, link): Links) -> Vec<u32> {
+    let layers = (0..depth).map(|layer| {
+        let k = data_symbols(layer);
+        let mut equations: Vec<Vec<usize>> = (0..3 * k).map(|e| vec![k - 3, k - 2, k - 1, k + e]).collect();
+        for i in 0..k {
+            let e = link(k, i);
+            equations[e] = (i.saturating_sub(1)..=i).chain([k + e]).collect();
+        }
+        equations
+    });
+    write(&layers.collect::<Layers>())
 }
 
 /// The equations with the members that `others` gives for the layer's k and the
@@ -132,8 +178,10 @@ pub fn random_damage(words: &[u32], damages: usize, random: &mut Random) -> Vec<
 #[cfg(test)]
 mod tests {
     use super::*;
+    use crate::stops::{turns, DEEP, DEPTHS};
     use reference::stop::Stop;
     use reference::table::{check_bytes, to_bytes};
+    use std::collections::BTreeSet;
 
     fn taken(depth: usize, words: &[u32]) -> Result<(), Stop> {
         check_bytes(depth as u64, &to_bytes(words))
@@ -141,12 +189,27 @@ mod tests {
 
     #[test]
     fn tables_are_taken() {
-        for depth in 1..=5 {
+        for depth in DEPTHS {
             for size in 2..=8 {
                 assert_eq!(taken(depth, &table_of(depth, size)), Ok(()), "{size} members");
             }
-            for seed in 0..=255 {
-                assert_eq!(taken(depth, &random_table(depth, &mut Random::new(seed))), Ok(()));
+            for seed in 0..turns(depth, 256) {
+                let words = random_table(depth, &mut Random::new(seed as u64));
+                assert_eq!(taken(depth, &words), Ok(()));
+            }
+            for links in LINKS {
+                assert_eq!(taken(depth, &chained(depth, links)), Ok(()), "{}", links.0);
+            }
+        }
+    }
+
+    /// Each layer's chain has a link for each data symbol, in an equation of its own.
+    #[test]
+    fn links_are_different_equations() {
+        for k in DEPTHS.map(|depth| data_symbols(depth - 1)) {
+            for (name, link) in LINKS {
+                let links: BTreeSet<usize> = (0..k).map(|i| link(k, i)).collect();
+                assert!(links.len() == k && links.iter().all(|&e| e < 3 * k), "{name}, {k}");
             }
         }
     }
@@ -159,7 +222,7 @@ mod tests {
             assert!(matches!(result, Ok(()) | Err(Stop::Uncovered { .. })));
             result.is_err()
         };
-        let uncovered = (1..=5).cycle().take(800).map(uncovered).filter(|&uncovered| uncovered);
+        let uncovered = (1..DEEP).cycle().take(800).map(uncovered).filter(|&uncovered| uncovered);
         assert!((70..130).contains(&uncovered.count()));
     }
 }

@@ -1,22 +1,31 @@
 //! Equations that use a data symbol: more of them, or just so many.
 
 use crate::random::Random;
-use reference::cover::covered;
-use reference::stop::Stop;
 use reference::table::{data_symbols, Layers};
 
 /// The most members of an equation.
 pub const MOST: usize = 8;
 
+/// The equations that are enough for a data symbol.
+const ENOUGH: usize = 2;
+
 /// Puts data symbols into more equations, until each is in enough.
 pub fn cover(layers: &mut Layers, random: &mut Random) {
-    while let Err(Stop::Uncovered { layer, symbol }) = covered(layers) {
-        let equations = &mut layers[layer];
-        let without = |&e: &usize| !equations[e].contains(&symbol);
-        let others: Vec<usize> = with_room(equations, 1).into_iter().filter(without).collect();
-        let members = &mut equations[others[random.below(others.len())]];
-        members.push(symbol);
-        members.sort_unstable();
+    for (layer, equations) in layers.iter_mut().enumerate() {
+        let k = data_symbols(layer);
+        let mut times = vec![0; k];
+        let data = equations.iter().flatten().filter(|&&member| member < k);
+        data.for_each(|&data| times[data] += 1);
+        for (symbol, times) in times.into_iter().enumerate() {
+            for _ in times..ENOUGH {
+                let without = |&e: &usize| !equations[e].contains(&symbol);
+                let others: Vec<usize> =
+                    with_room(equations, 1).into_iter().filter(without).collect();
+                let members = &mut equations[others[random.below(others.len())]];
+                members.push(symbol);
+                members.sort_unstable();
+            }
+        }
     }
 }
 
@@ -85,7 +94,10 @@ fn with_room(equations: &[Vec<usize>], more: usize) -> Vec<usize> {
 #[cfg(test)]
 mod tests {
     use super::*;
+    use crate::stops::{DEEP, DEPTHS};
     use crate::tables::lists::some_equations;
+    use reference::cover::covered;
+    use reference::stop::Stop;
     use reference::table::{check_words, write};
 
     /// How many equations each data symbol of a layer is in.
@@ -116,7 +128,7 @@ mod tests {
     #[test]
     fn what_is_named_is_the_only_one() {
         let mut random = Random::new(496);
-        for depth in [1, 2, 3, 4, 5].into_iter().cycle().take(300) {
+        for depth in (1..DEEP).cycle().take(300).chain(DEPTHS) {
             let mut layers = some_equations(depth, &mut random);
             let (layer, symbol) = uncover(&mut layers, &mut random);
             assert_eq!(covered(&layers), Err(Stop::Uncovered { layer, symbol }));

@@ -12,7 +12,7 @@ use crate::input::Input;
 use crate::marks::{absent, MARKS};
 use crate::random::Random;
 use crate::results::number;
-use crate::stops::{DEPTH, DEPTHS, LENGTHS};
+use crate::stops::{turns, DEPTH, DEPTHS, LENGTHS};
 use crate::tables::lists::some_table;
 use crate::volumes::Volume;
 use reference::stop::Stop;
@@ -71,8 +71,8 @@ pub fn to_read(depth: usize, random: &mut Random) -> Input {
 
 /// Trees that the reference wrote.
 fn coded_trees(c: &mut Comparisons) -> Compared {
-    for depth in DEPTHS {
-        for _ in 0..40 {
+    for &depth in c.sizes {
+        for _ in 0..turns(depth, 40) {
             let mut input = to_read(depth, &mut c.random);
             let words = some_table(depth, &mut c.random);
             input["tree"] = Volume::new(depth, &words, &mut c.random).tree;
@@ -84,9 +84,9 @@ fn coded_trees(c: &mut Comparisons) -> Compared {
 
 /// Many absent where nothing is needed, and few where something is.
 fn absent_elsewhere(c: &mut Comparisons) -> Compared {
-    for depth in DEPTHS {
+    for &depth in c.sizes {
         let mut input = to_read(depth, &mut c.random);
-        for turn in 0..150 {
+        for turn in 0..turns(depth, 150) {
             input["marks"].fill_with(|| c.random.below(2) as u8);
             input["marks"][needed(depth)].fill(1);
             c.make_done("many absent that are not needed", &input)?;

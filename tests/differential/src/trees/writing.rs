@@ -12,7 +12,7 @@ use crate::input::Input;
 use crate::messages::{Content, CONTENTS};
 use crate::random::Random;
 use crate::results::number;
-use crate::stops::{DEPTH, DEPTHS, LENGTHS};
+use crate::stops::{turns, DEEP, DEPTH, DEPTHS, LENGTHS};
 use crate::tables::cover::COVER;
 use crate::tables::lists::{random_table, some_table, table_of};
 use crate::tables::{TABLE_LEN, WORDS};
@@ -53,11 +53,14 @@ pub fn to_write(depth: usize, words: &[u32], content: Content, random: &mut Rand
 /// Each content, with the house table, with the smallest and the largest
 /// equations, and with random ones.
 fn blocks(c: &mut Comparisons) -> Compared {
-    for depth in DEPTHS {
+    for &depth in c.sizes {
         let mut tables = vec![house(depth), table_of(depth, 2), table_of(depth, 8)];
-        tables.extend((0..60).map(|_| random_table(depth, &mut c.random)));
-        for words in tables {
-            for content in CONTENTS {
+        tables.extend((0..turns(depth, 60)).map(|_| random_table(depth, &mut c.random)));
+        for (number, words) in tables.into_iter().enumerate() {
+            // Of a deep depth one content for a table.
+            let contents = CONTENTS.into_iter().enumerate();
+            let one = |(at, _): &(usize, Content)| depth < DEEP || at % 4 == number % 4;
+            for (_, content) in contents.filter(one) {
                 let input = to_write(depth, &words, content, &mut c.random);
                 c.make_done("a block", &input)?;
             }
@@ -68,8 +71,8 @@ fn blocks(c: &mut Comparisons) -> Compared {
 
 /// Whatever the buffers held, marks that are none too.
 fn lent_bytes(c: &mut Comparisons) -> Compared {
-    for depth in DEPTHS {
-        for byte in [0, 1, 2, 3, 128, 255] {
+    for &depth in c.sizes {
+        for byte in [0, 255, 1, 2, 3, 128].into_iter().take(if depth < DEEP { 6 } else { 2 }) {
             let mut input = c.good(depth);
             ["tree", "marks", "root"].into_iter().for_each(|buffer| input[buffer].fill(byte));
             c.make_done("buffers of one byte", &input)?;

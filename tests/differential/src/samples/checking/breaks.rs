@@ -7,7 +7,7 @@ use crate::damage::{damage, damage_root};
 use crate::difference::Compared;
 use crate::input::Input;
 use crate::random::Random;
-use crate::stops::DEPTHS;
+use crate::stops::DEEP;
 use reference::sample::{data_index, members};
 use reference::sha256::sha256;
 use reference::stop::Stop;
@@ -66,11 +66,25 @@ fn damage_at(input: &mut Input, index: usize, random: &mut Random) {
     damage(&mut input["sample"][SYMBOL * index..][..SYMBOL], &hashes, random);
 }
 
-/// Each set of the sample's symbols damaged: it breaks at the first of them.
+/// Each set of the sample's symbols damaged, or, of a deep depth, each symbol alone, with the
+/// next, and with some after it: it breaks at the first of them.
 pub fn damaged_sets(c: &mut Comparisons) -> Compared {
-    for depth in DEPTHS {
-        for set in 0..1 << (2 * depth - 1) {
-            let mut input = c.good(depth);
+    for &depth in c.sizes {
+        let mut good = c.good(depth);
+        let sets: Vec<u64> = match depth < DEEP {
+            true => (0..1 << (2 * depth - 1)).collect(),
+            false => (0..2 * depth - 1)
+                .flat_map(|i| {
+                    let some = [0; 8].map(|_| c.random.next() << (i + 1) | 1 << i);
+                    [1 << i, 3 << i].into_iter().chain(some)
+                })
+                .collect(),
+        };
+        for set in sets {
+            if depth < DEEP && set > 0 {
+                good = c.good(depth);
+            }
+            let mut input = good.clone();
             let symbols = symbols_of(&input).into_iter().enumerate();
             let damaged: Vec<_> = symbols.filter(|(index, _)| set >> index & 1 == 1).collect();
             for &(index, _) in &damaged {
@@ -85,9 +99,13 @@ pub fn damaged_sets(c: &mut Comparisons) -> Compared {
 
 /// Each hash of the root, whether the sample has that symbol of layer 0 or not.
 pub fn damaged_roots(c: &mut Comparisons) -> Compared {
-    for depth in DEPTHS {
-        for hash in (0..symbols(0)).cycle().take(5 * symbols(0)) {
-            let mut input = c.good(depth);
+    for &depth in c.sizes {
+        let mut good = c.good(depth);
+        for (turn, hash) in (0..symbols(0)).cycle().take(5 * symbols(0)).enumerate() {
+            if depth < DEEP && turn > 0 {
+                good = c.good(depth);
+            }
+            let mut input = good.clone();
             damage_root(&mut input["root"], hash, &mut c.random);
             let has = symbols_of(&input).contains(&(0, hash));
             c.make_so("a hash of the root", &input, breaks_in(has.then_some(0)))?;
