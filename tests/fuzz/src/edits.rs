@@ -6,7 +6,7 @@ use reference::tree::SYMBOL;
 const EDIT: usize = 6;
 
 /// The most that a buffer grows to.
-const LONGEST: usize = 1 << 18;
+const LONGEST: usize = 1 << 22;
 
 /// Makes the changes that the bytes describe.
 pub fn apply(edits: &[u8], buffers: &mut [Vec<u8>]) {

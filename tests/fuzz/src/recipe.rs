@@ -11,6 +11,9 @@ use reference::tree::{symbols, HASH, SYMBOL};
 /// The depths that buffers are made for, the smaller ones more often.
 const DEPTHS: [usize; 8] = [1, 1, 1, 2, 2, 3, 4, 5];
 
+/// The deep ones, which take long, for the highest bytes alone.
+const DEEP: [usize; 16] = [6, 6, 6, 6, 6, 6, 6, 6, 7, 7, 7, 7, 8, 8, 9, 9];
+
 pub struct Recipe<'a> {
     bytes: &'a [u8],
 }
@@ -51,7 +54,10 @@ impl<'a> Recipe<'a> {
 
     /// The depth that buffers are made for.
     pub fn made_for(&mut self) -> usize {
-        DEPTHS[usize::from(self.byte()) % DEPTHS.len()]
+        match self.byte() {
+            deep @ 240..=255 => DEEP[usize::from(deep) % DEEP.len()],
+            byte => DEPTHS[usize::from(byte) % DEPTHS.len()],
+        }
     }
 
     /// A number to ask for: mostly the one given, or a small one, or any.

@@ -123,7 +123,48 @@ fn seeds_break_everywhere() {
     }
 }
 
-/// Recipes for proofs of equations of each size, in each layer of each depth, one symbol
+/// The depths of the calls whose results are such.
+fn depths_of(
+    target: &Target,
+    recipes: impl Iterator<Item = Vec<u8>>,
+    such: fn(u64) -> bool,
+) -> BTreeSet<usize> {
+    let called = called(target, recipes).filter(|&(_, result)| such(result));
+    called.filter_map(|(input, _)| input.size()).collect()
+}
+
+/// By random recipes, and by the recipes to begin with in calls that are done.
+#[test]
+fn every_depth_is_reached() {
+    let depths: BTreeSet<usize> = (1..=MAX_DEPTH as usize).collect();
+    for target in TARGETS.iter().filter(|target| target.call.sizes.len() > 1) {
+        let random = depths_of(target, some(1000), |result| result != 1);
+        let begun = depths_of(target, seeds(target.call), |result| result % 256 == 0);
+        assert_eq!((&random, &begun), (&depths, &depths), "{}", target.call.name);
+    }
+}
+
+/// Recipes at the deep depths for samples and proofs of the base that break in each layer, the
+/// proofs on the way of the last given member and of the withheld one.
+#[test]
+fn every_layer_of_deep_depths_is_reached() {
+    for (byte, depth) in [(0xf0, 6), (0xf8, 7), (0xfc, 8), (0xfe, 9)] {
+        let all: BTreeSet<usize> = (0..depth).collect();
+        let samples =
+            (0..2 * depth as u8 - 1).map(|index| vec![0, byte, 0, 0, 0, 5, 0, 0, 3, 1, index, 128]);
+        let base = depth as u8 - 1;
+        let (last, end) = (6 * depth as u8, 8 * depth as u8 - 1);
+        let proofs =
+            (last..end).map(|index| vec![0, byte, 132, 0, 0, 0, base, 0, 0, 3, 0, 1, index, 128]);
+        let [layers, _] = values_of(7, called(&SAMPLE_CHECK, samples).map(|(_, result)| result));
+        assert_eq!(layers, all, "samples of depth {depth}");
+        let results: Vec<u64> = called(&PROOF_CHECK, proofs).map(|(_, result)| result).collect();
+        let [layers, positions] = values_of(7, results.into_iter());
+        assert_eq!((layers, positions), (all, BTreeSet::from([6, 7])), "proofs of depth {depth}");
+    }
+}
+
+/// Recipes for proofs of equations of each size, in each layer of each shallow depth, one symbol
 /// damaged, in a byte of no hash that a path has. Numbers too large begin again at 0.
 fn damaged_proofs() -> impl Iterator<Item = Vec<u8>> {
     let depths = [0, 3, 5, 6, 7].into_iter();
@@ -135,13 +176,15 @@ fn damaged_proofs() -> impl Iterator<Item = Vec<u8>> {
     })
 }
 
+/// Of the shallow depths.
 #[test]
 fn every_sort_is_reached() {
     for target in TARGETS.iter().filter(|target| target.call.sorts().count() > 0) {
-        let recipes = some(TRIED / 2).chain(damaged_proofs());
+        let shallow = |recipe: &Vec<u8>| recipe.get(1).map_or(true, |&depth| depth < 240);
+        let recipes = some(TRIED / 2).filter(shallow).chain(damaged_proofs());
         let sort = |(input, result): (Input, u64)| target.call.sort(&input, result);
         let met: BTreeSet<String> = called(target, recipes).filter_map(sort).collect();
-        let all: BTreeSet<String> = target.call.sorts().collect();
+        let all: BTreeSet<String> = target.call.sorts_at(&[1, 2, 3, 4, 5]).collect();
         assert_eq!(all.difference(&met).next(), None, "{}", target.call.name);
     }
 }

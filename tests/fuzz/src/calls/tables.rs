@@ -21,7 +21,7 @@ pub static HOUSE_TABLE: Target = Target {
     input: |recipe| {
         let made_for = recipe.made_for();
         let depth = recipe.asked(made_for);
-        let len = recipe.asked(house_len(made_for)).min(1 << 16);
+        let len = recipe.asked(house_len(made_for)).min(1 << 18);
         to_fill(depth, len as usize, &mut Random::new(depth))
     },
 };
