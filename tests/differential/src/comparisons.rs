@@ -74,9 +74,13 @@ pub fn compare_part(call: &'static Call, library: &Library, part: Part) -> Resul
     if comparisons.sizes.is_empty() {
         return Ok(comparisons.met);
     }
+    if part == Part::Deep {
+        comparisons.deep_sizes()?;
+        comparisons.own()?;
+    }
     comparisons.described()?;
-    for own in call.own {
-        own(&mut comparisons)?;
+    if part == Part::Shallow {
+        comparisons.own()?;
     }
     let (sizes, met) = (comparisons.sizes, comparisons.met);
     let numbers = call.tests.iter().map(|test| outcome(test.number));
@@ -153,14 +157,21 @@ impl Comparisons {
         (self.call.good)(size, &mut self.random)
     }
 
-    fn described(&mut self) -> Compared {
-        if self.is_deep() {
-            for &size in self.sizes {
-                let good = self.good(size);
-                self.make_done("a size of the deep ones", &good)?;
-            }
-            self.sizes()?;
+    fn own(&mut self) -> Compared {
+        self.call.own.iter().try_for_each(|own| own(self))
+    }
+
+    /// A good call of each size, and buffers for each, so that a call that is wrong at one of
+    /// them is found soon.
+    fn deep_sizes(&mut self) -> Compared {
+        for &size in self.sizes {
+            let good = self.good(size);
+            self.make_done("a size", &good)?;
         }
+        self.sizes()
+    }
+
+    fn described(&mut self) -> Compared {
         for &size in self.sizes {
             self.causes(size)?;
             for own in self.call.tests.iter().flat_map(|test| test.own) {
@@ -175,14 +186,15 @@ impl Comparisons {
         self.alignments()
     }
 
-    /// Every set of tests failed.
+    /// Every set of tests failed, or, at a deep size, none, one or two.
     fn causes(&mut self, size: usize) -> Compared {
         let tests = self.call.tests;
         let sets = 1 << tests.len();
         let mut good = self.good(size);
-        let turns = if self.is_deep() { sets } else { SETS.min(64 * sets).max(sets) };
-        for turn in 0..turns {
-            if turn % 64 == 0 {
+        let deep = self.is_deep();
+        let turns = if deep { sets } else { SETS.min(64 * sets).max(sets) };
+        for turn in (0..turns).filter(|turn: &usize| !deep || turn.count_ones() <= 2) {
+            if turn % 64 == 0 && (turn == 0 || !deep) {
                 good = self.good(size);
                 self.make_done("nothing is wrong", &good)?;
             }

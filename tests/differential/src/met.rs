@@ -79,7 +79,8 @@ mod tests {
         let both = met.and(other);
         both.outcomes.demand("whole", 3);
         both.at_sizes.demand("whole at size 9", 2);
-        let text = "7 comparisons, no difference; fault: 1; whole: 3; 3 sorts, each 1 times or more";
+        let text =
+            "7 comparisons, no difference; fault: 1; whole: 3; 3 sorts, each 1 times or more";
         assert_eq!(both.to_string(), text);
     }
 

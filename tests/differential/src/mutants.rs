@@ -5,7 +5,7 @@
 pub mod described;
 
 use crate::call::{Ask, Call, Test};
-use crate::comparisons::compare;
+use crate::comparisons::{compare, compare_part, Part};
 use crate::difference::Difference;
 use crate::input::Input;
 use crate::library::{by, by_tests, Function, Library};
@@ -35,6 +35,35 @@ macro_rules! wrong {
     };
 }
 
+/// The same of a function that is wrong at deep depths alone, which the comparisons there find.
+macro_rules! wrong_deep {
+    ($name:ident, $difference:pat, $body:expr) => {
+        #[test]
+        fn $name() {
+            let body: fn(&mut $crate::input::Input) -> u64 = $body;
+            let place = |d: &$crate::difference::Difference| matches!(d, $difference);
+            let function = $crate::library::by(&CALL, body);
+            let deep = $crate::mutants::DEEP_ALONE;
+            $crate::mutants::find_in(deep, &CALL, stringify!($name), function, place).unwrap();
+        }
+    };
+    ($name:ident, $expected:pat => $found:pat, $body:expr) => {
+        #[test]
+        fn $name() {
+            let body: fn(&mut $crate::input::Input) -> u64 = $body;
+            let place = |d: &$crate::difference::Difference| match *d {
+                $crate::difference::Difference::Result { expected, found } => {
+                    matches!((expected % 256, found % 256), ($expected, $found))
+                }
+                _ => false,
+            };
+            let function = $crate::library::by(&CALL, body);
+            let deep = $crate::mutants::DEEP_ALONE;
+            $crate::mutants::find_in(deep, &CALL, stringify!($name), function, place).unwrap();
+        }
+    };
+}
+
 /// The same of a call that asks the test of a number otherwise.
 macro_rules! wrong_test {
     ($name:ident, $number:literal, $difference:pat, $ask:expr) => {
@@ -45,7 +74,11 @@ macro_rules! wrong_test {
     };
 }
 
-pub(crate) use {wrong, wrong_test};
+pub(crate) use {wrong, wrong_deep, wrong_test};
+
+/// The parts that find a function, in their order.
+pub const ALL: &[Part] = &[Part::Shallow, Part::Deep];
+pub const DEEP_ALONE: &[Part] = &[Part::Deep];
 
 /// Whether the comparison finds a wrong function in its place.
 pub fn find(
@@ -54,8 +87,20 @@ pub fn find(
     function: Function,
     place: impl Fn(&Difference) -> bool,
 ) -> Result<(), String> {
-    match compare(call, &Library::right().with(call, function)) {
-        Ok(_) => Err(format!("{}, {name}: it passed", call.name)),
+    find_in(ALL, call, name, function, place)
+}
+
+/// The same of these parts of the comparison.
+pub fn find_in(
+    parts: &[Part],
+    call: &'static Call,
+    name: &str,
+    function: Function,
+    place: impl Fn(&Difference) -> bool,
+) -> Result<(), String> {
+    let library = Library::right().with(call, function);
+    match parts.iter().try_for_each(|&part| compare_part(call, &library, part).map(|_| ())) {
+        Ok(()) => Err(format!("{}, {name}: it passed", call.name)),
         Err(failure) if place(&failure.difference) => Ok(()),
         Err(failure) => Err(format!("{}, {name}: found elsewhere, {failure}", call.name)),
     }
@@ -74,17 +119,22 @@ pub fn find_number(
     })
 }
 
-/// Whether the comparison finds nothing wrong with a function.
-pub fn pass(call: &'static Call, name: &str, function: Function) -> Result<(), String> {
-    match compare(call, &Library::right().with(call, function)) {
+/// Whether a part of the comparison finds nothing wrong with a function.
+pub fn pass(part: Part, call: &'static Call, name: &str, function: Function) -> Result<(), String> {
+    match compare_part(call, &Library::right().with(call, function), part) {
         Ok(_) => Ok(()),
         Err(failure) => Err(format!("{}, {name}: it was found, {failure}", call.name)),
     }
 }
 
-/// A function that must pass.
+/// A function that must pass at the shallow depths.
 pub fn passes(call: &'static Call, body: impl Fn(&mut Input) -> u64 + 'static) {
-    pass(call, "what is right", by(call, body)).unwrap();
+    pass(Part::Shallow, call, "what is right", by(call, body)).unwrap();
+}
+
+/// A function that must pass at the deep ones.
+pub fn passes_deep(call: &'static Call, body: impl Fn(&mut Input) -> u64 + 'static) {
+    pass(Part::Deep, call, "what is right", by(call, body)).unwrap();
 }
 
 /// The tests of a call, one of them asked otherwise.

@@ -26,6 +26,8 @@ use reference::sha256::sha256;
 use reference::stop::Stop;
 use reference::table::{self, to_words, Layers, END, EQUATION, LAYER};
 use reference::tree::{exactly, exclusive_or, symbol_at, ROOT, SYMBOL};
+use std::cell::RefCell;
+use std::rc::Rc;
 
 pub static PROOF_CHECK: Call = Call {
     name: "proof_check",
@@ -44,6 +46,7 @@ pub static PROOF_CHECK: Call = Call {
     },
     reference: |i| number(proof::check(i.number("depth"), &i["root"], &i["table"], &i["proof"])),
     own: &[
+        shown::longest_proofs,
         heads::heads_before_bodies,
         heads::kinds,
         heads::bits,
@@ -53,7 +56,6 @@ pub static PROOF_CHECK: Call = Call {
         breaks::damaged_sets,
         breaks::damaged_roots,
         shown::committed_otherwise,
-        shown::longest_proofs,
         damaged::bytes,
         damaged::root_bytes,
         heads::values,
@@ -85,19 +87,20 @@ pub static PROOF_CHECK: Call = Call {
     ],
     least_deep: &[
         ("end 0", 500),
-        ("1", 100),
+        ("1", 50),
         ("2", 150),
-        ("3", 100),
+        ("3", 50),
         ("6", 500),
         ("7", 2000),
         ("8", 200),
-        ("10", 100),
+        ("10", 50),
         ("nothing damaged", 200),
         ("a symbol damaged", 1600),
         ("two symbols damaged", 100),
         ("some symbols damaged", 30),
         ("a hash of the root", 64),
-        ("the longest proof", 3),
+        ("the longest proof", 12),
+        ("the longest proof of a right tree", 12),
     ],
     ..CALL
 };
@@ -165,9 +168,27 @@ const FAULT: Test = Test {
 };
 
 /// The equations of the table, where it keeps 01's rules, covered or not.
-fn table(input: &Input) -> Option<Layers> {
-    table::listed(input.size()? as u64, &to_words(&input["table"])).ok()
+fn table(input: &Input) -> Option<Rc<Layers>> {
+    let (size, table) = (input.size()?, &input["table"]);
+    LISTED.with(|listed| {
+        let mut listed = listed.borrow_mut();
+        if listed.size != size || listed.table != *table {
+            let layers = table::listed(size as u64, &to_words(table)).ok().map(Rc::new);
+            *listed = Listed { size, table: table.clone(), layers };
+        }
+        listed.layers.clone()
+    })
 }
+
+/// The table whose equations were asked for last: all tests of a call ask for them.
+#[derive(Default)]
+struct Listed {
+    size: usize,
+    table: Vec<u8>,
+    layers: Option<Rc<Layers>>,
+}
+
+thread_local!(static LISTED: RefCell<Listed> = RefCell::default());
 
 /// The head and the number of members of its equation, where its values are in
 /// form, whatever its kinds.

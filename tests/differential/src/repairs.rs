@@ -54,6 +54,9 @@ pub static REPAIR: Call = Call {
         }
     },
     own: &[
+        deep::chains,
+        deep::losses,
+        deep::longest_proofs,
         losses::known_stopping_sets,
         losses::lost_parity,
         miscoded::one_fault,
@@ -67,9 +70,6 @@ pub static REPAIR: Call = Call {
         miscoded::faults_in_some_layers,
         miscoded::other_hashes,
         losses::junk,
-        deep::losses,
-        deep::chains,
-        deep::longest_proofs,
     ],
     // Whole, fault, unavailable; a lone fault in each layer; the numbers.
     least: &[
@@ -95,11 +95,11 @@ pub static REPAIR: Call = Call {
         ("layer 6", 4),
         ("layer 7", 4),
         ("layer 8", 4),
-        ("1", 80),
+        ("1", 50),
         ("2", 200),
-        ("3", 80),
+        ("3", 50),
         ("4", 100),
-        ("10", 80),
+        ("10", 50),
         ("a chain", 16),
         ("the longest proof of 18188 bytes", 3),
     ],

@@ -61,7 +61,8 @@ fn wrong_numbers(depth: usize, low: u64) -> Vec<u64> {
 
 fn every_wrong_number(c: &mut Comparisons, depth: usize) -> Compared {
     let mut input = c.good(depth);
-    let lows = sparse(depth, base_symbols(depth).min(40) as usize).into_iter().map(|low| low as u64);
+    let lows =
+        sparse(depth, base_symbols(depth).min(40) as usize).into_iter().map(|low| low as u64);
     let most = if depth < DEEP { usize::MAX } else { 4 };
     for low in lows.take(most).chain([base_symbols(depth) - 1]) {
         for number in wrong_numbers(depth, low) {

@@ -193,7 +193,8 @@ fn byte_lengths(c: &mut Comparisons) -> Compared {
         for made_for in c.made_sizes().skip_while(|&made_for| made_for == 0) {
             let len = house_len(made_for);
             // The limit with a table of few words, and with one of many.
-            let limit = if matches!(made_for, 1 | 9) { MAX_BYTES - 9..MAX_BYTES + 10 } else { 0..0 };
+            let limit =
+                if matches!(made_for, 1 | 9) { MAX_BYTES - 9..MAX_BYTES + 10 } else { 0..0 };
             for other in (len - 9..len + 10).chain(16_380..16_389).chain(limit) {
                 let mut input = listed(depth, &house(made_for));
                 input["table"].resize(other, 0);

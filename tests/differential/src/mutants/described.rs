@@ -1,11 +1,13 @@
 //! Wrong functions that a description gives.
 
 use crate::call::{Call, Length, Test};
+use crate::comparisons::Part;
 use crate::difference::Difference;
 use crate::input::Input;
 use crate::library::{buffers, by, by_tests, right, Function};
-use crate::mutants::{asked, find, pass};
+use crate::mutants::{asked, find_in, pass, ALL, DEEP_ALONE};
 use crate::results::number;
+use crate::stops::DEEP;
 use cedunmi_sys::Word;
 use std::rc::Rc;
 
@@ -21,6 +23,8 @@ pub struct Mutant {
     name: String,
     function: Function,
     place: Place,
+    /// Whether it is wrong at a deep size alone.
+    deep: bool,
 }
 
 /// Where a function is wrong.
@@ -39,18 +43,23 @@ enum Place {
 
 impl Mutant {
     pub fn find(self, call: &'static Call) -> Result<(), String> {
-        find(call, &self.name, self.function, |difference| match (difference, self.place) {
-            (Difference::Result { .. }, Place::Result) => true,
-            (Difference::Result { expected, .. }, Place::For(number)) => expected % 256 == number,
-            (Difference::Result { found, .. }, Place::As(number)) => found % 256 == number,
-            (Difference::Inside { buffer, .. }, Place::Inside(name)) => *buffer == name,
-            (Difference::Outside { buffer, .. }, Place::Outside(name)) => *buffer == name,
-            _ => false,
+        let parts = if self.deep { DEEP_ALONE } else { ALL };
+        find_in(parts, call, &self.name, self.function, |difference| {
+            match (difference, self.place) {
+                (Difference::Result { .. }, Place::Result) => true,
+                (Difference::Result { expected, .. }, Place::For(number)) => {
+                    expected % 256 == number
+                }
+                (Difference::Result { found, .. }, Place::As(number)) => found % 256 == number,
+                (Difference::Inside { buffer, .. }, Place::Inside(name)) => *buffer == name,
+                (Difference::Outside { buffer, .. }, Place::Outside(name)) => *buffer == name,
+                _ => false,
+            }
         })
     }
 
     pub fn pass(self, call: &'static Call) -> Result<(), String> {
-        pass(call, &self.name, self.function)
+        pass(Part::Shallow, call, &self.name, self.function)
     }
 }
 
@@ -81,7 +90,12 @@ struct Mutants {
 
 impl Mutants {
     fn add(&mut self, name: impl Into<String>, place: Place, function: Function) {
-        self.all.push(Mutant { name: name.into(), function, place });
+        self.all.push(Mutant { name: name.into(), function, place, deep: false });
+    }
+
+    /// The last one is wrong at this size alone.
+    fn at(&mut self, size: usize) {
+        self.all.last_mut().expect("a mutant").deep = size >= DEEP;
     }
 
     /// What is right, but another result where `other` has one for what is lent
@@ -204,6 +218,7 @@ impl Mutants {
                 let asked = i.numbers[0] == size as u64 && result % 256 == right;
                 (asked && (right == 0 || fits_size(i, size))).then_some(wrong)
             });
+            self.at(size);
         }
     }
 
@@ -230,6 +245,7 @@ impl Mutants {
                     result % 256 == 0 && of(words[0])
                 });
                 self.add(format!("{name} at size {size}"), Place::Inside(name), function);
+                self.at(size);
             }
             if buffer.written {
                 let function = by(call, move |i| {

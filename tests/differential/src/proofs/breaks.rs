@@ -116,7 +116,8 @@ fn each_proof(
         return each_deep_proof(c, sizes, compare);
     }
     for size in sizes {
-        for (depth, layer) in c.sizes.iter().flat_map(|&depth| (0..depth).map(move |l| (depth, l))) {
+        for (depth, layer) in c.sizes.iter().flat_map(|&depth| (0..depth).map(move |l| (depth, l)))
+        {
             // The first equations of layer 0 have room for fewer members.
             let equation = 3 + c.random.below(3 * data_symbols(layer) - 3);
             let last = data_symbols(layer) + equation;

@@ -42,7 +42,8 @@ pub fn root_bytes(c: &mut Comparisons) -> Compared {
 pub fn hashes(c: &mut Comparisons) -> Compared {
     each_fault(c, |c, _, volume, head| {
         let symbols = head.symbols(volume.members(head));
-        for (layer, symbol) in sparse(volume.depth, symbols.len()).into_iter().map(|at| symbols[at]) {
+        for (layer, symbol) in sparse(volume.depth, symbols.len()).into_iter().map(|at| symbols[at])
+        {
             let bytes = [0, c.random.below(HASH), HASH - 1].into_iter();
             for byte in bytes.skip(if volume.depth < DEEP { 0 } else { 2 }) {
                 let mut broken = volume.clone();

@@ -4,15 +4,15 @@
 use super::{make_for_right_tree, of};
 use crate::comparisons::Comparisons;
 use crate::difference::Compared;
+use crate::results::number;
 use crate::stops::{sparse, DEEP, DEPTHS};
 use crate::tables::lists::{random_table, some_table, table_of};
-use crate::volumes::{equation_of, some_parity, some_symbol, Volume};
-use crate::results::number;
 use crate::tables::uses::MOST;
+use crate::volumes::{equation_of, some_parity, some_symbol, Volume};
 use reference::proof::{Head, HEAD};
 use reference::repair::{output_len, repair, End};
-use reference::table::{house, to_bytes};
 use reference::stop::Stop;
+use reference::table::{house, to_bytes};
 use reference::tree::{symbols, tree_symbols, HASH};
 
 /// Every equation with every member withheld, of a tree with one replaced
@@ -127,16 +127,20 @@ pub fn committed_otherwise(c: &mut Comparisons) -> Compared {
 }
 
 /// Eight members in the base: the proof fills the output of a repair. It is accepted with any
-/// member withheld, refused with its first or its last byte changed, and with one byte more or
-/// fewer.
+/// member withheld, refused with its first or its last byte changed, with one byte more or
+/// fewer, and where the tree is a right one.
 pub fn longest_proofs(c: &mut Comparisons) -> Compared {
     for &depth in c.sizes {
         let (base, words) = (depth - 1, table_of(depth, MOST));
         let last = symbols(base) - 1;
+        let sound = Volume::new(depth, &words, &mut c.random);
         let volume = Volume::miscoded(depth, &words, &[(base, last)], &mut c.random);
         let equation = equation_of(base, last);
         for withheld in [0, 3, MOST - 1].map(|at| volume.equations[base][equation][at]) {
-            let right = of(&volume, volume.proof(Head { layer: base, equation, withheld }));
+            let head = Head { layer: base, equation, withheld };
+            let no_fault = of(&sound, sound.proof(head));
+            c.make_so("the longest proof of a right tree", &no_fault, Err(Stop::NoFault))?;
+            let right = of(&volume, volume.proof(head));
             let len = right["proof"].len();
             assert_eq!(len, output_len(depth));
             c.make_so("the longest proof", &right, Ok(()))?;

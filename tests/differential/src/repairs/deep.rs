@@ -37,8 +37,9 @@ pub fn losses(c: &mut Comparisons) -> Compared {
     Ok(())
 }
 
-/// All data absent or bad copies, and one order alone in which they come back; and the same
-/// with a parity symbol replaced that the order comes to late.
+/// Only the parity of the links is held, the rest absent or bad copies, and one order alone in
+/// which the data come back: each link is needed. And the same with parity symbols replaced
+/// that the order comes to late.
 pub fn chains(c: &mut Comparisons) -> Compared {
     for &depth in c.sizes {
         for (turn, links) in LINKS.into_iter().enumerate() {
@@ -46,14 +47,15 @@ pub fn chains(c: &mut Comparisons) -> Compared {
             let volume = Volume::new(depth, &words, &mut c.random);
             let mut input = of(&volume, &mut c.random);
             for (layer, symbol) in volume.all_symbols() {
-                if symbol < data_symbols(layer) {
+                let k = data_symbols(layer);
+                if !(0..k).any(|i| k + links.1(k, i) == symbol) {
                     match turn % 2 {
                         0 => lose(&mut input, layer, symbol, &mut c.random),
                         _ => spoil(&mut input, layer, symbol, &mut c.random),
                     }
                 }
             }
-            let expected = Repaired { end: End::Whole, stored: tree_symbols(depth) / 4 };
+            let expected = Repaired { end: End::Whole, stored: 3 * tree_symbols(depth) / 4 };
             let result = c.make(links.0, &input)?;
             assert_eq!(result, repaired(Ok(expected)), "{}, depth {depth}", links.0);
             c.met.outcomes.count("a chain");
@@ -90,7 +92,8 @@ pub fn longest_proofs(c: &mut Comparisons) -> Compared {
         let last = symbols(base) - 1;
         let words = table_of(depth, MOST);
         let volume = Volume::miscoded(depth, &words, &[(base, last)], &mut c.random);
-        for lost in [None, Some(last), Some(volume.equations[base][3 * data_symbols(base) - 1][0])] {
+        for lost in [None, Some(last), Some(volume.equations[base][3 * data_symbols(base) - 1][0])]
+        {
             let mut input = of(&volume, &mut c.random);
             let above: Vec<_> = volume.all_symbols().into_iter().filter(|s| s.0 < base).collect();
             lose_some(&mut input, &above, 4, &mut c.random);

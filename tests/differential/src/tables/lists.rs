@@ -102,7 +102,8 @@ pub const LINKS: [Links; 4] = [
 pub fn chained(depth: usize, (_, link): Links) -> Vec<u32> {
     let layers = (0..depth).map(|layer| {
         let k = data_symbols(layer);
-        let mut equations: Vec<Vec<usize>> = (0..3 * k).map(|e| vec![k - 3, k - 2, k - 1, k + e]).collect();
+        let mut equations: Vec<Vec<usize>> =
+            (0..3 * k).map(|e| vec![k - 3, k - 2, k - 1, k + e]).collect();
         for i in 0..k {
             let e = link(k, i);
             equations[e] = (i.saturating_sub(1)..=i).chain([k + e]).collect();

@@ -1,7 +1,7 @@
 //! Tables as long as they can be, longer lists, and tables of a depth beside.
 
-use super::lists::{chained, random_table, table_of, LINKS, WORD_KINDS};
 use super::listed;
+use super::lists::{chained, random_table, table_of, LINKS, WORD_KINDS};
 use crate::comparisons::Comparisons;
 use crate::difference::Compared;
 use crate::results::number;
@@ -67,7 +67,8 @@ pub fn neighbouring_depths(c: &mut Comparisons) -> Compared {
             let result = c.make("lent at the depth before", &listed(depth as u64 - 1, &words))?;
             assert_eq!(result, number(Err(Stop::Word(base))));
             if depth < DEPTHS.len() {
-                let result = c.make("lent at the depth after", &listed(depth as u64 + 1, &words))?;
+                let result =
+                    c.make("lent at the depth after", &listed(depth as u64 + 1, &words))?;
                 assert_eq!(result, number(Err(Stop::Word(words.len() - 1))));
             }
         }

@@ -5,9 +5,10 @@ use crate::call::Ask;
 use crate::difference::Difference;
 use crate::input::Input;
 use crate::library::{by_tests, right};
-use crate::mutants::{asked, passes, wrong};
+use crate::mutants::{asked, passes, wrong, wrong_deep};
 use reference::stop::Stop;
-use reference::table::{check_words, house, to_bytes, to_words, END, EQUATION, LAYER};
+use reference::table::{check_words, house, to_bytes, to_words, MAX_BYTES};
+use reference::table::{END, EQUATION, LAYER, MEMBER};
 
 /// Wrong ways to ask test 3.
 pub const WRONG: &[(&str, Ask)] = &[
@@ -131,3 +132,87 @@ wrong!(house_table_of_another_formula, Difference::Inside { buffer: "table", at:
     }
     result
 });
+
+wrong_deep!(
+    house_table_of_member_numbers_of_11_bits,
+    Difference::Inside { buffer: "table", .. },
+    |i| {
+        let result = right(i);
+        if result == 0 {
+            let words = house(i.number("depth") as usize);
+            let cut = |word: u32| if word >> 30 == MEMBER { word & 0x7ff } else { word };
+            i["table"] = to_bytes(&words.into_iter().map(cut).collect::<Vec<_>>());
+        }
+        result
+    }
+);
+
+/// Readers that are wrong where tables are long, or layers large.
+mod reading {
+    use super::*;
+    use TABLE_CHECK as CALL;
+
+    /// `right` with another table seen.
+    fn seeing(i: &Input, other: impl Fn(&mut Vec<u8>)) -> u64 {
+        let mut seen = i.clone();
+        other(&mut seen["table"]);
+        right(&mut seen)
+    }
+
+    /// `right` with the value of each word of a kind cut.
+    fn cut(i: &Input, kind: u32, bits: u32) -> u64 {
+        seeing(i, |table| {
+            let cut = |word: u32| match word >> 30 == kind {
+                true => word & (3 << 30 | (1 << bits) - 1),
+                false => word,
+            };
+            let whole = table.len() / 4 * 4;
+            let words: Vec<u32> = to_words(table).into_iter().map(cut).collect();
+            table.splice(..whole, to_bytes(&words));
+        })
+    }
+
+    wrong!(over_16384_bytes_refused, 3 => 2, |i| match right(i) {
+        result if result != 1 && i["table"].len() > 16_384 => 2,
+        result => result,
+    });
+
+    wrong!(depth_6_refused, Difference::Result { found: 1, .. }, |i| match i.number("depth") {
+        6 => 1,
+        _ => right(i),
+    });
+
+    wrong!(layers_of_2_bits, Difference::Result { .. }, |i| cut(i, LAYER, 2));
+
+    wrong_deep!(layers_of_3_bits, 0 => 3, |i| cut(i, LAYER, 3));
+    wrong_deep!(equations_of_11_bits, 0 => 3, |i| cut(i, EQUATION, 11));
+    wrong_deep!(members_of_11_bits, 0 => 3, |i| cut(i, MEMBER, 11));
+    wrong_deep!(members_of_12_bits, 3 => 0, |i| cut(i, MEMBER, 12));
+    wrong_deep!(end_of_15_bits, 0 => 3, |i| cut(i, END, 15));
+
+    wrong_deep!(table_cut_at_16384_bytes, 0 => 3, |i| seeing(i, |table| table.truncate(16_384)));
+
+    wrong_deep!(table_cut_at_the_longest_well_formed_one, 3 => 0, |i| {
+        let longest = |len| if len <= MAX_BYTES && len % 4 == 0 { 220_768 } else { len };
+        seeing(i, |table| table.truncate(longest(table.len())))
+    });
+
+    wrong_deep!(places_in_the_table_of_16_bits, 0 => 3, |i| {
+        seeing(i, |table| (1 << 16..table.len()).for_each(|at| table[at] = table[at & 0xffff]))
+    });
+
+    wrong_deep!(first_wrong_word_of_15_bits, 3 => 3, |i| match right(i) {
+        result if result % 256 == 3 => result & 0x7f_ffff,
+        result => result,
+    });
+
+    wrong_deep!(layer_beside_10_of_3_bits, 10 => 10, |i| match right(i) {
+        result if result % 256 == 10 => result & !(8 << 8),
+        result => result,
+    });
+
+    wrong_deep!(symbol_beside_10_of_9_bits, 10 => 10, |i| match right(i) {
+        result if result % 256 == 10 => result & !(0x200 << 32),
+        result => result,
+    });
+}

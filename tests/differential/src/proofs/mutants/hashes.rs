@@ -3,7 +3,7 @@
 use crate::difference::Difference;
 use crate::input::Input;
 use crate::library::{right, stopped};
-use crate::mutants::{passes, wrong};
+use crate::mutants::{passes, wrong, wrong_deep};
 use crate::proofs::PROOF_CHECK as CALL;
 use crate::results::number;
 use reference::proof::{hash_for, Head, HEAD};
@@ -164,7 +164,7 @@ wrong!(root_unchecked, 7 => 0 | 8, |i| {
     check_by(&Rules { skipped: |look| look.layer() == 0, ..RULES }, i)
 });
 
-wrong!(one_layer_unchecked, 7 => 0 | 8, |i| {
+wrong!(one_layer_unchecked, 7 => 0 | 7 | 8, |i| {
     check_by(&Rules { skipped: |look| look.layer() == 3, ..RULES }, i)
 });
 
@@ -234,4 +234,26 @@ wrong!(every_proof_of_a_lower_layer_turned_down, Difference::Result { expected: 
 wrong!(no_fault_accepted, Difference::Result { expected: 8, found: 0 }, |i| match right(i) {
     8 => 0,
     r => r,
+});
+
+// Deep trees.
+
+wrong_deep!(layer_7_unchecked, 7 => 0 | 7 | 8, |i| {
+    check_by(&Rules { skipped: |look| look.layer() == 7, ..RULES }, i)
+});
+
+wrong_deep!(end_of_the_longest_path_unchecked, 7 => 0 | 8, |i| {
+    let end: fn(&Look) -> bool =
+        |look| look.head.layer == 8 && look.on_withheld_path() && look.layer() == 0;
+    check_by(&Rules { skipped: end, ..RULES }, i)
+});
+
+wrong_deep!(layer_beside_7_of_3_bits, 7 => 7, |i| match right(i) {
+    result if result % 256 == 7 => result & !(8 << 8),
+    result => result,
+});
+
+wrong_deep!(withheld_in_layer_8_from_the_last_given_path, Difference::Result { .. }, |i| {
+    let last = |path: usize, height: usize| if height == 9 { path + 1 - height } else { path };
+    check_by(&Rules { withheld_in: last, ..RULES }, i)
 });

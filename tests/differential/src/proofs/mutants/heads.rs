@@ -3,7 +3,7 @@
 use crate::difference::Difference;
 use crate::input::Input;
 use crate::library::right;
-use crate::mutants::wrong;
+use crate::mutants::{wrong, wrong_deep};
 use crate::proofs::{named, PROOF_CHECK as CALL};
 use crate::tables::mutants::trailing_words_after;
 use reference::proof::{proof_len, HEAD};
@@ -118,4 +118,32 @@ wrong!(longer_proof_taken, Difference::Result { expected: 2, .. }, |i| {
 wrong!(no_head_and_no_length, Difference::Result { expected: 2, .. }, |i| match right(i) {
     2 if i["proof"].len() == HEAD => 7,
     result => result,
+});
+
+// Deep trees.
+
+wrong!(layer_of_2_bits, Difference::Result { .. }, |i| head_as(i, 0, |word| word & 0xc000_0003));
+
+wrong_deep!(layer_of_3_bits, Difference::Result { .. }, |i| head_as(i, 0, |word| word
+    & 0xc000_0007));
+wrong_deep!(equation_of_11_bits, Difference::Result { .. }, |i| head_as(i, 1, |word| word
+    & 0xc000_07ff));
+wrong_deep!(withheld_of_11_bits, Difference::Result { .. }, |i| head_as(i, 2, |word| word
+    & 0xc000_07ff));
+wrong_deep!(withheld_of_12_bits, 6 => _, |i| head_as(i, 2, |word| word & 0xc000_0fff));
+
+wrong_deep!(proof_over_16384_bytes_refused, 0 => 2, |i| match right(i) {
+    0 if i["proof"].len() > 16_384 => 2,
+    result => result,
+});
+
+wrong_deep!(last_equation_unknown, 0 => 6, |i| match right(i) {
+    0 if word(i, 0) & VALUE == 8 && word(i, 1) & VALUE == 3071 => 6,
+    result => result,
+});
+
+wrong_deep!(table_cut_at_16384_bytes, 0 => 3, |i| {
+    let mut seen = i.clone();
+    seen["table"].truncate(16_384);
+    right(&mut seen)
 });

@@ -3,7 +3,7 @@
 use crate::difference::Difference;
 use crate::input::Input;
 use crate::library::right;
-use crate::mutants::wrong;
+use crate::mutants::{wrong, wrong_deep};
 use crate::repairs::REPAIR as CALL;
 use reference::proof::HEAD;
 use reference::tree::SYMBOL;
@@ -146,5 +146,69 @@ wrong!(output_zeroed_at_the_start, Difference::Inside { buffer: "output", .. }, 
     if matches!(end(result), Some(0 | 2)) {
         i["output"].fill(0);
     }
+    result
+});
+
+// Deep trees.
+
+wrong_deep!(stored_of_11_bits, Difference::Result { .. }, |i| {
+    stored_as(i, |result| stored(result) & 0x7ff)
+});
+
+wrong_deep!(stored_of_12_bits, Difference::Result { .. }, |i| {
+    stored_as(i, |result| stored(result) & 0xfff)
+});
+
+wrong!(layer_of_2_bits, Difference::Result { .. }, |i| match right(i) {
+    result if end(result) == Some(2) => result & !(!3 << 48),
+    result => result,
+});
+
+wrong_deep!(layer_of_3_bits, Difference::Result { .. }, |i| match right(i) {
+    result if end(result) == Some(2) => result & !(8 << 48),
+    result => result,
+});
+
+wrong_deep!(proof_length_of_14_bits, Difference::Result { .. }, |i| match right(i) {
+    result if end(result) == Some(1) => result & !(1 << 62),
+    result => result,
+});
+
+wrong_deep!(head_with_a_layer_of_3_bits, Difference::Inside { buffer: "output", at: 3, .. }, |i| {
+    output_as(i, |output, _| output[3] &= 7)
+});
+
+wrong_deep!(
+    end_of_the_longest_proof_not_written,
+    Difference::Inside { buffer: "output", .. },
+    |i| {
+        let before = i["output"].clone();
+        output_as(i, |output, len| {
+            output[len.min(16_384)..len].copy_from_slice(&before[len.min(16_384)..len]);
+        })
+    }
+);
+
+wrong_deep!(symbols_from_place_4096_not_written, Difference::Inside { buffer: "tree", .. }, |i| {
+    let before = i["tree"].clone();
+    let result = right(i);
+    let from = i["tree"].len().min(SYMBOL * 4096);
+    i["tree"][from..].copy_from_slice(&before[from..]);
+    result
+});
+
+wrong_deep!(marks_from_place_4096_not_written, Difference::Inside { buffer: "marks", .. }, |i| {
+    let before = i["marks"].clone();
+    let result = right(i);
+    let from = i["marks"].len().min(4096);
+    i["marks"][from..].copy_from_slice(&before[from..]);
+    result
+});
+
+wrong_deep!(table_cut_at_16384_bytes, 0 => 3, |i| {
+    let mut seen = i.clone();
+    seen["table"].truncate(16_384);
+    let result = right(&mut seen);
+    ["tree", "marks", "output"].into_iter().for_each(|buffer| i[buffer] = seen[buffer].clone());
     result
 });

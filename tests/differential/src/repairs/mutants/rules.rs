@@ -6,7 +6,7 @@ use crate::results::repaired;
 use reference::proof::{self, Head};
 use reference::repair::{End, Repaired};
 use reference::sha256::sha256;
-use reference::table::{equations, Layers};
+use reference::table::{data_symbols, equations, Layers};
 use reference::tree::{committed_hash, exclusive_or, place, symbol_at, symbols, Symbol, SYMBOL};
 
 /// Which bytes of absent symbols become zero.
@@ -58,6 +58,12 @@ pub struct Rules {
     pub past_unavailable: bool,
     /// Whether the committed hashes are those that were lent.
     pub lent_hashes: bool,
+    /// How far below the equation that stored a symbol the search begins again, and ends
+    /// where it finds none; 0 is the least.
+    pub back: usize,
+    /// Whether the count of an equation's absent members, in a layer of k data symbols, is
+    /// lowered when its member of this position is stored.
+    pub lowered: fn(k: usize, equation: usize, position: usize) -> bool,
 }
 
 pub const RULES: Rules = Rules {
@@ -74,6 +80,8 @@ pub const RULES: Rules = Rules {
     withheld: |members| members[members.len() - 1],
     past_unavailable: false,
     lent_hashes: false,
+    back: usize::MAX,
+    lowered: |_, _, _| true,
 };
 
 /// Repairs by these rules what is not refused.
@@ -154,29 +162,45 @@ impl Work<'_> {
             return Some(End::Unavailable(layer));
         }
         let mut used = vec![false; equations.len()];
+        let counts = equations.iter().map(|members| self.absent(layer, members).len());
+        let mut counts: Vec<usize> = counts.collect();
         let mut from = 0;
-        while let Some(equation) = self.search(layer, equations, &used, from) {
+        while let Some(equation) = self.search(&counts, &used, from) {
             used[equation] = true;
-            let stored = self.stored;
+            let before = self.absent(layer, &equations[equation]);
             if let Some(end) = self.take(layer, equation, &equations[equation]) {
                 return Some(end);
             }
-            from = if self.rules.goes_on && self.stored > stored { equation + 1 } else { 0 };
+            before.iter().for_each(|&stored| self.lower(layer, equations, &mut counts, stored));
+            from = match (self.rules.goes_on && !before.is_empty(), self.rules.back) {
+                (true, _) => equation + 1,
+                (false, back) => equation.saturating_sub(back),
+            };
         }
         gaps(self).then_some(End::Unavailable(layer))
     }
 
-    /// The equation to take next, looked for from one on.
-    fn search(
-        &self,
-        layer: usize,
-        equations: &[Vec<usize>],
-        used: &[bool],
-        from: usize,
-    ) -> Option<usize> {
-        let absent = |e: usize| self.absent(layer, &equations[e]).len();
-        let order = (from..equations.len()).chain(0..from);
-        let mut order: Vec<usize> = order.filter(|&e| !used[e] && absent(e) <= 1).collect();
+    /// Lowers the counts of the equations with a symbol that was stored.
+    fn lower(&self, layer: usize, equations: &[Vec<usize>], counts: &mut [usize], stored: usize) {
+        for (equation, members) in equations.iter().enumerate() {
+            if let Ok(position) = members.binary_search(&stored) {
+                if (self.rules.lowered)(data_symbols(layer), equation, position) {
+                    counts[equation] -= 1;
+                }
+            }
+        }
+    }
+
+    /// The equation to take next, looked for from one on, by these counts of absent members.
+    fn search(&self, counts: &[usize], used: &[bool], from: usize) -> Option<usize> {
+        let absent = |e: usize| counts[e];
+        let begun_again = if self.rules.back < usize::MAX { 0..0 } else { 0..from };
+        let order = (from..counts.len()).chain(begun_again);
+        let mut order = order.filter(|&e| !used[e] && absent(e) <= 1);
+        if self.rules.taken == Taken::Both && !self.rules.highest {
+            return order.next();
+        }
+        let mut order: Vec<usize> = order.collect();
         if self.rules.highest {
             order.reverse();
         }

@@ -2,7 +2,7 @@
 
 use super::rules::{repair_by, Rules, Taken, Zeroed, RULES};
 use crate::difference::Difference;
-use crate::mutants::{passes, wrong};
+use crate::mutants::{passes, passes_deep, wrong, wrong_deep};
 use crate::repairs::REPAIR as CALL;
 use crate::tables::mutants::trailing_words_after;
 
@@ -56,3 +56,30 @@ other_rule!(formed_symbols_not_tested, formed_tested: false);
 other_rule!(symbol_of_a_fault_stored, fault_stored: true);
 other_rule!(first_member_withheld, withheld: |members| members[0],
     Difference::Inside { buffer: "output", .. });
+
+// Deep trees.
+
+#[test]
+fn right_rules_pass_deep() {
+    passes_deep(&CALL, |i| repair_by(&RULES, i));
+}
+
+/// The same at deep depths.
+macro_rules! other_rule_deep {
+    ($name:ident, $rule:ident: $value:expr) => {
+        wrong_deep!($name, Difference::Result { .. } | Difference::Inside { .. }, |i| {
+            repair_by(&Rules { $rule: $value, ..RULES }, i)
+        });
+    };
+}
+
+other_rule_deep!(base_of_depth_9_only_marked, layers: 8);
+other_rule_deep!(search_begun_again_1024_below, back: 1024);
+other_rule_deep!(search_begun_again_in_the_same_1024, back: 1023);
+// Symbol 4,095 is given by this one.
+other_rule_deep!(last_equation_passed_over_after_a_store, lowered: |k, e, _| k < 1024 || e < 3071);
+other_rule_deep!(first_equation_passed_over_after_a_store, lowered: |k, e, _| k < 1024 || e > 0);
+other_rule_deep!(one_equation_passed_over_after_a_store, lowered: |k, e, _| k < 512 || e != 1000);
+other_rule_deep!(counts_from_equation_2048_not_lowered, lowered: |_, e, _| e < 2048);
+other_rule_deep!(counts_for_the_eighth_member_not_lowered, lowered: |k, _, at| k < 128 || at < 7);
+other_rule_deep!(counts_for_the_first_member_not_lowered, lowered: |k, _, at| k < 128 || at > 0);

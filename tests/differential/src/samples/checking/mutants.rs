@@ -3,7 +3,7 @@
 use super::{base_symbol, SAMPLE_CHECK as CALL};
 use crate::input::Input;
 use crate::library::right;
-use crate::mutants::{asking, passes, wrong, wrong_test};
+use crate::mutants::{asking, passes, wrong, wrong_deep, wrong_test};
 use reference::sample::{data_index, members};
 use reference::sha256::sha256;
 use reference::stop::Stop;
@@ -150,4 +150,33 @@ wrong!(index_as_a_second_value, 7 => 7, |i| match right(i) {
 wrong!(layer_as_the_second_value, 7 => 7, |i| match right(i) {
     result if result % 256 == 7 => 7 + ((result >> 8) << 32),
     result => result,
+});
+
+// Deep trees.
+
+wrong_deep!(layer_of_3_bits_beside_7, 7 => 7, |i| match right(i) {
+    result if result % 256 == 7 => result & !(8 << 8),
+    result => result,
+});
+
+wrong_deep!(base_of_depth_9_skipped, 7 => 0, |i| {
+    asking(i, 7, |i| {
+        check_by(i, |look| if look.depth == 9 && look.layer == 8 { 0..0 } else { 0..HASH })
+    })
+});
+
+wrong_deep!(parity_of_layer_7_skipped, 7 => 0, |i| {
+    asking(i, 7, |i| {
+        check_by(i, |look| if look.layer == 7 && look.is_parity() { 0..0 } else { 0..HASH })
+    })
+});
+
+wrong_deep!(number_4095_refused, 0 => 5, |i| match (right(i), i.number("number")) {
+    (0, 4095) => 5,
+    (result, _) => result,
+});
+
+wrong_deep!(number_4096_taken, 5 => 7, |i| match (right(i), i.number("number")) {
+    (5, 4096) => 7,
+    (result, _) => result,
 });

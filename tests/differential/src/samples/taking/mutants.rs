@@ -4,7 +4,7 @@ use super::{places, SAMPLE_TAKE as CALL};
 use crate::difference::Difference;
 use crate::input::Input;
 use crate::library::right;
-use crate::mutants::{passes, wrong, wrong_test};
+use crate::mutants::{passes, wrong, wrong_deep, wrong_test};
 use reference::sample::members;
 use reference::sha256::sha256;
 use reference::stop::Stop;
@@ -108,4 +108,49 @@ wrong_test!(last_absent, 9, Difference::Result { .. }, |i| {
 
 wrong_test!(layer_for_index, 9, Difference::Result { .. }, |i| {
     absent(i, |symbols| symbols.iter().position(|symbol| symbol.1).map(|index| index / 2))
+});
+
+// Deep trees.
+
+/// `right`, but with the base symbol of another place.
+fn base_from(i: &mut Input, cut: fn(usize) -> usize) -> u64 {
+    let result = right(i);
+    if result == 0 {
+        let place = cut(places(i)[0]);
+        let base = symbol_at(&i["tree"], place).to_vec();
+        i["sample"][..SYMBOL].copy_from_slice(&base);
+    }
+    result
+}
+
+wrong!(bytes_of_the_tree_by_16_bits, Difference::Inside { buffer: "sample", .. }, |i| {
+    base_from(i, |place| place & 0xff)
+});
+
+wrong_deep!(places_of_12_bits, Difference::Inside { buffer: "sample", .. }, |i| {
+    base_from(i, |place| place & 0xfff)
+});
+
+wrong_deep!(last_number_refused, 0 => 5, |i| match (right(i), i.number("number")) {
+    (0, 4095) => 5,
+    (result, _) => result,
+});
+
+wrong_deep!(numbers_of_11_bits, Difference::Inside { buffer: "sample", .. }, |i| {
+    let mut seen = i.clone();
+    if i.number("number") < 4096 {
+        seen.set("number", i.number("number") & 0x7ff);
+    }
+    match (right(&mut i.clone()), right(&mut seen)) {
+        (0, 0) => {
+            i["sample"] = seen["sample"].clone();
+            0
+        }
+        (result, _) => result,
+    }
+});
+
+wrong_deep!(index_of_4_bits, 9 => 9, |i| match right(i) {
+    result if result % 256 == 9 => result & 0xfff,
+    result => result,
 });

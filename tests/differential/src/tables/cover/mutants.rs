@@ -4,8 +4,8 @@ use super::{whole_layers, COVER};
 use crate::call::Ask;
 use crate::input::Input;
 use crate::library::by_tests;
-use crate::mutants::{asked, passes};
-use crate::tables::TABLE_CHECK;
+use crate::mutants::{asked, asking, passes, wrong_deep};
+use crate::tables::TABLE_CHECK as CALL;
 use reference::stop::Stop;
 use reference::table::{data_symbols, Layers};
 use reference::tree::place;
@@ -125,5 +125,17 @@ fn named(input: &Input, other: fn(usize, usize) -> (usize, usize)) -> Result<(),
 
 #[test]
 fn right_rules_pass() {
-    passes(&TABLE_CHECK, |i| by_tests(i, &asked(&TABLE_CHECK, 10, |i| first(&RULES, i))));
+    passes(&CALL, |i| by_tests(i, &asked(&CALL, 10, |i| first(&RULES, i))));
 }
+
+wrong_deep!(symbols_of_9_bits_counted, 0 => 10, |i| {
+    asking(i, 10, |i| first(&Rules { number: |member, _| member & 0x1ff, ..RULES }, i))
+});
+
+wrong_deep!(equations_below_2048_counted, 0 => 10, |i| {
+    asking(i, 10, |i| first(&Rules { counted: |k| 0..(3 * k).min(2048), ..RULES }, i))
+});
+
+wrong_deep!(eight_layers_asked, 10 => 0, |i| {
+    asking(i, 10, |i| first(&Rules { layers: |depth| 0..depth.min(8), ..RULES }, i))
+});

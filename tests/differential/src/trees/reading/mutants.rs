@@ -4,9 +4,9 @@ use super::{needed, BLOCK_READ as CALL};
 use crate::difference::Difference;
 use crate::input::Input;
 use crate::library::right;
-use crate::mutants::{wrong, wrong_test};
+use crate::mutants::{asking, wrong, wrong_deep, wrong_test};
 use reference::stop::Stop;
-use reference::tree::{place, SYMBOL};
+use reference::tree::{place, symbol_at, SYMBOL};
 
 // Blocks.
 
@@ -67,4 +67,38 @@ wrong_test!(last_absent, 9, Difference::Result { .. }, |i| {
         Some(index) => Err(Stop::Absent(index)),
         None => Ok(()),
     }
+});
+
+// Deep trees.
+
+/// `right`, but with symbols of other places.
+fn read_at(i: &mut Input, cut: fn(usize) -> usize) -> u64 {
+    let result = right(i);
+    if result == 0 {
+        let places = needed(i.number("depth") as usize).map(cut);
+        i["block"] = places.flat_map(|place| symbol_at(&i["tree"], place).to_vec()).collect();
+    }
+    result
+}
+
+wrong!(bytes_of_the_tree_by_16_bits, Difference::Inside { buffer: "block", .. }, |i| {
+    read_at(i, |place| place & 0xff)
+});
+
+wrong_deep!(places_of_12_bits, Difference::Inside { buffer: "block", .. }, |i| {
+    read_at(i, |place| place & 0xfff)
+});
+
+wrong_deep!(absent_by_places_of_12_bits, Difference::Result { .. }, |i| {
+    asking(i, 9, |i| absent(i, |place, _| i["marks"].get(place & 0xfff) == Some(&0)))
+});
+
+wrong_deep!(bad_mark_of_12_bits, 4 => 4, |i| match right(i) {
+    result if result % 256 == 4 => result & 0xf_ffff,
+    result => result,
+});
+
+wrong_deep!(absent_number_of_9_bits, 9 => 9, |i| match right(i) {
+    result if result % 256 == 9 => result & 0x1_ffff,
+    result => result,
 });

@@ -4,7 +4,7 @@ use super::TREE_WRITE as CALL;
 use crate::difference::Difference;
 use crate::input::Input;
 use crate::library::{right, stopped};
-use crate::mutants::{passes, wrong};
+use crate::mutants::{passes, wrong, wrong_deep};
 use reference::sha256::sha256;
 use reference::table::{equations, house, to_bytes};
 use reference::tree::{place, symbols, HASH, SYMBOL};
@@ -104,4 +104,51 @@ wrong!(lent_marks_tested, Difference::Result { expected: 0, .. }, |i| {
         (0, Some(place)) => 4 + 256 * place as u64,
         (result, _) => result,
     }
+});
+
+/// `right`, but each symbol that its place is cut for stands at the other one.
+fn written_at(i: &mut Input, cut: fn(usize) -> usize) -> u64 {
+    let before = i["tree"].clone();
+    let result = right(i);
+    if result == 0 {
+        let after = std::mem::replace(&mut i["tree"], before);
+        for (place, symbol) in after.chunks(SYMBOL).enumerate() {
+            i["tree"][SYMBOL * cut(place)..][..SYMBOL].copy_from_slice(symbol);
+        }
+    }
+    result
+}
+
+wrong!(bytes_of_the_tree_by_16_bits, Difference::Inside { buffer: "tree", .. }, |i| {
+    written_at(i, |place| place & 0xff)
+});
+
+wrong_deep!(places_of_12_bits, Difference::Inside { buffer: "tree", .. }, |i| {
+    written_at(i, |place| place & 0xfff)
+});
+
+wrong_deep!(marks_by_12_bits, Difference::Inside { buffer: "marks", .. }, |i| {
+    let before = i["marks"].clone();
+    let result = right(i);
+    if result == 0 {
+        (4096..before.len()).for_each(|place| i["marks"][place] = before[place]);
+    }
+    result
+});
+
+wrong_deep!(table_cut_at_16384_bytes, 0 => 3, |i| {
+    let mut seen = i.clone();
+    seen["table"].truncate(16_384);
+    let result = right(&mut seen);
+    ["tree", "marks", "root"].into_iter().for_each(|buffer| i[buffer] = seen[buffer].clone());
+    result
+});
+
+wrong_deep!(last_parity_of_4096_not_coded, Difference::Inside { buffer: "tree", .. }, |i| {
+    let result = right(i);
+    if result == 0 && i.number("depth") == 9 {
+        let start = SYMBOL * place(8, 4095);
+        i["tree"][start..].fill(0);
+    }
+    result
 });
