@@ -1,5 +1,5 @@
 //! The comparisons of a call: those of its tests, those that all calls get from
-//! their descriptions, then its own.
+//! their descriptions, then its own; at the deep sizes its own come first.
 
 use crate::call::Call;
 use crate::difference::{Compared, Difference, Failure};
@@ -22,7 +22,8 @@ const SETS: usize = 512;
 /// Calls of each size that get other lengths.
 const TURNS: usize = 4;
 
-/// How often each result that a description names must come, and each sort.
+/// How often each result that a description names must come at the shallow sizes, and each
+/// sort. At the deep ones a sort must come at all.
 const LEAST: u64 = 40;
 const LEAST_OF_SORT: u64 = 3;
 

@@ -59,3 +59,22 @@ pub const LENGTHS: Test = Test {
     },
     ..TEST
 };
+
+#[cfg(test)]
+mod tests {
+    use super::*;
+
+    #[test]
+    fn fewer_at_deep_depths() {
+        assert_eq!([5, 6, 7, 8, 9].map(|depth| turns(depth, 300)), [300, 18, 9, 4, 2]);
+        assert_eq!(turns(9, 4), 1);
+        assert_eq!(sparse(5, 3), [0, 1, 2]);
+        assert_eq!(sparse(9, 4096), [0, 511, 1023, 1535, 2047, 2559, 3071, 3583, 4095]);
+        assert_eq!(sparse(6, 1), [0]);
+        for (depth, limit) in DEPTHS.into_iter().flat_map(|depth| [2, 9, 33].map(|l| (depth, l))) {
+            let some = sparse(depth, limit);
+            assert!(some[0] == 0 && some[some.len() - 1] == limit - 1);
+            assert!(some.windows(2).all(|pair| pair[0] < pair[1]));
+        }
+    }
+}
