@@ -57,6 +57,7 @@ pub static REPAIR: Call = Call {
         deep::chains,
         deep::losses,
         deep::longest_proofs,
+        deep::far_faults,
         losses::known_stopping_sets,
         losses::lost_parity,
         miscoded::one_fault,

@@ -5,7 +5,7 @@ use crate::comparisons::Comparisons;
 use crate::difference::Compared;
 use crate::results::{ended, repaired};
 use crate::stops::DEEP;
-use crate::tables::lists::{chained, random_table, table_of, LINKS};
+use crate::tables::lists::{chained, random_table, some_table, table_of, LINKS};
 use crate::tables::uses::MOST;
 use crate::volumes::Volume;
 use reference::repair::{output_len, End, Repaired};
@@ -81,6 +81,24 @@ fn broken_chain(
     let mut input = of(&volume, &mut c.random);
     (0..k).for_each(|data| lose(&mut input, base, data, &mut c.random));
     c.make("a chain with a fault", &input)?;
+    Ok(())
+}
+
+/// Much of the base lost, and a fault in its last equations: how much is stored before it shows
+/// tells whether the search came back to each lower equation first.
+pub fn far_faults(c: &mut Comparisons) -> Compared {
+    for &depth in c.sizes {
+        let (base, n) = (depth - 1, symbols(depth - 1));
+        for parts in [30, 50, 70] {
+            let words = some_table(depth, &mut c.random);
+            let late = n - 1 - c.random.below(n / 16);
+            let volume = Volume::miscoded(depth, &words, &[(base, late)], &mut c.random);
+            let mut input = of(&volume, &mut c.random);
+            let others = (0..n).filter(|&symbol| symbol != late).map(|symbol| (base, symbol));
+            lose_some(&mut input, &others.collect::<Vec<_>>(), parts, &mut c.random);
+            c.make("a far fault", &input)?;
+        }
+    }
     Ok(())
 }
 

@@ -58,9 +58,11 @@ pub struct Rules {
     pub past_unavailable: bool,
     /// Whether the committed hashes are those that were lent.
     pub lent_hashes: bool,
-    /// How far below the equation that stored a symbol the search begins again, and ends
-    /// where it finds none; 0 is the least.
+    /// How far below the equation that was taken the search begins again, and ends where it
+    /// finds none; 0 is the least.
     pub back: usize,
+    /// Whether it then comes back to equation 0.
+    pub comes_back: bool,
     /// Whether the count of an equation's absent members, in a layer of k data symbols, is
     /// lowered when its member of this position is stored.
     pub lowered: fn(k: usize, equation: usize, position: usize) -> bool,
@@ -81,6 +83,7 @@ pub const RULES: Rules = Rules {
     past_unavailable: false,
     lent_hashes: false,
     back: usize::MAX,
+    comes_back: false,
     lowered: |_, _, _| true,
 };
 
@@ -194,7 +197,8 @@ impl Work<'_> {
     /// The equation to take next, looked for from one on, by these counts of absent members.
     fn search(&self, counts: &[usize], used: &[bool], from: usize) -> Option<usize> {
         let absent = |e: usize| counts[e];
-        let begun_again = if self.rules.back < usize::MAX { 0..0 } else { 0..from };
+        let comes_back = self.rules.goes_on || self.rules.comes_back;
+        let begun_again = if comes_back { 0..from } else { 0..0 };
         let order = (from..counts.len()).chain(begun_again);
         let mut order = order.filter(|&e| !used[e] && absent(e) <= 1);
         if self.rules.taken == Taken::Both && !self.rules.highest {

@@ -76,6 +76,9 @@ macro_rules! other_rule_deep {
 other_rule_deep!(base_of_depth_9_only_marked, layers: 8);
 other_rule_deep!(search_begun_again_1024_below, back: 1024);
 other_rule_deep!(search_begun_again_in_the_same_1024, back: 1023);
+wrong_deep!(search_begun_again_1024_below_and_then_at_0, Difference::Result { .. }, |i| {
+    repair_by(&Rules { back: 1024, comes_back: true, ..RULES }, i)
+});
 // Symbol 4,095 is given by this one.
 other_rule_deep!(last_equation_passed_over_after_a_store, lowered: |k, e, _| k < 1024 || e < 3071);
 other_rule_deep!(first_equation_passed_over_after_a_store, lowered: |k, e, _| k < 1024 || e > 0);
