@@ -10,7 +10,7 @@
  * Results. Every call returns one uint64_t. Its low eight bits are a number:
  *
  *   0  done, or accepted
- *   1  stopped: the depth is not 1 to 5
+ *   1  stopped: the depth is not 1 to 9
  *   2  stopped: a length is wrong
  *   3  stopped: the table breaks a rule; the value is the first wrong word, or
  *      the number of words where the table is short
@@ -50,15 +50,24 @@
  * another length is CMT_WRONG_LENGTH. Only the message, the table and the proof
  * have lengths of their own.
  *
+ * Depths. A depth is 1 to CMT_DEPTH_MAX, at every call. One of 2^32+1 is not
+ * taken for 1: depths are 64-bit numbers.
+ *
  * Tables. A parity table is a list of 32-bit words, as big-endian bytes, four
- * to a word. A depth of 2^32+1 is not taken for 1: depths are 64-bit numbers.
+ * to a word. CMT_TABLE_BYTES_MAX is the limit at every depth, and no table of
+ * depth 1 to 5 has more than 13,392 bytes. While depths went to 5, the limit was
+ * 16,384, and a longer table was CMT_WRONG_LENGTH; up to the limit of now it is
+ * read, and at depth 1 to 5 is CMT_WRONG_TABLE, at its first wrong word.
  *
  * Trust. A check is against the root, and against the table and the depth where
  * it takes them: all three must come from where they can be trusted, since the
  * root says nothing of the other two.
  *
- * Stack. A call uses at most CMT_STACK_BYTES bytes of the caller's stack. This
- * figure is measured, not proved.
+ * Stack. A call uses at most CMT_STACK_BYTES bytes of the caller's stack at
+ * depth 1 to 5, without a depth, or with one that is refused; at depth 6 to 9 it
+ * uses more, at most CMT_STACK_BYTES_AT(depth). No call tests whether there is
+ * room. A thread whose stack is smaller must not make deeper calls: it would
+ * write beyond its stack. These figures are measured, not proved.
  */
 #ifndef CEDUNMI_H
 #define CEDUNMI_H
@@ -116,16 +125,22 @@ enum {
     CMT_NO_END = 16777216
 };
 
-/* The most stack that a call uses, in bytes. */
+/*
+ * The most stack that a call uses, in bytes: at depth 1 to 5, without a depth, or
+ * with one that is refused; at a deeper one; and at a depth from 1 to
+ * CMT_DEPTH_MAX.
+ */
 #define CMT_STACK_BYTES 32768
+#define CMT_STACK_BYTES_DEEP 524288
+#define CMT_STACK_BYTES_AT(depth) ((depth) > 5 ? CMT_STACK_BYTES_DEEP : CMT_STACK_BYTES)
 
 /* The longest message that cmt_sha256() takes, and its digest, in bytes. */
 #define CMT_SHA256_MESSAGE_MAX 1048576
 #define CMT_SHA256_DIGEST_BYTES 32
 
 /* The largest depth, and the longest table that a call takes, in bytes. */
-#define CMT_DEPTH_MAX 5
-#define CMT_TABLE_BYTES_MAX 16384
+#define CMT_DEPTH_MAX 9
+#define CMT_TABLE_BYTES_MAX 220792
 
 /* The bytes of the house table of a depth from 1 to CMT_DEPTH_MAX. */
 #define CMT_HOUSE_TABLE_BYTES(depth) (4 * (60 * ((CMT_SIZE(1) << (depth)) - 1) + 1))
@@ -201,7 +216,7 @@ static inline const char *cmt_explain(uint64_t number)
     case CMT_DONE:
         return "done, or accepted";
     case CMT_WRONG_DEPTH:
-        return "the depth is not 1 to 5";
+        return "the depth is not 1 to 9";
     case CMT_WRONG_LENGTH:
         return "a length is wrong";
     case CMT_WRONG_TABLE:
