@@ -1,5 +1,5 @@
 /*
- * Where a path breaks: samples and proofs at depths 1, 3 and 5, with damage whose
+ * Where a path breaks: samples and proofs at depths 1, 3, 5 and 9, with damage whose
  * layer, and of a proof whose position, were worked out by hand. Each is as before
  * when the damage is undone.
  */
@@ -57,7 +57,10 @@ static uint64_t check_sample(uint64_t number)
  * A sample at depth 3 of base page 61 has then 5 and 21 of layer 1, 1 and 5 of layer 0. The hash of 61 is in 5 from
  * byte 224 on, those of 5 and 21 in layer 0's 1 from bytes 32 and 160 on. One at depth 5 of base page 200 has then 8
  * and 40, 8 and 24, 0 and 16, 0 and 12. The hash of 200 is from byte 192 on in the first of these, and those of each
- * two from bytes 0 and 64, 32 and 96, 0 and 128 on in the next data page.
+ * two from bytes 0 and 64, 32 and 96, 0 and 128 on in the next data page. One at depth 9 of base page 3000 has then 440
+ * and 1976, 184 and 952, 56 and 440, 56 and 184, 24 and 56, 8 and 40, 0 and 8, 0 and 4. The hash of 3000 is from byte 160
+ * on in the first of these, and those of each two from bytes 32 and 224, 32 and 224, 0 and 192, 32 and 160, 32 and 96, 32
+ * and 160, 0 and 64 on in the next data page.
  */
 static const struct {
     uint64_t depth, number;
@@ -100,6 +103,41 @@ static const struct {
     {5, 200, {2, {{7, 255}, {8, 255}}}, 0},
     {5, 200, {2, {{8, 0}, {1, 0}}}, 3},
     {5, 200, {3, {{8, 0}, {6, 0}, {4, 0}}}, 2},
+    {9, 3000, {1, {{0, 255}}}, 8},
+    {9, 3000, {1, {{1, 160}}}, 8},
+    {9, 3000, {1, {{1, 191}}}, 8},
+    {9, 3000, {1, {{1, 192}}}, 7},
+    {9, 3000, {1, {{2, 0}}}, 7},
+    {9, 3000, {1, {{3, 32}}}, 7},
+    {9, 3000, {1, {{3, 255}}}, 7},
+    {9, 3000, {1, {{3, 64}}}, 6},
+    {9, 3000, {1, {{4, 0}}}, 6},
+    {9, 3000, {1, {{5, 63}}}, 6},
+    {9, 3000, {1, {{5, 224}}}, 6},
+    {9, 3000, {1, {{5, 0}}}, 5},
+    {9, 3000, {1, {{6, 0}}}, 5},
+    {9, 3000, {1, {{7, 0}}}, 5},
+    {9, 3000, {1, {{7, 192}}}, 5},
+    {9, 3000, {1, {{7, 32}}}, 4},
+    {9, 3000, {1, {{8, 255}}}, 4},
+    {9, 3000, {1, {{9, 32}}}, 4},
+    {9, 3000, {1, {{9, 160}}}, 4},
+    {9, 3000, {1, {{9, 0}}}, 3},
+    {9, 3000, {1, {{10, 0}}}, 3},
+    {9, 3000, {1, {{11, 32}}}, 3},
+    {9, 3000, {1, {{11, 96}}}, 3},
+    {9, 3000, {1, {{11, 0}}}, 2},
+    {9, 3000, {1, {{12, 0}}}, 2},
+    {9, 3000, {1, {{13, 32}}}, 2},
+    {9, 3000, {1, {{13, 191}}}, 2},
+    {9, 3000, {1, {{13, 0}}}, 1},
+    {9, 3000, {1, {{14, 0}}}, 1},
+    {9, 3000, {1, {{15, 31}}}, 1},
+    {9, 3000, {1, {{15, 64}}}, 1},
+    {9, 3000, {1, {{15, 32}}}, 0},
+    {9, 3000, {1, {{16, 0}}}, 0},
+    {9, 3000, {2, {{16, 0}, {2, 0}}}, 7},
+    {9, 3000, {3, {{16, 0}, {12, 0}, {6, 0}}}, 5},
 };
 
 static int of_samples(void)
@@ -107,7 +145,8 @@ static int of_samples(void)
     int right = 1;
     for (size_t i = 0; i < sizeof samples / sizeof *samples; i++) {
         const uint64_t number = samples[i].number;
-        right &= begin(samples[i].depth) && take(number) && check_sample(number) == CMT_DONE;
+        right &= (samples[i].depth == volume.depth || begin(samples[i].depth)) && take(number) &&
+                 check_sample(number) == CMT_DONE;
         damage(sample, &samples[i].damage);
         right &= breaks(check_sample(number), samples[i].layer, 0);
         damage(sample, &samples[i].damage);
@@ -122,7 +161,7 @@ static int of_samples_by_the_root(void)
     static const struct {
         uint64_t depth, number;
         unsigned own;
-    } roots[] = {{1, 9, 1u << 9}, {3, 61, 1u << 1 | 1u << 5}, {5, 200, 1u << 0 | 1u << 12}};
+    } roots[] = {{1, 9, 1u << 9}, {3, 61, 1u << 1 | 1u << 5}, {5, 200, 1u << 0 | 1u << 12}, {9, 3000, 1u << 0 | 1u << 4}};
     int right = 1;
     for (size_t i = 0; i < sizeof roots / sizeof *roots; i++) {
         right &= begin(roots[i].depth) && take(roots[i].number);
@@ -183,6 +222,15 @@ static const struct {
     {5, 2, 47, {2, 15, 62, 63}},
     {5, 3, 95, {2, 31, 126, 127}},
     {5, 4, 191, {2, 63, 254, 255}},
+    {9, 0, 11, {2, 3, 14, 15}},
+    {9, 1, 23, {2, 7, 30, 31}},
+    {9, 2, 47, {2, 15, 62, 63}},
+    {9, 3, 95, {2, 31, 126, 127}},
+    {9, 4, 191, {2, 63, 254, 255}},
+    {9, 5, 383, {2, 127, 510, 511}},
+    {9, 6, 767, {2, 255, 1022, 1023}},
+    {9, 7, 1535, {2, 511, 2046, 2047}},
+    {9, 8, 3071, {2, 1023, 4094, 4095}},
 };
 
 /* Each page of a proof that shows no fault, damaged alone: from each member up, the withheld one last. */

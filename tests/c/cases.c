@@ -1,6 +1,8 @@
 /*
  * 01's cases at depth 1 with the house table, through the library: the block is
- * 256 bytes each of 01, 02, 04, 08.
+ * 256 bytes each of 01, 02, 04, 08. Cases 8 and 9 as CR 6 has them: depth 6 is
+ * accepted, depth 10 is not, and at depth 9 there are 8,176 symbols and a proof of
+ * 18,188 bytes.
  */
 #include "volume.h"
 
@@ -60,7 +62,7 @@ static int case_2_and_3(void)
 
 static int case_4(void)
 {
-    uint8_t whole[sizeof volume.tree];
+    uint8_t whole[CMT_TREE_BYTES(1)];
     memcpy(whole, volume.tree, CMT_TREE_BYTES(1));
     take_away((const size_t[]){0, 1}, 2);
     uint64_t result = volume_repair(&volume);
@@ -108,15 +110,92 @@ static int case_7_absent(void)
     return miscoded && shows_fault();
 }
 
+/* Whether every call that takes a depth stops with 1 at this one. */
+static int stops_at(uint64_t depth)
+{
+    uint8_t sample[CMT_SAMPLE_BYTES(1)];
+    const size_t table = CMT_HOUSE_TABLE_BYTES(1), tree = CMT_TREE_BYTES(1);
+    return cmt_house_table(depth, volume.table, table) == CMT_WRONG_DEPTH &&
+           cmt_table_check(depth, volume.table, table) == CMT_WRONG_DEPTH &&
+           cmt_tree_write(depth, volume.table, table, volume.block, CMT_BLOCK_BYTES(1), volume.tree, tree, volume.marks,
+                          SYMBOLS, volume.root, sizeof volume.root) == CMT_WRONG_DEPTH &&
+           cmt_block_read(depth, volume.tree, tree, volume.marks, SYMBOLS, volume.block, CMT_BLOCK_BYTES(1)) ==
+               CMT_WRONG_DEPTH &&
+           cmt_sample_take(depth, 0, volume.tree, tree, volume.marks, SYMBOLS, sample, sizeof sample) ==
+               CMT_WRONG_DEPTH &&
+           cmt_sample_check(depth, 0, volume.root, sizeof volume.root, sample, sizeof sample) == CMT_WRONG_DEPTH &&
+           cmt_proof_check(depth, volume.root, sizeof volume.root, volume.table, table, volume.output, PROOF) ==
+               CMT_WRONG_DEPTH &&
+           cmt_repair(depth, volume.root, sizeof volume.root, volume.table, table, volume.tree, tree, volume.marks, SYMBOLS,
+                      volume.output, CMT_OUTPUT_BYTES(1)) == CMT_WRONG_DEPTH;
+}
+
 static int case_8(void)
 {
-    uint64_t depth = volume.depth;
-    int stops = 1;
-    for (volume.depth = 0; volume.depth <= 6; volume.depth += 6) {
-        stops &= volume_house_table(&volume) == CMT_WRONG_DEPTH && volume_repair(&volume) == CMT_WRONG_DEPTH;
+    return stops_at(0) && stops_at(10) && stops_at(UINT64_C(4294967296) + 1) && stops_at(UINT64_C(4294967296) + 9) &&
+           CMT_DEPTH_MAX == 9 && CMT_MARKS_BYTES(5) == 496 && CMT_MARKS_BYTES(9) == 8176;
+}
+
+/* A volume of this depth is coded, sampled, lost in part, repaired and read back. */
+static int goes_round(uint64_t depth)
+{
+    static struct volume coded;
+    static uint8_t sample[CMT_SAMPLE_BYTES(CMT_DEPTH_MAX)];
+    const size_t tree = CMT_TREE_BYTES(depth), marks = CMT_MARKS_BYTES(depth), last = marks / 2;
+    int right = volume_begin(&volume, depth) == CMT_DONE && volume_write(&volume) == CMT_DONE;
+    memcpy(&coded, &volume, sizeof coded);
+    for (size_t place = 0; place < marks; place += 5) {
+        volume.marks[place] = 0;
+        memset(volume.tree + SYMBOL * place, 0xee, SYMBOL);
     }
-    volume.depth = depth;
-    return stops && CMT_MARKS_BYTES(5) == 496;
+    uint64_t result = volume_repair(&volume);
+    memset(volume.block, 0, sizeof volume.block);
+    return right && cmt_number(result) == CMT_DONE && cmt_repair_end(result) == CMT_WHOLE &&
+           cmt_repair_stored(result) == (marks + 4) / 5 && memcmp(volume.tree, coded.tree, tree) == 0 &&
+           memcmp(volume.marks, coded.marks, marks) == 0 &&
+           cmt_block_read(depth, volume.tree, tree, volume.marks, marks, volume.block, CMT_BLOCK_BYTES(depth)) == CMT_DONE &&
+           memcmp(volume.block, coded.block, CMT_BLOCK_BYTES(depth)) == 0 &&
+           cmt_sample_take(depth, last, volume.tree, tree, volume.marks, marks, sample, CMT_SAMPLE_BYTES(depth)) == CMT_DONE &&
+           cmt_sample_check(depth, last, volume.root, sizeof volume.root, sample, CMT_SAMPLE_BYTES(depth)) == CMT_DONE;
+}
+
+static int case_8_accepted(void)
+{
+    return goes_round(6) && goes_round(7) && goes_round(8) && goes_round(9);
+}
+
+/* A word of a table, its kind and its value. */
+static void put_word(uint8_t *table, size_t word, uint32_t kind, uint32_t value)
+{
+    const uint32_t all = kind << 30 | value;
+    for (size_t i = 0; i < 4; i++) {
+        table[4 * word + i] = (uint8_t)(all >> (24 - 8 * i));
+    }
+}
+
+/* By a table whose last equation has eight members in the place of four, the volume of the house table shows a fault
+ * there: at the largest depth, and at depth 5. */
+static int longest_proof(uint64_t depth, size_t bytes)
+{
+    static uint8_t table[CMT_HOUSE_TABLE_BYTES(CMT_DEPTH_MAX) + 16];
+    const size_t words = CMT_HOUSE_TABLE_BYTES(depth) / 4;
+    const uint32_t k = (uint32_t)4 << (depth - 1), members[] = {2, 3, 4, 5, 6, k - 1, 4 * k - 2, 4 * k - 1};
+    int right = volume_begin(&volume, depth) == CMT_DONE && volume_write(&volume) == CMT_DONE;
+    memcpy(table, volume.table, 4 * words);
+    for (size_t i = 0; i < 8; i++) {
+        put_word(table, words - 5 + i, 0, members[i]);
+    }
+    put_word(table, words + 3, 3, (uint32_t)words + 3);
+    uint64_t result = cmt_repair(depth, volume.root, sizeof volume.root, table, 4 * words + 16, volume.tree, CMT_TREE_BYTES(depth),
+                                 volume.marks, CMT_MARKS_BYTES(depth), volume.output, CMT_OUTPUT_BYTES(depth));
+    return right && cmt_number(result) == CMT_DONE && cmt_repair_end(result) == CMT_FAULT &&
+           cmt_repair_proof_bytes(result) == bytes && CMT_OUTPUT_BYTES(depth) == bytes &&
+           cmt_proof_check(depth, volume.root, sizeof volume.root, table, 4 * words + 16, volume.output, bytes) == CMT_DONE;
+}
+
+static int case_9(void)
+{
+    return longest_proof(5, 9996) && longest_proof(9, 18188);
 }
 
 int main(void)
@@ -128,7 +207,8 @@ int main(void)
         {"2 and 3", case_2_and_3}, {"4", case_4},
         {"5", case_5},             {"6", case_6},
         {"7", case_7},             {"7, where 7 is absent", case_7_absent},
-        {"8", case_8},
+        {"8", case_8},             {"8, depths that are accepted", case_8_accepted},
+        {"9", case_9},
     };
     for (size_t i = 0; i < sizeof cases / sizeof *cases; i++) {
         if (volume_begin(&volume, 1) != CMT_DONE || volume_write(&volume) != CMT_DONE || !cases[i].holds()) {

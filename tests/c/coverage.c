@@ -16,28 +16,39 @@ static uint64_t uncovered(uint64_t layer, uint64_t page)
     return CMT_UNCOVERED + 256 * (layer + 16777216 * page);
 }
 
-/* The last byte of an equation's first data member in the house table; that of the second is four further on. */
+/* An equation's two data members in the house table, each the low two bytes of a word. */
 static uint8_t *data_members(uint64_t layer, size_t equation)
 {
     size_t word = 60 * (((size_t)1 << layer) - 1) + (equation == 0 ? 2 : 5 * equation + 1);
-    return volume.table + 4 * word + 3;
+    return volume.table + 4 * word + 2;
+}
+
+static unsigned member(const uint8_t *at)
+{
+    return at[0] * 256u + at[1];
+}
+
+static void put_member(uint8_t *at, unsigned page)
+{
+    at[0] = (uint8_t)(page >> 8);
+    at[1] = (uint8_t)page;
 }
 
 /* Leaves a page in so many equations, its first ones: in the others data page 0, 1 or 2 stands for it. */
-static void leave(uint64_t layer, uint8_t page, size_t kept)
+static void leave(uint64_t layer, unsigned page, size_t kept)
 {
     size_t met = 0;
     for (size_t equation = 0; equation < (size_t)12 << layer; equation++) {
         uint8_t *first = data_members(layer, equation), *second = first + 4;
-        if ((*first != page && *second != page) || met++ < kept) {
+        if ((member(first) != page && member(second) != page) || met++ < kept) {
             continue;
         }
-        uint8_t other = *first == page ? *second : *first, another = 0;
+        unsigned other = member(first) == page ? member(second) : member(first), another = 0;
         while (another == page || another == other) {
             another++;
         }
-        *first = another < other ? another : other;
-        *second = another < other ? other : another;
+        put_member(first, another < other ? another : other);
+        put_member(second, another < other ? other : another);
     }
 }
 
@@ -52,8 +63,8 @@ static int two_are_needed(void)
     int right = 1;
     for (uint64_t depth = 1; depth <= CMT_DEPTH_MAX; depth++) {
         for (uint64_t layer = 0; layer < depth; layer++) {
-            const uint8_t last = (uint8_t)((4 << layer) - 1), pages[] = {0, 1, 2, (uint8_t)(last / 2), last};
-            for (size_t i = 0; i < 3 * sizeof pages; i++) {
+            const unsigned last = (4u << layer) - 1, pages[] = {0, 1, 2, last / 2, last};
+            for (size_t i = 0; i < 3 * sizeof pages / sizeof *pages; i++) {
                 size_t kept = i % 3;
                 right &= volume_begin(&volume, depth) == CMT_DONE && table_check() == CMT_DONE;
                 leave(layer, pages[i / 3], kept);
@@ -88,7 +99,7 @@ static int all_stop(uint64_t result)
 }
 
 /* A coded volume with a mark and a proof's head that are wrong too, and this page in one equation. */
-static int lent(uint64_t depth, uint64_t layer, uint8_t page)
+static int lent(uint64_t depth, uint64_t layer, unsigned page)
 {
     int written = volume_begin(&volume, depth) == CMT_DONE && volume_write(&volume) == CMT_DONE;
     volume.marks[0] = 2;

@@ -14,7 +14,7 @@
 #include <sys/wait.h>
 #include <unistd.h>
 
-enum { PAGE = 4096, MESSAGE_ROOM = CMT_SHA256_MESSAGE_MAX + PAGE, TABLE_ROOM = 5 * PAGE };
+enum { PAGE = 4096, MESSAGE_ROOM = CMT_SHA256_MESSAGE_MAX + PAGE, TABLE_ROOM = (CMT_TABLE_BYTES_MAX / PAGE + 1) * PAGE };
 
 typedef uint64_t sha256(const uint8_t *, size_t, uint8_t *, size_t);
 

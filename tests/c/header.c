@@ -2,9 +2,9 @@
  * The header by itself, as C and as C++: it compiles without a warning, may be
  * included twice, and calls through it give the published digest of "abc", the
  * house table's first wrong word where one is put, and 01's cases of repair. Its
- * words for numbers and ends are as they should be, both values of a result come
- * out of it, a repair that stopped has no end, and the version's text is that of
- * its numbers.
+ * lengths at the largest depth and its words for numbers and ends are as they
+ * should be, both values of a result come out of it, a repair that stopped has no
+ * end, and the version's text is that of its numbers.
  */
 #include "cedunmi.h"
 #include "cedunmi.h"
@@ -45,9 +45,9 @@ static int values_are_apart(void)
     return parts_are(0, 0, 0, 0) && parts_are(255, 255, 0, 0) && parts_are(first * 16777215, 0, 16777215, 0) &&
            parts_are(second * UINT32_MAX, 0, 0, UINT32_MAX) &&
            parts_are(UINT64_MAX, 255, 16777215, UINT32_MAX) &&
-           parts_are(CMT_UNCOVERED + first * 4 + second * 63, CMT_UNCOVERED, 4, 63) &&
-           parts_are(CMT_WRONG_HASH + first * 4 + second * 7, CMT_WRONG_HASH, 4, 7) &&
-           parts_are(CMT_WRONG_TABLE + first * 4096, CMT_WRONG_TABLE, 4096, 0);
+           parts_are(CMT_UNCOVERED + first * 8 + second * 1023, CMT_UNCOVERED, 8, 1023) &&
+           parts_are(CMT_WRONG_HASH + first * 8 + second * 7, CMT_WRONG_HASH, 8, 7) &&
+           parts_are(CMT_WRONG_TABLE + first * 55198, CMT_WRONG_TABLE, 55198, 0);
 }
 
 static struct volume volume;
@@ -96,8 +96,7 @@ static int fault_is_right(void)
 static int repairs_are_right(void)
 {
     static const uint8_t two[] = {0, 1}, eight[] = {0, 4, 5, 6, 8, 9, 12, 15};
-    return CMT_OUTPUT_BYTES(CMT_DEPTH_MAX) == 9996 &&
-           repair_is_right(two, sizeof two, CMT_WHOLE, 2) &&
+    return repair_is_right(two, sizeof two, CMT_WHOLE, 2) &&
            repair_is_right(eight, sizeof eight, CMT_UNAVAILABLE, 1) && fault_is_right();
 }
 
@@ -143,6 +142,22 @@ static int ends_have_room(void)
            cmt_repair_layer(unavailable) == 65535 && cmt_repair_proof_bytes(unavailable) == 0;
 }
 
+/* Lengths at the largest depth, which constants can hold, and how much stack each depth is said to need. */
+static int sizes_are_right(void)
+{
+    static const uint8_t sizes[CMT_STACK_BYTES_AT(CMT_DEPTH_MAX) > CMT_OUTPUT_BYTES(CMT_DEPTH_MAX) ? 1 : -1] = {0};
+    int right = sizeof sizes == 1 && CMT_DEPTH_MAX == 9 && CMT_TABLE_BYTES_MAX == 220792;
+    for (uint64_t depth = 1; depth <= 5; depth++) {
+        right &= CMT_STACK_BYTES_AT(depth) == CMT_STACK_BYTES;
+    }
+    for (uint64_t depth = 6; depth <= 9; depth++) {
+        right &= CMT_STACK_BYTES_AT(depth) == CMT_STACK_BYTES_DEEP;
+    }
+    return right && CMT_HOUSE_TABLE_BYTES(9) == 122644 && CMT_MARKS_BYTES(9) == 8176 && CMT_TREE_BYTES(9) == 2093056 &&
+           CMT_BLOCK_BYTES(9) == 262144 && CMT_SAMPLE_BYTES(9) == 4352 && CMT_PROOF_BYTES(8, 8) == 18188 &&
+           CMT_OUTPUT_BYTES(9) == 18188 && CMT_OUTPUT_BYTES(5) == 9996;
+}
+
 struct words {
     uint64_t of;
     const char *text;
@@ -153,7 +168,7 @@ static int texts_are_right(void)
     static const char none[] = "a number that no call gives";
     static const struct words numbers[] = {
         {CMT_DONE, "done, or accepted"},
-        {CMT_WRONG_DEPTH, "the depth is not 1 to 5"},
+        {CMT_WRONG_DEPTH, "the depth is not 1 to 9"},
         {CMT_WRONG_LENGTH, "a length is wrong"},
         {CMT_WRONG_TABLE, "the table breaks a rule"},
         {CMT_WRONG_MARK, "a mark is neither 0 nor 1"},
@@ -220,6 +235,7 @@ int main(void)
         {"digests", digests_are_right},
         {"tables", tables_are_right},
         {"values", values_are_apart},
+        {"sizes", sizes_are_right},
         {"repairs and proofs", repairs_are_right},
         {"repairs that stop", stops_have_no_end},
         {"ends", ends_have_room},
