@@ -1,6 +1,6 @@
 //! Sizes.
 
-use crate::SYMBOL_BYTES;
+use crate::{STACK_BYTES, STACK_BYTES_DEEP, SYMBOL_BYTES};
 use std::ops::Range;
 
 /// A depth that a tree can have.
@@ -8,7 +8,7 @@ use std::ops::Range;
 pub struct Depth(usize);
 
 impl Depth {
-    pub const MAX: Depth = Depth(5);
+    pub const MAX: Depth = Depth(9);
 
     /// The depth of this number, where there is one.
     pub fn new(depth: u64) -> Option<Depth> {
@@ -72,5 +72,14 @@ impl Depth {
     /// The bytes of the longest fault proof, and of the output of a repair.
     pub fn output_bytes(self) -> usize {
         crate::PROOF_HEAD_BYTES + SYMBOL_BYTES * (8 * self.0 - 1)
+    }
+
+    /// The most stack that a call of this depth uses, in bytes.
+    pub const fn stack_bytes(self) -> usize {
+        if self.0 > 5 {
+            STACK_BYTES_DEEP
+        } else {
+            STACK_BYTES
+        }
     }
 }

@@ -4,7 +4,7 @@
 pub fn explain(number: u64) -> &'static str {
     match number {
         0 => "done, or accepted",
-        1 => "the depth is not 1 to 5",
+        1 => "the depth is not 1 to 9",
         2 => "a length is wrong",
         3 => "the table breaks a rule",
         4 => "a mark is neither 0 nor 1",

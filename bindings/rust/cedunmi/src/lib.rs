@@ -14,6 +14,21 @@
 //!
 //! A call that stops changes nothing, and says why: [`Stop`]. Root, table and depth must come from
 //! where they can be trusted. `docs/FORMAT.md` of the project has every byte of the buffers.
+//!
+//! # Stack
+//!
+//! A call uses at most [`STACK_BYTES`] of its thread's stack at depth 1 to 5, without a depth, or with one that is
+//! refused, and more at depth 6 to 9, at most [`STACK_BYTES_DEEP`]. A thread of the standard library has 2 MiB where
+//! nobody asks for another size, which is enough. Nothing tests for room: a thread that is made with less than
+//! [`Depth::stack_bytes`], and what its own functions need, must not make a call of that depth.
+//!
+//! ```
+//! let depth = cedunmi::Depth::MAX;
+//! let made = std::thread::Builder::new().stack_size(depth.stack_bytes() + 65_536);
+//! let table = made.spawn(|| cedunmi::house_table(9)).expect("a thread").join().expect("no panic")?;
+//! assert_eq!(table.len(), depth.house_table_bytes());
+//! # Ok::<(), cedunmi::Stop>(())
+//! ```
 
 #![forbid(unsafe_code)]
 
@@ -44,7 +59,12 @@ pub const MESSAGE_MAX: usize = 1_048_576;
 pub const ROOT_BYTES: usize = 512;
 
 /// The longest table that a call takes, in bytes.
-pub const TABLE_BYTES_MAX: usize = 16_384;
+pub const TABLE_BYTES_MAX: usize = 220_792;
+
+/// The most stack that a call uses, in bytes: at depth 1 to 5, without a depth, or with one that is refused; and at a
+/// deeper one.
+pub const STACK_BYTES: usize = 32_768;
+pub const STACK_BYTES_DEEP: usize = 524_288;
 
 /// The bytes of a fault proof's head, with which every proof begins.
 pub const PROOF_HEAD_BYTES: usize = 12;

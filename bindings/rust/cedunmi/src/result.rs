@@ -77,7 +77,7 @@ mod tests {
     fn stops_keep_their_numbers_and_values() {
         let most = ((1 << 24) - 1, u64::from(u32::MAX));
         for (number, count) in (1..).zip([0, 0, 1, 1, 0, 0, 2, 0, 1, 2]) {
-            for (first, second) in [(0, 0), (1, 255), (256, 0), (0, 63), (495, 65536), most] {
+            for (first, second) in [(0, 0), (1, 255), (256, 0), (8, 1023), (8175, 65536), most] {
                 let stop = done(second << 32 | first << 8 | number).expect_err("a stop");
                 assert_eq!(u64::from(stop.number()), number);
                 assert_eq!(values(stop), [first, second][..count]);
@@ -102,12 +102,14 @@ mod tests {
     #[test]
     fn ends_keep_their_parts() {
         let packed = |end: u64, stored: u64, value: u64| end << 8 | stored << 32 | value << 48;
-        let output: Vec<u8> = (0..9996).map(|i| i as u8).collect();
+        let output: Vec<u8> = (0..18188).map(|i| i as u8).collect();
         let of = |end, stored, value| ended(packed(end, stored, value), output.clone());
-        assert_eq!(of(0, 496, 0), Ok(Repaired { stored: 496, end: End::Whole }));
+        assert_eq!(of(0, 8176, 0), Ok(Repaired { stored: 8176, end: End::Whole }));
         let proof = output[..780].to_vec();
         assert_eq!(of(1, 0, 780), Ok(Repaired { stored: 0, end: End::Fault { proof } }));
-        assert_eq!(of(2, 7, 4), Ok(Repaired { stored: 7, end: End::Unavailable { layer: 4 } }));
+        let proof = output.clone();
+        assert_eq!(of(1, 9, 18188), Ok(Repaired { stored: 9, end: End::Fault { proof } }));
+        assert_eq!(of(2, 7, 8), Ok(Repaired { stored: 7, end: End::Unavailable { layer: 8 } }));
         let symbols = output[..512].to_vec();
         assert_eq!(of(3, 65535, 0), Ok(Repaired { stored: 65535, end: End::Twins { symbols } }));
         assert_eq!(of(4, 0, 0), Err(Stop::Unknown { result: 4 << 8 }));

@@ -13,7 +13,7 @@ fn coded(depth: u64) -> (Vec<u8>, Vec<u8>, cedunmi::Coded) {
 
 #[test]
 fn a_volume_goes_round() {
-    for depth in 1..=5 {
+    for depth in 1..=9 {
         let (volume, table, coded) = coded(depth);
         assert_eq!(cedunmi::check_table(depth, &table), Ok(()));
         assert_eq!(cedunmi::read_block(depth, &coded.tree, &coded.marks), Ok(volume));
@@ -61,7 +61,7 @@ fn damaged(bytes: &[u8], at: usize) -> Vec<u8> {
 /// A damaged symbol of a sample breaks it at its own layer; where the hash of the one below is damaged, at that one's.
 #[test]
 fn samples_say_where_they_break() {
-    for depth in 1..=5 {
+    for depth in 1..=9 {
         let (_, _, coded) = coded(depth);
         let sample = cedunmi::take_sample(depth, 13, &coded.tree, &coded.marks).expect("a sample");
         let layer_of = |index: usize| depth - 1 - (index as u64 + 1) / 2;
@@ -116,8 +116,13 @@ fn proofs_say_where_they_break() {
 #[test]
 fn every_stop_comes() {
     let (volume, table, coded) = coded(1);
-    assert_eq!(cedunmi::house_table(6), Err(Stop::WrongDepth));
+    assert_eq!(cedunmi::house_table(10), Err(Stop::WrongDepth));
+    assert_eq!(cedunmi::house_table(0), Err(Stop::WrongDepth));
     assert_eq!(cedunmi::code(1 << 32 | 1, &table, &volume), Err(Stop::WrongDepth));
+    assert_eq!(cedunmi::code(1 << 32 | 9, &table, &volume), Err(Stop::WrongDepth));
+    let long = vec![0; cedunmi::TABLE_BYTES_MAX + 4];
+    assert_eq!(cedunmi::check_table(1, &long), Err(Stop::WrongLength));
+    assert_eq!(cedunmi::check_table(1, &long[4..]), Err(Stop::WrongTable { word: 0 }));
     assert_eq!(cedunmi::code(1, &table, &volume[1..]), Err(Stop::WrongLength));
     assert_eq!(cedunmi::sha256(&vec![0; cedunmi::MESSAGE_MAX + 1]), Err(Stop::WrongLength));
     assert_eq!(cedunmi::check_table(1, &table[..240]), Err(Stop::WrongTable { word: 60 }));
@@ -152,4 +157,35 @@ fn uncovered_tables_are_not_taken() {
     assert_eq!(cedunmi::check_proof(1, &coded.root, &table, &[0; 780]), Err(stop));
     assert_eq!(cedunmi::repair(1, &coded.root, &table, &mut tree, &mut marks), Err(stop));
     assert_eq!((tree, marks), (coded.tree, vec![2; 16]));
+}
+
+/// The calls of a depth on a thread that has just the stack that the depth needs, and some for the crate's own
+/// functions: a tree is coded, lost in part, repaired to the fault that another table sees in it, and read.
+fn on_little_stack(depth: u64) {
+    let (volume, mut table, mut coded) = coded(depth);
+    let sample = cedunmi::take_sample(depth, 7, &coded.tree, &coded.marks).expect("a sample");
+    assert_eq!(cedunmi::check_sample(depth, 7, &coded.root, &sample), Ok(()));
+    coded.marks.iter_mut().step_by(7).for_each(|mark| *mark = 0);
+    let end = cedunmi::repair(depth, &coded.root, &table, &mut coded.tree, &mut coded.marks);
+    assert_eq!(end.map(|repaired| repaired.end), Ok(End::Whole));
+    assert_eq!(cedunmi::read_block(depth, &coded.tree, &coded.marks), Ok(volume));
+    let member = table.len() - 4 * 5 + 3;
+    assert_eq!(std::mem::replace(&mut table[member], 1), 2);
+    let end = cedunmi::repair(depth, &coded.root, &table, &mut coded.tree, &mut coded.marks);
+    match end.expect("an end").end {
+        End::Fault { proof } => {
+            assert_eq!(cedunmi::check_proof(depth, &coded.root, &table, &proof), Ok(()));
+        }
+        other => panic!("{other}"),
+    }
+}
+
+#[test]
+fn the_stack_that_a_depth_needs_is_enough() {
+    for depth in 1..=9 {
+        let needed = Depth::new(depth).expect("a depth").stack_bytes();
+        let thread = std::thread::Builder::new().stack_size(needed + 65_536);
+        let made = thread.spawn(move || on_little_stack(depth)).expect("a thread");
+        made.join().expect("every call as it should be");
+    }
 }

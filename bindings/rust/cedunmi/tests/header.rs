@@ -20,6 +20,7 @@ static void depth_sizes(unsigned depth)
     SIZE("block", CMT_BLOCK_BYTES(depth));
     SIZE("sample", CMT_SAMPLE_BYTES(depth));
     SIZE("output", CMT_OUTPUT_BYTES(depth));
+    SIZE("stack", CMT_STACK_BYTES_AT(depth));
 }
 
 int main(void)
@@ -40,6 +41,8 @@ int main(void)
     SIZE("table max", CMT_TABLE_BYTES_MAX);
     SIZE("head", CMT_PROOF_HEAD_BYTES);
     SIZE("twins", CMT_TWINS_BYTES);
+    SIZE("stack", CMT_STACK_BYTES);
+    SIZE("deep", CMT_STACK_BYTES_DEEP);
     return 0;
 }
 "#;
@@ -73,10 +76,12 @@ fn by_this_crate() -> String {
         let _ = writeln!(text, "table {}\nmarks {}", depth.house_table_bytes(), depth.symbols());
         let _ = writeln!(text, "tree {}\nblock {}", depth.tree_bytes(), depth.block_bytes());
         let _ = writeln!(text, "sample {}\noutput {}", depth.sample_bytes(), depth.output_bytes());
+        let _ = writeln!(text, "stack {}", depth.stack_bytes());
     }
     let _ = writeln!(text, "message {}\ndigest {}", cedunmi::MESSAGE_MAX, cedunmi::DIGEST_BYTES);
     let _ = writeln!(text, "root {}\ntable max {}", cedunmi::ROOT_BYTES, cedunmi::TABLE_BYTES_MAX);
     let _ = writeln!(text, "head {}\ntwins {}", cedunmi::PROOF_HEAD_BYTES, cedunmi::TWINS_BYTES);
+    let _ = writeln!(text, "stack {}\ndeep {}", cedunmi::STACK_BYTES, cedunmi::STACK_BYTES_DEEP);
     text
 }
 
