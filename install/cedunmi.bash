@@ -28,7 +28,7 @@ _cedunmi_argument() {
     explain:0) _cedunmi_words '0 1 2 3 4 5 6 7 8 9 10 30 31 32 33 64 65 66 70 73 74' ;;
     root:* | typed:* | sha256:*) ;;
     help:* | explain:* | sample:1 | check-sample:1) _cedunmi_words '' ;;
-    *:0) _cedunmi_words '1 2 3 4 5' ;;
+    *:0) _cedunmi_words '1 2 3 4 5 6 7 8 9' ;;
     esac
 }
 

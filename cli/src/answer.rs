@@ -183,7 +183,7 @@ mod tests {
     #[test]
     fn stops() {
         let stops = [
-            (Stop::WrongDepth, "the depth is not 1 to 5"),
+            (Stop::WrongDepth, "the depth is not 1 to 9"),
             (Stop::WrongLength, "a length is wrong"),
             (Stop::WrongTable { word: 61 }, "the table breaks a rule: word 61 is the first wrong one, or the table ends there"),
             (Stop::WrongMark { place: 3 }, "a mark is neither 0 nor 1: that of page 3 is the lowest such"),

@@ -10,7 +10,7 @@ const TO_DO: &[(u8, &str)] = &[
     (2, "the lines after it say which file has how many bytes, and how many it should have"),
     (3, "get the table again: another copy, or by cedunmi table where it is the house table"),
     (4, "the marks file is damaged: set that page's mark to 0, and repair"),
-    (5, "give a number below 16, 32, 64, 128, 256 at depth 1, 2, 3, 4, 5"),
+    (5, "give a number below 16, 32, 64, 128, 256, 512, 1024, 2048, 4096 at depth 1 to 9"),
     (6, "turn the proof down, unless depth and table are not the manual's"),
     (7, "see that DEPTH and ROOT are the manual's, for a proof TABLE too, and that a sample is that of NUMBER; then ask again for the page that the second line says, put it at the bytes that it names, and check again. Turn down what does not come right: it is damaged, or of another volume"),
     (8, "turn the proof down: the volume stays in the catalogue"),

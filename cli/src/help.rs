@@ -42,6 +42,37 @@ pub fn of(command: &str) -> String {
 #[cfg(test)]
 mod tests {
     use super::*;
+    use cedunmi::{Depth, TABLE_BYTES_MAX};
+
+    /// The sizes of a depth, as the help and the manual page list them.
+    fn sizes(depth: Depth) -> Vec<usize> {
+        let base = depth.layers() - 1;
+        let house = depth.house_table_bytes();
+        let (tree, marks, sample) = (depth.tree_bytes(), depth.symbols(), depth.sample_bytes());
+        let (block, proof) = (depth.block_bytes(), depth.output_bytes());
+        vec![base + 1, block, house, tree, marks, sample, proof, depth.places(base).start]
+    }
+
+    /// The lines of a text that are nothing but so many numbers.
+    fn rows(text: &str, columns: usize) -> Vec<Vec<usize>> {
+        let numbers = |line: &str| line.split_whitespace().map(|word| word.parse().ok()).collect();
+        let rows = text.lines().filter_map(numbers);
+        rows.filter(|row: &Vec<usize>| row.len() == columns).collect()
+    }
+
+    #[test]
+    fn sizes_are_those_of_each_depth() {
+        let depths = (1..=Depth::MAX.layers() as u64).filter_map(Depth::new);
+        let mut listed: Vec<Vec<usize>> = depths.map(sizes).collect();
+        assert_eq!(rows(MANUAL, 8), listed);
+        listed.iter_mut().for_each(|row| row.truncate(7));
+        let page = include_str!("../../install/cedunmi.1");
+        assert_eq!(rows(page, 7), listed);
+        for text in [MANUAL, page] {
+            assert!(text.contains(&format!("is 1 to {}.", Depth::MAX.layers())));
+            assert!(text.contains(&format!("to {TABLE_BYTES_MAX} ")));
+        }
+    }
 
     #[test]
     fn commands_have_their_lines() {

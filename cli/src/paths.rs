@@ -303,7 +303,7 @@ mod tests {
         let of_sample = |stop, depth| of_sample(stop, depth, 50, &root, file(&sample));
         assert!(of_sample(at(3, None), 3).is_none());
         assert!(of_sample(Stop::NoFault, 3).is_none());
-        assert!(of_sample(at(2, None), 6).is_none());
+        assert!(of_sample(at(2, None), 10).is_none());
         let of_proof = |stop, proof| of_proof(stop, 3, &root, &table, file(proof));
         assert!(of_proof(at(0, Some(0)), &[]).is_none());
         assert!(of_proof(at(0, None), &[0; 268]).is_none());
