@@ -5,9 +5,9 @@ import shlex
 import struct
 
 import by_hand
+from by_hand import DEPTHS
 from room import Coded, contents, need, put, slurp, table_leaving, volume_of
 
-DEPTHS = (1, 2, 3, 4, 5)
 STATUSES = [0, 1, 2, 3, 4, 5, 6, 7, 8, 9, 10, 30, 31, 32, 33, 64, 65, 66, 70, 73, 74]
 COMMANDS = ["table", "check-table", "code", "root", "typed", "sample", "check-sample", "check",
             "repair", "check-proof", "read", "explain", "sha256", "help"]
@@ -114,12 +114,20 @@ def test_numbers(room):
     put("harmed", coded.tree[:900] + b"x" + coded.tree[901:])
     tree = ("tree", "marks")
     for status, said, words in [
-            (1, "depth", ("table", 6, "none")), (1, "depth", ("table", 0, "none")),
+            (1, "depth", ("table", 10, "none")), (1, "depth", ("table", 0, "none")),
             (1, "depth", ("table", 4294967297, "none")), (1, "depth", ("table", 1000, "none")),
-            (1, "depth", ("code", 6, "table", "volume", "none")),
-            (1, "depth", ("check", 6, "root", "table", *tree)),
-            (1, "depth", ("read", 6, "root", "table", *tree, "none")),
-            (1, "depth", ("check-table", 6, "table")),
+            (1, "depth is not 1 to 9", ("table", 4294967305, "none")),
+            (1, "depth", ("code", 10, "table", "volume", "none")),
+            (1, "depth", ("check", 10, "root", "table", *tree)),
+            (1, "depth", ("repair", 10, "root", "table", *tree, "none")),
+            (1, "depth", ("read", 10, "root", "table", *tree, "none")),
+            (1, "depth", ("read", "--unverified", 10, *tree, "none")),
+            (1, "depth", ("sample", 10, 3, *tree, "none")),
+            (1, "depth", ("check-sample", 10, 3, "root", "sample")),
+            (1, "depth", ("check-proof", 10, "root", "table", "volume")),
+            (1, "depth", ("check-table", 10, "table")),
+            (2, "a tree of depth 6 has 258048\n", ("check", 6, "root", "table", *tree)),
+            (2, "a volume of depth 9 has 262144\n", ("code", 9, "table", "volume", "none")),
             (3, "word 1 ", ("code", 1, "bad", "volume", "none")),
             (3, "word 1 ", ("check-table", 1, "bad")), (3, "", ("check-table", 2, "table")),
             (3, "word 1 ", ("check", 1, "root", "bad", *tree)),
@@ -129,7 +137,7 @@ def test_numbers(room):
             (4, "3", ("read", 1, "root", "table", "tree", "marked", "none")),
             (4, "3", ("read", "--unverified", 1, "tree", "marked", "none")),
             (4, "3", ("sample", 1, 0, "tree", "marked", "none")),
-            (5, "", ("sample", 1, 16, *tree, "none")),
+            (5, "numbers 0 to 15\n", ("sample", 1, 16, *tree, "none")),
             (5, "", ("sample", 1, 4294967296, *tree, "none")),
             (5, "", ("check-sample", 1, 16, "root", "sample")),
             (7, "", ("check-sample", 1, 4, "root", "sample")),

@@ -3,9 +3,12 @@
 The tests compare with it what the program writes and prints. It shares no code with the library.
 """
 import hashlib
+import heapq
 import struct
+from collections import Counter
 
 PAGE = 256
+DEPTHS = range(1, 10)
 WHOLE, FAULT, UNAVAILABLE = 0, 1, 2
 
 
@@ -28,7 +31,7 @@ def lengths(depth):
     """The bytes of each kind of file; of a table and a proof, of the longest."""
     marks = first(depth)
     return {"volume": 512 << depth, "tree": PAGE * marks, "marks": marks, "root": 512,
-            "sample": PAGE * (2 * depth - 1), "table": 16384, "proof": 12 + PAGE * (8 * depth - 1)}
+            "sample": PAGE * (2 * depth - 1), "table": 220792, "proof": 12 + PAGE * (8 * depth - 1)}
 
 
 def house_members(layer, equation):
@@ -78,9 +81,9 @@ def uncovered(table):
     """The first layer that has a data page in fewer than two equations, and its lowest such page;
     None where there is no such page."""
     for layer, equations in enumerate(equations_of(table)):
-        members = [i for equation in equations for i in equation]
+        held = Counter(i for equation in equations for i in equation)
         for page in range(4 << layer):
-            if members.count(page) < 2:
+            if held[page] < 2:
                 return layer, page
     return None
 
@@ -277,24 +280,33 @@ class Repair:
 
     def peel(self, layer, equations):
         """Takes the lowest equation with at most one absent member, until there is none."""
-        low, unused = first(layer), dict(enumerate(equations))
-        while self.end == WHOLE:
-            for number, members in unused.items():
-                absent = [i for i in members if not self.marks[low + i]]
-                if len(absent) < 2:
-                    break
-            else:
-                return
-            withheld = absent[0] if absent else members[-1]
+        low = first(layer)
+        absent = [[i for i in members if not self.marks[low + i]] for members in equations]
+        ready = [number for number, gone in enumerate(absent) if len(gone) < 2]
+        while ready and self.end == WHOLE:
+            number = heapq.heappop(ready)
+            members, gone = equations[number], absent[number]
+            withheld = gone[0] if gone else members[-1]
             others = [i for i in members if i != withheld]
             formed = xor(self.tree[low + i] for i in others)
             if digest(formed) != self.committed(layer, withheld):
                 self.end = FAULT
                 self.proof = self.prove(layer, number, withheld, others)
-            elif absent:
+            elif gone:
                 self.tree[low + withheld], self.marks[low + withheld] = formed, 1
                 self.stored += 1
-            del unused[number]
+                for other in self.given(absent, withheld):
+                    heapq.heappush(ready, other)
+
+    @staticmethod
+    def given(absent, page):
+        """Takes a page that is there now from the absent members of equations; gives those
+        equations that have one left."""
+        for number, gone in enumerate(absent):
+            if page in gone:
+                gone.remove(page)
+                if len(gone) == 1:
+                    yield number
 
     def path(self, layer, number):
         """The pages that lead from a page to the root."""

@@ -84,7 +84,8 @@ def test_endless(room):
 def test_one_over(room):
     """One byte over the longest of each kind is refused; the longest table is read whole."""
     Coded(1).lay()
-    for length, status in ((16384, 3), (16385, 2), (16388, 2), (16380, 3)):
+    for length, status in ((220792, 3), (220793, 2), (220796, 2), (220788, 3), (16384, 3),
+                           (16388, 3), (16385, 2)):
         put("long", bytes(length))
         room.refused(status, "check-table", 1, "long")
         room.refused(status, "check-table", 1, "-", given=bytes(length))
@@ -96,9 +97,9 @@ def test_one_over(room):
 
 def test_little_memory(room):
     """At the largest depth, every file at its longest, little memory is enough."""
-    Coded(5).harm(bad=range(300, 330)).lay()
-    for words in (("check", 5, *WHOLE), ("read", 5, *WHOLE, "volume2"),
-                  ("repair", 5, *WHOLE, "made")):
+    Coded(9).harm(bad=range(5000, 5030)).lay()
+    for words in (("check", 9, *WHOLE), ("read", 9, *WHOLE, "volume2"),
+                  ("repair", 9, *WHOLE, "made")):
         room.ends((0, 30), *words, limits=[(resource.RLIMIT_AS, 64 << 20)])
     put("megabyte", bytes(1 << 20))
     room.ends(0, "sha256", "megabyte", limits=[(resource.RLIMIT_AS, 64 << 20)])

@@ -39,6 +39,16 @@ def saying(edit):
 TELLING_LATER = '"$real" "$@" >told; status=$?; cat told 2>/dev/null; exit $status'
 SCRIPTS = [
     ("careless", "basics.numbers", '"$real" "$@"; exit 0'),
+    ("shallow", "basics.every_depth",
+     'case " $* " in *" "[6-9]" "*) echo "cedunmi: the depth is not 1 to 5" >&2; exit 1 ;; esac'),
+    ("bottomless", "basics.numbers",
+     '[ "$1 $2" = "table 10" ] && exec "$real" table 9 "$last"'),
+    ("low-capped", "caps.one_over",
+     'for file; do [ ! -f "$file" ] || [ "$(wc -c <"$file")" -le 16384 ] || '
+     '{ echo "cedunmi: a length is wrong" >&2; exit 2; }; done'),
+    ("short-numbered", "reports.deeper",
+     '[ "$command" = check ] && { "$real" "$@" >told; status=$?; '
+     r'sed "s/ 4\([0-9][0-9][0-9]\)/ \1/g" told; rm told; exit $status; }'),
     ("miscounting", "basics.uncovered_tables",
      saying("s/in equation [0-9]* alone/in no equation/")),
     ("parent-asking", "paths.samples",

@@ -2,9 +2,16 @@
 import random
 
 import by_hand
+from by_hand import DEPTHS
 from room import Coded, need, put
 
-DEPTHS = (1, 2, 3, 4, 5)
+
+
+def laid(coded):
+    """Puts the files here that a check needs, root and table, beside what it checks."""
+    put("root", coded.root)
+    put("table", coded.table)
+    return coded
 
 
 def changed(data, *places):
@@ -33,19 +40,24 @@ def proof_broken(room, coded, proof, root="root"):
     return lines
 
 
+def some(depth, slots, step):
+    """The hashes of which a byte is changed: all, and at greater depths one in so many."""
+    return range(slots) if depth < 6 else range(depth % step, slots, step)
+
+
 def test_samples(room):
     """Each page of a sample with a byte changed in each of its eight hashes, or two pages."""
     chance, told = random.Random(4), []
     for depth in DEPTHS:
-        coded = Coded(depth, 15).lay()
+        coded = laid(Coded(depth, 15))
         for number in chance.sample(range(8 << depth), 2):
             sample = by_hand.sample(depth, number, coded.tree)
-            for slot in range(len(sample) // 32):
+            for slot in some(depth, len(sample) // 32, 3):
                 places = [32 * slot + chance.randrange(32)]
                 places += [chance.randrange(len(sample))] * chance.randrange(2)
                 told.append(sample_broken(room, coded, number, changed(sample, *places)))
-    for layer in range(5):
-        need(sum(" of layer %d (number 7" % layer in lines for lines in told) > 10, "layer", layer)
+    for layer in range(max(DEPTHS)):
+        need(sum(" of layer %d (number 7" % layer in lines for lines in told) > 5, "layer", layer)
     for words in ("the root has", "and leads to the root", "but doesn't lead to the root"):
         need(sum(words in lines for lines in told) > 10, words)
 
@@ -54,7 +66,7 @@ def test_two_pages(room):
     """Data page and parity page of each layer at once, by the page above or by themselves; with
     another root; with another number."""
     for depth in DEPTHS:
-        coded = Coded(depth, 16).lay()
+        coded = laid(Coded(depth, 16))
         for number in (0, 5, (8 << depth) - 1):
             sample = by_hand.sample(depth, number, coded.tree)
             for index in range(1, 2 * depth - 1, 2):
@@ -73,7 +85,7 @@ def test_two_pages(room):
 def test_other_numbers(room):
     """A sample under each number that is not its own: it breaks at any layer, and what is to be
     asked for depends on the number in each."""
-    coded = Coded(5, 21).lay()
+    coded = laid(Coded(5, 21))
     sample = by_hand.sample(5, 200, coded.tree)
     told = [sample_broken(room, coded, i, sample) for i in range(256) if i != 200]
     for layer, count in enumerate((3, 4, 8, 16, 224)):
@@ -87,7 +99,7 @@ def test_other_tables(room):
     its own layer, and what is to be asked for depends on the table."""
     for depth in DEPTHS:
         base, equations = depth - 1, by_hand.house_equations(depth)
-        coded = Coded(depth, 22).lay()
+        coded = laid(Coded(depth, 22))
         members = equations[base][9]
         proof = coded.repair().prove(base, 9, members[-1], members[:-1])
         data = sorted((i + (2 << base)) % (4 << base) for i in members[:2])
@@ -102,13 +114,13 @@ def test_proofs(room):
     """Each page of a proof with a byte changed in each hash: members, paths, the withheld one's."""
     chance, told = random.Random(5), []
     for depth in DEPTHS:
-        coded = Coded(depth, 18).lay()
+        coded = laid(Coded(depth, 18))
         for layer in sorted({0, depth // 2, depth - 1}):
             equation = chance.randrange(12 << layer)
             others = list(by_hand.house_members(layer, equation))
             withheld = others.pop(chance.randrange(len(others)))
             proof = coded.repair().prove(layer, equation, withheld, others)
-            for slot in range((len(proof) - 12) // 32):
+            for slot in some(depth, (len(proof) - 12) // 32, 9):
                 place = 12 + 32 * slot + chance.randrange(32)
                 told.append(proof_broken(room, coded, changed(proof, place)))
     for words in (", a given member (", ", in the path of member ", "the withheld member ",
@@ -120,7 +132,7 @@ def test_first_member(room):
     """Of several members whose ways break, and with another root, the first in the proof's order is
     named; in a proof of layer 0 the withheld one has no path."""
     for depth in DEPTHS:
-        wrong = Coded(depth, 19).wrong_seven().lay()
+        wrong = laid(Coded(depth, 19).wrong_seven())
         proof = wrong.repair().proof
         proof_broken(room, wrong, changed(proof, 12 + 256, 12 + 512))
         proof_broken(room, wrong, changed(proof, len(proof) - 1))

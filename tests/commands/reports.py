@@ -1,6 +1,7 @@
 """What check, repair and read make of damage: report, status and files beside those by hand."""
 import os
 import random
+import shutil
 
 import by_hand
 from room import Coded, another_table, contents, need, put, slurp, snapshot, unchanged
@@ -57,7 +58,7 @@ def test_the_report_of_the_manual(room):
 
 def test_no_damage(room):
     """A whole tree: status 0, nothing stored."""
-    for depth in (1, 2, 3, 4, 5):
+    for depth in by_hand.DEPTHS:
         need(compare(room, Coded(depth, 5)) == by_hand.WHOLE, "a whole tree")
 
 
@@ -74,14 +75,43 @@ def test_damage(room):
     need(10 < ends.count(by_hand.WHOLE) and 5 < ends.count(by_hand.UNAVAILABLE), "ends:", ends)
 
 
+def test_deeper(room):
+    """Absent pages and bad copies in every layer of deeper trees: little, and too much for the
+    base alone."""
+    chance = random.Random(16)
+    for depth in (6, 7, 8, 9):
+        base = by_hand.first(depth - 1)
+        for share, end in ((0.1, by_hand.WHOLE), (0.7, by_hand.UNAVAILABLE)):
+            hit = [p for p in range(by_hand.first(depth))
+                   if chance.random() < (share if p >= base else 0.05)]
+            bad = [p for p in hit if chance.random() < 0.4]
+            found = compare(room, Coded(depth, depth).harm(set(hit) - set(bad), bad))
+            need(found == end, "end", found, "at depth", depth, "with", share)
+
+
 def test_faults(room):
     """A volume coded wrongly, at the top and in the base, with and without damage."""
-    for depth in (1, 2, 3, 4, 5):
+    for depth in by_hand.DEPTHS:
         need(compare(room, Coded(depth, 6).wrong_seven()) == by_hand.FAULT, "no fault")
         compare(room, Coded(depth, 7).wrong_seven().harm(absent=[4], bad=[9, 12]))
         other = Coded(depth, 8)
         other.table = another_table(depth)
         need(compare(room, other) == by_hand.FAULT, "no fault by another table")
+
+
+def test_longest_proofs(room):
+    """The longest proof of each depth, of an equation of eight members in the base, is written and
+    accepted."""
+    for depth in by_hand.DEPTHS:
+        k, equations = 2 << depth, by_hand.house_equations(depth)
+        equations[-1][-1] = [0, 1, 2] + list(range(4 * k - 5, 4 * k))
+        coded = Coded(depth, 23)
+        coded.table = by_hand.table_of(equations)
+        need(compare(room, coded) == by_hand.FAULT, "no fault by eight members")
+        room.ends(31, "repair", depth, *WHOLE, "made")
+        need(len(slurp("made/proof")) == by_hand.lengths(depth)["proof"], "the longest proof")
+        room.ends(0, "check-proof", depth, "root", "table", "made/proof")
+        shutil.rmtree("made")
 
 
 def test_proofs_are_accepted(room):
