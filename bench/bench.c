@@ -21,7 +21,7 @@ static const char usage[] =
     "bench sample DEPTH NUMBER ROOT SAMPLE    check a sample of a base page\n"
     "bench proof DEPTH ROOT TABLE PROOF       check a fault proof\n"
     "\n"
-    "DEPTH 1 to 5; NUMBER a decimal number too; the others are files. DEPTH, ROOT and TABLE must come from where\n"
+    "DEPTH 1 to 9; NUMBER a decimal number too; the others are files. DEPTH, ROOT and TABLE must come from where\n"
     "they can be trusted. Exit status: 0 accepted; 1 to 8 and 10 not, and why not; 64 bad usage; 66 a\n"
     "file cannot be read. At 7 it says the layer of the page that doesn't fit, and of a proof the position of the\n"
     "member on whose way up it is, the withheld one last. That page, or one above it, is to be asked for again:\n"

@@ -1,7 +1,8 @@
 /*
  * Writes the files of the example of docs/FORMAT.md into the current folder:
  * the volume of depth 2, a sample of its base symbol 17, and the root and the
- * fault proof of the same volume coded wrongly.
+ * fault proof of the same volume coded wrongly. And of a volume of depth 9 the
+ * root, a sample of its last base symbol, and the fault proof by another table.
  */
 #include "volume.h"
 
@@ -10,7 +11,7 @@
 enum { DEPTH = 2, NUMBER = 17, TABLE = CMT_HOUSE_TABLE_BYTES(DEPTH), SECOND_MEMBER = 4 * (60 + 3) };
 
 static struct volume volume;
-static uint8_t sample[CMT_SAMPLE_BYTES(DEPTH)];
+static uint8_t sample[CMT_SAMPLE_BYTES(CMT_DEPTH_MAX)];
 
 static int save(const char *name, const uint8_t *bytes, size_t len)
 {
@@ -28,11 +29,11 @@ static int save_right(void)
 {
     return volume_begin(&volume, DEPTH) == CMT_DONE && volume_write(&volume) == CMT_DONE &&
            cmt_sample_take(DEPTH, NUMBER, volume.tree, CMT_TREE_BYTES(DEPTH), volume.marks,
-                           CMT_MARKS_BYTES(DEPTH), sample, sizeof sample) == CMT_DONE &&
+                           CMT_MARKS_BYTES(DEPTH), sample, CMT_SAMPLE_BYTES(DEPTH)) == CMT_DONE &&
            save("block", volume.block, CMT_BLOCK_BYTES(DEPTH)) &&
            save("table", volume.table, TABLE) && save("root", volume.root, sizeof volume.root) &&
            save("tree", volume.tree, CMT_TREE_BYTES(DEPTH)) &&
-           save("sample", sample, sizeof sample);
+           save("sample", sample, CMT_SAMPLE_BYTES(DEPTH));
 }
 
 /* Coded with {0, 2, 8} as the base's equation 0, which is {0, 1, 8}. */
@@ -47,9 +48,22 @@ static int save_wrong(void)
            save("proof", volume.output, cmt_repair_proof_bytes(result));
 }
 
+/* By a table that differs from the house table in its last equation, the volume of depth 9 has a fault. */
+static int save_deepest(void)
+{
+    int written = volume_begin(&volume, 9) == CMT_DONE && volume_write(&volume) == CMT_DONE &&
+                  cmt_sample_take(9, 4095, volume.tree, CMT_TREE_BYTES(9), volume.marks, CMT_MARKS_BYTES(9), sample,
+                                  CMT_SAMPLE_BYTES(9)) == CMT_DONE;
+    volume_change_table(&volume);
+    uint64_t result = volume_repair(&volume);
+    return written && cmt_repair_end(result) == CMT_FAULT && save("root-9", volume.root, sizeof volume.root) &&
+           save("table-9", volume.table, CMT_HOUSE_TABLE_BYTES(9)) && save("sample-9", sample, CMT_SAMPLE_BYTES(9)) &&
+           save("proof-9", volume.output, cmt_repair_proof_bytes(result));
+}
+
 int main(void)
 {
-    if (!save_right() || !save_wrong()) {
+    if (!save_right() || !save_wrong() || !save_deepest()) {
         fprintf(stderr, "files: not written\n");
         return 1;
     }
