@@ -1,7 +1,8 @@
 /*
  * Tables that leave a data page in fewer than two equations of its layer, lent to
  * the four calls that take a table: each stops with 10 and its two values, after 3
- * and before all that follows 3, and leaves every buffer as it was.
+ * and before all that follows 3, and leaves every buffer as it was. And the longest
+ * tables that there are, which are taken.
  */
 #include "parts.h"
 #include "volume.h"
@@ -136,6 +137,76 @@ static int others_come_first(void)
                       sizeof volume.marks, volume.output, sizeof volume.output) == CMT_WRONG_DEPTH;
 }
 
+/* The longest table of a depth, and room for one word more than a call takes. */
+static uint8_t longest[CMT_TABLE_BYTES_MAX + 4];
+static size_t words;
+
+static void put_word(uint32_t kind, size_t value)
+{
+    const uint32_t word = kind << 30 | (uint32_t)value;
+    for (size_t i = 0; i < 4; i++) {
+        longest[4 * words + i] = (uint8_t)(word >> (24 - 8 * i));
+    }
+    words++;
+}
+
+/* Eight members: seven data pages, the next equation the next seven, and its own; in layer 0 all four data pages, and
+ * up to three of the parity before its own. */
+static void put_equation(size_t k, size_t equation)
+{
+    const size_t parity = equation < 3 ? equation : 3, from = 7 * equation % k, past = from + 7;
+    put_word(2, equation);
+    for (size_t page = 0; page < k; page++) {
+        if (k == 4 || (page >= from && page < past) || page + k < past) {
+            put_word(0, page);
+        }
+    }
+    for (size_t i = k == 4 ? parity : 0; i > 0; i--) {
+        put_word(0, k + equation - i);
+    }
+    put_word(0, k + equation);
+}
+
+static void put_longest(uint64_t depth)
+{
+    words = 0;
+    for (uint64_t layer = 0; layer < depth; layer++) {
+        const size_t k = (size_t)4 << layer;
+        put_word(1, (size_t)layer);
+        for (size_t equation = 0; equation < 3 * k; equation++) {
+            put_equation(k, equation);
+        }
+    }
+    put_word(3, words);
+}
+
+/* Of each depth it has the words that docs/FORMAT.md says, codes a volume and repairs it. A word after its end is wrong,
+ * and so it is when it is filled up to the longest that is read; one word more is a wrong length. */
+static int longest_are_taken(void)
+{
+    int right = 1;
+    for (uint64_t depth = 1; depth <= CMT_DEPTH_MAX; depth++) {
+        const size_t tree = CMT_TREE_BYTES(depth), marks = CMT_MARKS_BYTES(depth);
+        memset(longest, 0, sizeof longest);
+        put_longest(depth);
+        right &= words == 108 * (((size_t)1 << depth) - 1) + depth - 5;
+        right &= volume_begin(&volume, depth) == CMT_DONE && cmt_table_check(depth, longest, 4 * words) == CMT_DONE &&
+                 cmt_tree_write(depth, longest, 4 * words, volume.block, CMT_BLOCK_BYTES(depth), volume.tree, tree,
+                                volume.marks, marks, volume.root, sizeof volume.root) == CMT_DONE;
+        memcpy(&before, &volume, sizeof before);
+        volume.marks[marks - 1] = 0;
+        volume.tree[0] ^= 1;
+        uint64_t result = cmt_repair(depth, volume.root, sizeof volume.root, longest, 4 * words, volume.tree, tree,
+                                     volume.marks, marks, volume.output, CMT_OUTPUT_BYTES(depth));
+        right &= cmt_number(result) == CMT_DONE && cmt_repair_end(result) == CMT_WHOLE && cmt_repair_stored(result) == 2 &&
+                 memcmp(&before, &volume, sizeof before) == 0;
+        right &= cmt_table_check(depth, longest, 4 * words + 4) == CMT_WRONG_TABLE + 256 * words;
+        right &= cmt_table_check(depth, longest, CMT_TABLE_BYTES_MAX) == CMT_WRONG_TABLE + 256 * words;
+        right &= cmt_table_check(depth, longest, CMT_TABLE_BYTES_MAX + 4) == CMT_WRONG_LENGTH;
+    }
+    return right && 4 * words == 220768;
+}
+
 int main(void)
 {
     static const struct part parts[] = {
@@ -143,6 +214,7 @@ int main(void)
         {"the page that is named", first_is_named},
         {"the calls that take a table", every_call_stops},
         {"the tests that come first", others_come_first},
+        {"the longest tables", longest_are_taken},
     };
     return run_parts("coverage", parts, sizeof parts / sizeof *parts);
 }
