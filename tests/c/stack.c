@@ -123,6 +123,11 @@ static void long_proof_check(void)
                           CMT_PROOF_BYTES(0, 4)));
 }
 
+static void long_house_table(void)
+{
+    gives(cmt_house_table(depth_asked, long_table, sizeof long_table));
+}
+
 /* The bytes of stack that `call` uses, where they differ from `fill`. */
 static size_t used_over(void (*call)(void), uint8_t fill)
 {
@@ -166,8 +171,9 @@ static const struct measured calls[] = {
     {"cmt_repair", repair_whole},
 };
 
-/* Those that take a table: refused, with the longest that may be lent. */
+/* Those that take or write a table: refused, with the longest that may be lent. */
 static const struct measured refused[] = {
+    {"cmt_house_table, refused", long_house_table},
     {"cmt_table_check, refused", long_check},
     {"cmt_tree_write, refused", long_write},
     {"cmt_repair, refused", long_repair},
@@ -222,7 +228,8 @@ static int refused_over(void)
         found |= any_over("no such depth: ", refused, count, CMT_WRONG_DEPTH, CMT_STACK_BYTES);
     }
     depth_asked = 3;
-    found |= any_over("depth 3, a table of depth 9: ", refused, count, CMT_WRONG_TABLE + 256 * opens, CMT_STACK_BYTES);
+    found |= any_over("depth 3, a table of depth 9: ", refused, 1, CMT_WRONG_LENGTH, CMT_STACK_BYTES);
+    found |= any_over("depth 3, a table of depth 9: ", refused + 1, count - 1, CMT_WRONG_TABLE + 256 * opens, CMT_STACK_BYTES);
     return found;
 }
 
