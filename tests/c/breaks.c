@@ -175,13 +175,6 @@ static int of_samples_by_the_root(void)
     return right;
 }
 
-/* Writes a big-endian word of a kind at a place of the proof's head. */
-static void head_word(size_t at, uint8_t kind, size_t value)
-{
-    const uint8_t word[4] = {(uint8_t)(kind << 6), 0, (uint8_t)(value >> 8), (uint8_t)value};
-    memcpy(volume.output + 4 * at, word, sizeof word);
-}
-
 /* Puts a page of a layer, and then those above it, into the proof at a place, and gives the place after them. */
 static size_t put_path(size_t at, uint64_t layer, size_t page)
 {
@@ -197,9 +190,9 @@ static size_t put_path(size_t at, uint64_t layer, size_t page)
 static size_t put_proof(uint64_t layer, size_t equation, const size_t *members, size_t withheld)
 {
     size_t at = CMT_PROOF_HEAD_BYTES;
-    head_word(0, 1, (size_t)layer);
-    head_word(1, 2, equation);
-    head_word(2, 3, members[withheld]);
+    put_word(volume.output, 0, 1, (size_t)layer);
+    put_word(volume.output, 1, 2, equation);
+    put_word(volume.output, 2, 3, members[withheld]);
     for (size_t i = 0; i < MEMBERS; i++) {
         at = i == withheld ? at : put_path(at, layer, members[i]);
     }

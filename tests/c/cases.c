@@ -113,7 +113,7 @@ static int case_7_absent(void)
 /* Whether every call that takes a depth stops with 1 at this one. */
 static int stops_at(uint64_t depth)
 {
-    uint8_t sample[CMT_SAMPLE_BYTES(1)];
+    uint8_t sample[CMT_SAMPLE_BYTES(1)] = {0};
     const size_t table = CMT_HOUSE_TABLE_BYTES(1), tree = CMT_TREE_BYTES(1);
     return cmt_house_table(depth, volume.table, table) == CMT_WRONG_DEPTH &&
            cmt_table_check(depth, volume.table, table) == CMT_WRONG_DEPTH &&
@@ -141,7 +141,7 @@ static int goes_round(uint64_t depth)
 {
     static struct volume coded;
     static uint8_t sample[CMT_SAMPLE_BYTES(CMT_DEPTH_MAX)];
-    const size_t tree = CMT_TREE_BYTES(depth), marks = CMT_MARKS_BYTES(depth), last = marks / 2;
+    const size_t tree = CMT_TREE_BYTES(depth), marks = CMT_MARKS_BYTES(depth), number = marks / 2;
     int right = volume_begin(&volume, depth) == CMT_DONE && volume_write(&volume) == CMT_DONE;
     memcpy(&coded, &volume, sizeof coded);
     for (size_t place = 0; place < marks; place += 5) {
@@ -155,22 +155,13 @@ static int goes_round(uint64_t depth)
            memcmp(volume.marks, coded.marks, marks) == 0 &&
            cmt_block_read(depth, volume.tree, tree, volume.marks, marks, volume.block, CMT_BLOCK_BYTES(depth)) == CMT_DONE &&
            memcmp(volume.block, coded.block, CMT_BLOCK_BYTES(depth)) == 0 &&
-           cmt_sample_take(depth, last, volume.tree, tree, volume.marks, marks, sample, CMT_SAMPLE_BYTES(depth)) == CMT_DONE &&
-           cmt_sample_check(depth, last, volume.root, sizeof volume.root, sample, CMT_SAMPLE_BYTES(depth)) == CMT_DONE;
+           cmt_sample_take(depth, number, volume.tree, tree, volume.marks, marks, sample, CMT_SAMPLE_BYTES(depth)) == CMT_DONE &&
+           cmt_sample_check(depth, number, volume.root, sizeof volume.root, sample, CMT_SAMPLE_BYTES(depth)) == CMT_DONE;
 }
 
 static int case_8_accepted(void)
 {
     return goes_round(6) && goes_round(7) && goes_round(8) && goes_round(9);
-}
-
-/* A word of a table, its kind and its value. */
-static void put_word(uint8_t *table, size_t word, uint32_t kind, uint32_t value)
-{
-    const uint32_t all = kind << 30 | value;
-    for (size_t i = 0; i < 4; i++) {
-        table[4 * word + i] = (uint8_t)(all >> (24 - 8 * i));
-    }
 }
 
 /* By a table whose last equation has eight members in the place of four, the volume of the house table shows a fault
@@ -179,15 +170,16 @@ static int longest_proof(uint64_t depth, size_t bytes)
 {
     static uint8_t table[CMT_HOUSE_TABLE_BYTES(CMT_DEPTH_MAX) + 16];
     const size_t words = CMT_HOUSE_TABLE_BYTES(depth) / 4;
-    const uint32_t k = (uint32_t)4 << (depth - 1), members[] = {2, 3, 4, 5, 6, k - 1, 4 * k - 2, 4 * k - 1};
+    const size_t k = (size_t)4 << (depth - 1), members[] = {2, 3, 4, 5, 6, k - 1, 4 * k - 2, 4 * k - 1};
     int right = volume_begin(&volume, depth) == CMT_DONE && volume_write(&volume) == CMT_DONE;
     memcpy(table, volume.table, 4 * words);
     for (size_t i = 0; i < 8; i++) {
         put_word(table, words - 5 + i, 0, members[i]);
     }
-    put_word(table, words + 3, 3, (uint32_t)words + 3);
-    uint64_t result = cmt_repair(depth, volume.root, sizeof volume.root, table, 4 * words + 16, volume.tree, CMT_TREE_BYTES(depth),
-                                 volume.marks, CMT_MARKS_BYTES(depth), volume.output, CMT_OUTPUT_BYTES(depth));
+    put_word(table, words + 3, 3, words + 3);
+    uint64_t result = cmt_repair(depth, volume.root, sizeof volume.root, table, 4 * words + 16, volume.tree,
+                                 CMT_TREE_BYTES(depth), volume.marks, CMT_MARKS_BYTES(depth), volume.output,
+                                 CMT_OUTPUT_BYTES(depth));
     return right && cmt_number(result) == CMT_DONE && cmt_repair_end(result) == CMT_FAULT &&
            cmt_repair_proof_bytes(result) == bytes && CMT_OUTPUT_BYTES(depth) == bytes &&
            cmt_proof_check(depth, volume.root, sizeof volume.root, table, 4 * words + 16, volume.output, bytes) == CMT_DONE;

@@ -141,13 +141,9 @@ static int others_come_first(void)
 static uint8_t longest[CMT_TABLE_BYTES_MAX + 4];
 static size_t words;
 
-static void put_word(uint32_t kind, size_t value)
+static void put_next(size_t kind, size_t value)
 {
-    const uint32_t word = kind << 30 | (uint32_t)value;
-    for (size_t i = 0; i < 4; i++) {
-        longest[4 * words + i] = (uint8_t)(word >> (24 - 8 * i));
-    }
-    words++;
+    put_word(longest, words++, kind, value);
 }
 
 /* Eight members: seven data pages, the next equation the next seven, and its own; in layer 0 all four data pages, and
@@ -155,16 +151,16 @@ static void put_word(uint32_t kind, size_t value)
 static void put_equation(size_t k, size_t equation)
 {
     const size_t parity = equation < 3 ? equation : 3, from = 7 * equation % k, past = from + 7;
-    put_word(2, equation);
+    put_next(2, equation);
     for (size_t page = 0; page < k; page++) {
         if (k == 4 || (page >= from && page < past) || page + k < past) {
-            put_word(0, page);
+            put_next(0, page);
         }
     }
     for (size_t i = k == 4 ? parity : 0; i > 0; i--) {
-        put_word(0, k + equation - i);
+        put_next(0, k + equation - i);
     }
-    put_word(0, k + equation);
+    put_next(0, k + equation);
 }
 
 static void put_longest(uint64_t depth)
@@ -172,12 +168,12 @@ static void put_longest(uint64_t depth)
     words = 0;
     for (uint64_t layer = 0; layer < depth; layer++) {
         const size_t k = (size_t)4 << layer;
-        put_word(1, (size_t)layer);
+        put_next(1, (size_t)layer);
         for (size_t equation = 0; equation < 3 * k; equation++) {
             put_equation(k, equation);
         }
     }
-    put_word(3, words);
+    put_next(3, words);
 }
 
 /* Of each depth it has the words that docs/FORMAT.md says, codes a volume and repairs it. A word after its end is wrong,

@@ -17,6 +17,15 @@ struct volume {
     uint8_t output[CMT_OUTPUT_BYTES(CMT_DEPTH_MAX)];
 };
 
+/* A word of a table or of a proof's head, at this place among its words. */
+static inline void put_word(uint8_t *words, size_t at, size_t kind, size_t value)
+{
+    const size_t word = kind << 30 | value;
+    for (size_t i = 0; i < 4; i++) {
+        words[4 * at + i] = word >> (24 - 8 * i) & 0xff;
+    }
+}
+
 CMT_CHECKED
 static inline uint64_t volume_house_table(struct volume *v)
 {
