@@ -66,8 +66,8 @@
  * Stack. A call uses at most CMT_STACK_BYTES bytes of the caller's stack at
  * depth 1 to 5, without a depth, or with one that is refused; at depth 6 to 9 it
  * uses more, at most CMT_STACK_BYTES_AT(depth). No call tests whether there is
- * room. A thread whose stack is smaller must not make deeper calls: it would
- * write beyond its stack. These figures are measured, not proved.
+ * room. A thread whose stack is smaller must not make deeper calls: it would run
+ * over the end of its stack. These figures are measured, not proved.
  */
 #ifndef CEDUNMI_H
 #define CEDUNMI_H
