@@ -1,16 +1,19 @@
-//! Checking the longest fault proof and a sample of depth 1 to 5, beside the reference and beside hashing alone.
+//! Checking the longest fault proof, with a table like the house table and with a long one, and a sample, beside the reference, beside
+//! hashing alone and beside reading the table alone.
 
+use crate::depths::{calls, depths, worst_too};
 use crate::turns::{each, shortest, Work};
-use crate::volume::{hash, long_table, Volume};
+use crate::volume::{hash, house, long, with_end, Volume};
 use reference::proof::{self, Head};
 use reference::sample;
-use reference::table::{equations, house, to_bytes};
+use reference::table::{to_bytes, write, Layers};
 
 /// The sampled base symbol.
 const NUMBER: u64 = 13;
 
-/// Checks in one trial.
-const TIMES: usize = 16;
+/// The other members in the last equation, for a tree of the house table and for one of the long table.
+const HOUSE_END: [usize; 7] = [0, 1, 2, 3, 4, 5, 7];
+const LONG_END: [usize; 7] = [1, 2, 3, 4, 5, 6, 7];
 
 /// A sample, or a proof, with the tree that it is of.
 struct Checked {
@@ -20,12 +23,12 @@ struct Checked {
 }
 
 impl Checked {
-    /// A proof of a tree that is coded by the house table, by a table whose last equation has eight members.
-    fn longest_proof(depth: usize) -> Checked {
-        let mut volume = Volume::written(depth, &house(depth));
-        volume.table = to_bytes(&long_table(depth));
-        let layers = equations(volume.depth, &volume.table).expect("a table");
-        let (layer, equation) = (depth - 1, layers[depth - 1].len() - 1);
+    /// A proof of a tree that is coded by a table, by the same table with these members beside the last one in its last equation.
+    fn longest_proof(table: Layers, members: [usize; 7]) -> Checked {
+        let mut volume = Volume::written(&table);
+        let layers = with_end(table, &members);
+        volume.table = to_bytes(&write(&layers));
+        let (layer, equation) = (layers.len() - 1, layers[layers.len() - 1].len() - 1);
         let members = &layers[layer][equation];
         let head = Head { layer, equation, withheld: members[members.len() - 1] };
         let bytes = proof::write(head, members, &volume.tree);
@@ -35,48 +38,68 @@ impl Checked {
     }
 
     fn sample(depth: usize) -> Checked {
-        let volume = Volume::written(depth, &house(depth));
+        let v = Volume::written(&house(depth));
         let mut bytes = vec![0; sample::sample_len(depth)];
-        sample::take(volume.depth, NUMBER, &volume.tree, &volume.marks, &mut bytes)
-            .expect("a sample");
-        Checked { volume, bytes, hashes: 2 * depth - 1 }
+        let taken = cedunmi_sys::cmt_sample_take(v.depth, NUMBER, &v.tree, &v.marks, &mut bytes);
+        assert_eq!(taken, 0);
+        Checked { volume: v, bytes, hashes: 2 * depth - 1 }
+    }
+
+    /// Checks in one trial.
+    fn times(&self) -> usize {
+        calls(16, self.volume.depth)
     }
 }
 
-const PROOF: [Work<Checked>; 3] = [
-    ("cedunmi", |Checked { volume: v, bytes, .. }| {
-        each(TIMES, || assert_eq!(cedunmi_sys::cmt_proof_check(v.depth, &v.root, &v.table, bytes), 0))
+const PROOF: [Work<Checked>; 4] = [
+    ("cedunmi", |c| {
+        let Checked { volume: v, bytes, .. } = &*c;
+        each(c.times(), || {
+            assert_eq!(cedunmi_sys::cmt_proof_check(v.depth, &v.root, &v.table, bytes), 0);
+        })
     }),
-    ("reference", |Checked { volume: v, bytes, .. }| {
-        each(TIMES, || assert!(proof::check(v.depth, &v.root, &v.table, bytes).is_ok()))
+    ("reference", |c| {
+        let Checked { volume: v, bytes, .. } = &*c;
+        each(c.times(), || assert!(proof::check(v.depth, &v.root, &v.table, bytes).is_ok()))
     }),
     HASHES,
+    ("reading", |c| {
+        let v = &c.volume;
+        each(c.times(), || assert_eq!(cedunmi_sys::cmt_table_check(v.depth, &v.table), 0))
+    }),
 ];
 
 const SAMPLE: [Work<Checked>; 3] = [
-    ("cedunmi", |Checked { volume: v, bytes, .. }| {
-        each(TIMES, || assert_eq!(cedunmi_sys::cmt_sample_check(v.depth, NUMBER, &v.root, bytes), 0))
+    ("cedunmi", |c| {
+        let Checked { volume: v, bytes, .. } = &*c;
+        each(c.times(), || {
+            assert_eq!(cedunmi_sys::cmt_sample_check(v.depth, NUMBER, &v.root, bytes), 0);
+        })
     }),
-    ("reference", |Checked { volume: v, bytes, .. }| {
-        each(TIMES, || assert!(sample::check(v.depth, NUMBER, &v.root, bytes).is_ok()))
+    ("reference", |c| {
+        let Checked { volume: v, bytes, .. } = &*c;
+        each(c.times(), || assert!(sample::check(v.depth, NUMBER, &v.root, bytes).is_ok()))
     }),
     HASHES,
 ];
 
-const HASHES: Work<Checked> =
-    ("hashes", |checked| each(TIMES, || hash(&checked.volume.tree, checked.hashes)));
+const HASHES: Work<Checked> = ("hashes", |c| each(c.times(), || hash(&c.volume.tree, c.hashes)));
 
 /// Prints name, what is checked, depth, its bytes and the shortest time of each over the trials, taken in turns.
 pub fn time(trials: usize) -> Result<(), String> {
-    let kinds: [(&str, fn(usize) -> Checked, _); 2] =
-        [("proof", Checked::longest_proof, &PROOF), ("sample", Checked::sample, &SAMPLE)];
-    for (what, of_depth, work) in kinds {
-        for depth in 1..=5 {
-            let mut checked = of_depth(depth);
-            for (name, best) in shortest(trials, work, &mut checked) {
-                println!("{name} {what} {depth} {} {best:.1}", checked.bytes.len());
-            }
+    for depth in depths() {
+        print(trials, "proof", &PROOF, Checked::longest_proof(house(depth), HOUSE_END));
+        if worst_too() {
+            print(trials, "long", &PROOF, Checked::longest_proof(long(depth), LONG_END));
         }
+        print(trials, "sample", &SAMPLE, Checked::sample(depth));
     }
     Ok(())
+}
+
+fn print(trials: usize, what: &str, works: &[Work<Checked>], mut checked: Checked) {
+    let depth = checked.volume.depth;
+    for (name, best) in shortest(trials, depth, works, &mut checked) {
+        println!("{name} {what} {depth} {} {best:.1}", checked.bytes.len());
+    }
 }

@@ -1,28 +1,35 @@
 //! The program that `benchmarks/run` times and counts.
 //!
-//!     benchmarks check                  whether all hashers give the same digests
+//!     benchmarks check                  whether all hashers give the same digests, and the worst tables are as they are described
 //!     benchmarks time TRIALS NAME..     prints NAME, LENGTH and the fewest nanoseconds a message
 //!     benchmarks work NAME LENGTH N     hashes N messages and prints nothing
 //!     benchmarks table TRIALS           prints NAME, WORDS and the fewest nanoseconds to read a table
 //!     benchmarks tree TRIALS            prints NAME, DEPTH, BYTES and the fewest nanoseconds to write a tree
 //!     benchmarks repair TRIALS          prints NAME, CASE, DEPTH, SYMBOLS and the fewest nanoseconds to repair a tree
-//!     benchmarks checks TRIALS          prints NAME, proof or sample, DEPTH, BYTES and the fewest nanoseconds to check it
+//!     benchmarks searches               prints CASE, DEPTH, SYMBOLS and the equations that a search looks at that goes back
+//!     benchmarks checks TRIALS          prints NAME, proof, long or sample, DEPTH, BYTES and the fewest nanoseconds to check it
+//!
+//! With BENCHMARKS_DEPTH set to a depth, tables and trees are of the house table alone, to that depth.
 
 mod checks;
 mod clock;
+mod depths;
 mod openssl;
+mod random;
 mod repair;
+mod search;
 mod sha256;
 mod table;
 mod timing;
 mod tree;
 mod turns;
 mod volume;
+mod worst;
 
 use std::process::ExitCode;
 
 const USAGE: &str = "usage: check | time TRIALS NAME.. | work NAME LENGTH N | table TRIALS | \
-    tree TRIALS | repair TRIALS | checks TRIALS";
+    tree TRIALS | repair TRIALS | searches | checks TRIALS";
 
 fn main() -> ExitCode {
     let words: Vec<String> = std::env::args().skip(1).collect();
@@ -38,12 +45,13 @@ fn main() -> ExitCode {
 
 fn run(words: &[&str]) -> Result<(), String> {
     match words {
-        ["check"] => timing::check(),
+        ["check"] => timing::check().and_then(|()| worst::check()),
         ["time", trials, names @ ..] => timing::time(number(trials)?, &hashers(names)?),
         ["work", name, len, times] => timing::work(hasher(name)?, number(len)?, number(times)?),
         ["table", trials] => table::time(number(trials)?),
         ["tree", trials] => tree::time(number(trials)?),
         ["repair", trials] => repair::time(number(trials)?),
+        ["searches"] => repair::count(),
         ["checks", trials] => checks::time(number(trials)?),
         _ => Err(USAGE.to_string()),
     }

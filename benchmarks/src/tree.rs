@@ -1,30 +1,35 @@
-//! Writing trees of depth 1 to 5 with the house table, beside the reference and beside hashing alone.
+//! Writing trees with the house table, beside the reference and beside hashing alone, and with a long table.
 
+use crate::depths::{calls, depths, worst_too};
 use crate::turns::{each, shortest, Work};
-use crate::volume::{hash, Volume};
-use reference::table::house;
+use crate::volume::{hash, house, long, Volume};
 
 /// Trees in one trial.
-const TIMES: usize = 8;
-
-fn cedunmi(v: &mut Volume) {
-    let (tree, marks, root) = (&mut v.tree, &mut v.marks, &mut v.root);
-    assert_eq!(cedunmi_sys::cmt_tree_write(v.depth, &v.table, &v.block, tree, marks, root), 0);
+fn times(v: &Volume) -> usize {
+    calls(8, v.depth)
 }
 
 const WORK: [Work<Volume>; 3] = [
-    ("cedunmi", |v| each(TIMES, || cedunmi(v))),
-    ("reference", |v| each(TIMES, || v.write())),
-    ("hashes", |v| each(TIMES, || hash(&v.tree, v.marks.len()))),
+    ("cedunmi", |v| each(times(v), || v.write())),
+    ("reference", |v| each(times(v), || v.write_plainly())),
+    ("hashes", |v| each(times(v), || hash(&v.tree, v.marks.len()))),
 ];
+
+const LONG: [Work<Volume>; 1] = [("long", |v| each(times(v), || v.write()))];
 
 /// Prints name, depth, bytes of the block and the shortest time of each over the trials, taken in turns.
 pub fn time(trials: usize) -> Result<(), String> {
-    for depth in 1..=5 {
-        let mut volume = Volume::new(depth, &house(depth));
-        for (name, best) in shortest(trials, &WORK, &mut volume) {
-            println!("{name} {depth} {} {best:.1}", volume.block.len());
+    for depth in depths() {
+        print(trials, &WORK, Volume::new(&house(depth)));
+        if worst_too() {
+            print(trials, &LONG, Volume::new(&long(depth)));
         }
     }
     Ok(())
+}
+
+fn print(trials: usize, works: &[Work<Volume>], mut volume: Volume) {
+    for (name, best) in shortest(trials, volume.depth, works, &mut volume) {
+        println!("{name} {} {} {best:.1}", volume.depth, volume.block.len());
+    }
 }

@@ -1,6 +1,7 @@
-//! Trees of the house table, and of the table with the longest equations.
+//! Trees of the house table, of the table with the longest equations, and of the worst tables.
 
-use reference::table::{data_symbols, house, to_bytes, write, Layers};
+use crate::worst::{self, Chain};
+use reference::table::{data_symbols, house_equation, to_bytes, write, Layers};
 use reference::tree::{self, block_len, tree_symbols, ROOT, SYMBOL};
 
 /// The buffers of a tree.
@@ -15,11 +16,12 @@ pub struct Volume {
 
 impl Volume {
     /// A block, and buffers for its tree.
-    pub fn new(depth: usize, words: &[u32]) -> Volume {
+    pub fn new(layers: &Layers) -> Volume {
+        let depth = layers.len();
         let bytes = block_len(depth) as u32;
         Volume {
             depth: depth as u64,
-            table: to_bytes(words),
+            table: to_bytes(&write(layers)),
             block: (0..bytes).map(|i| (i.wrapping_mul(2_654_435_761) >> 13) as u8).collect(),
             tree: vec![0; SYMBOL * tree_symbols(depth)],
             marks: vec![0; tree_symbols(depth)],
@@ -28,33 +30,42 @@ impl Volume {
     }
 
     /// The tree of a block.
-    pub fn written(depth: usize, words: &[u32]) -> Volume {
-        let mut volume = Volume::new(depth, words);
+    pub fn written(layers: &Layers) -> Volume {
+        let mut volume = Volume::new(layers);
         volume.write();
         volume
     }
 
-    /// The reference's writing.
     pub fn write(&mut self) {
+        let (tree, marks, root) = (&mut self.tree, &mut self.marks, &mut self.root);
+        let result =
+            cedunmi_sys::cmt_tree_write(self.depth, &self.table, &self.block, tree, marks, root);
+        assert_eq!(result, 0);
+    }
+
+    /// The reference's writing.
+    pub fn write_plainly(&mut self) {
         let (tree, marks, root) = (&mut self.tree, &mut self.marks, &mut self.root);
         assert!(tree::write(self.depth, &self.table, &self.block, tree, marks, root).is_ok());
     }
-
-    /// Changes the last equation of the table, which is the house table's: by
-    /// that, the tree has a fault in its base.
-    pub fn change_table(&mut self) {
-        let member = self.table.len() - 4 * 5 + 3;
-        self.table[member] ^= 2 ^ 1;
-    }
 }
 
-/// The house table, with eight members in the last equation.
-pub fn long_table(depth: usize) -> Vec<u32> {
-    let mut layers: Layers = reference::table::equations(depth as u64, &to_bytes(&house(depth)))
-        .expect("the house table");
-    let k = data_symbols(depth - 1);
-    *layers[depth - 1].last_mut().expect("an equation") = vec![0, 1, 2, 3, 4, 5, 7, 4 * k - 1];
-    write(&layers)
+/// The house table.
+pub fn house(depth: usize) -> Layers {
+    let equations = |k: usize| (0..3 * k).map(|e| house_equation(k, e)).collect();
+    (0..depth).map(data_symbols).map(equations).collect()
+}
+
+/// A table whose members are scattered, eight in nearly every equation.
+pub fn long(depth: usize) -> Layers {
+    worst::layers(depth, Chain::Up, 470)
+}
+
+/// A table with these members and the last one in its last equation.
+pub fn with_end(mut layers: Layers, members: &[usize]) -> Layers {
+    let last = layers.last_mut().and_then(|equations| equations.last_mut()).expect("an equation");
+    *last = [members, &last[last.len() - 1..]].concat();
+    layers
 }
 
 /// Hashes some symbols of a tree, and does nothing else.
