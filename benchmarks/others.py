@@ -224,7 +224,7 @@ def best_row(shape, other, trials):
 
 def instead(tree, repair):
     rows = [HEAD]
-    for shape in map(Shape, range(1, 6)):
+    for shape in map(Shape, range(1, program.COMPARED + 1)):
         rows.append(ours(shape, tree, repair))
         for kind, trials in ((Zfec, PROCESSES * TRIALS), (Cedunmi, PROCESSES), (Par2, PROCESSES)):
             with tempfile.TemporaryDirectory() as room:

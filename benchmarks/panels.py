@@ -5,36 +5,41 @@ import math
 import plot
 from page import rows_of
 from plot import BLUE, COLOURS, DASHED, GREY, ORANGE, RED, Line, Panel
-from program import symbols
+from program import COMPARED, DEPTHS
+from tables import LOSSES, REPAIRED, each_symbol
 
-DESCRIPTION = ("Times grow with the symbols; samples and proofs grow with the depth as 003's do; "
-               "repairs are whole up to losses of some forty percent")
+DESCRIPTION = ("The time for each symbol, depth 1 to 9; samples and proofs grow with the depth as 003's do; "
+               "repairs are whole up to losses of some forty percent at depth 1 to 5")
+
+# What a repair may cost at any depth, with any table and loss, over the least for the house table with nothing lost.
+LIMIT = 1.25
 
 
 def ticks_over(highest):
     """At most seven ticks, from 0 to a round number that is not below the highest value."""
-    step = next(step for step in (100, 200, 500, 1000, 10000) if 6 * step >= highest)
-    return [step * at for at in range(math.ceil(highest / step) + 1)]
+    step = next(step for step in (0.2, 0.5, 1, 2, 5, 10) if 6 * step >= highest)
+    return [round(step * at, 1) for at in range(math.ceil(highest / step) + 1)]
+
+
+def by_depth(times):
+    return list(zip(DEPTHS, times))
 
 
 def growth(tree, repair):
-    """Microseconds against symbols."""
-    def written(name):
-        return [(symbols(depth), time / 1000)
-                for (other, depth, _), time in tree.items() if other == name]
-
-    def repaired(name):
-        return [(symbols(depth), time / 1000)
-                for (other, case, depth, _), time in repair.items() if (other, case) == (name, "25")]
-
-    lines = [Line("repair, plain Rust", repaired("reference"), RED, DASHED),
-             Line("repair, 25 % lost", repaired("cedunmi"), RED),
-             Line("write, plain Rust", written("reference"), BLUE, DASHED),
-             Line("write", written("cedunmi"), BLUE),
-             Line("hashing alone", written("hashes"), GREY, "2 3")]
+    """Microseconds for each symbol against depth."""
+    house = each_symbol(repair, "cedunmi", "0")
+    cases = [before + loss for before, _ in REPAIRED for loss, _ in LOSSES]
+    most = list(map(max, zip(*(each_symbol(repair, "cedunmi", case) for case in cases))))
+    limit = [LIMIT * min(house[:COMPARED])] * len(DEPTHS)
+    lines = [Line("repair, plain Rust", by_depth(each_symbol(repair, "reference", "0")), RED, DASHED),
+             Line("1.25 × the least", by_depth(limit), GREY, "1 5"),
+             Line("repair, the most", by_depth(most), RED),
+             Line("repair, no loss", by_depth(house), ORANGE),
+             Line("write, plain Rust", by_depth(each_symbol(tree, "reference")), BLUE, DASHED),
+             Line("write", by_depth(each_symbol(tree, "cedunmi")), BLUE),
+             Line("hashing alone", by_depth(each_symbol(tree, "hashes")), GREY, "2 3")]
     highest = max(y for line in lines for _, y in line.points)
-    return Panel("Time grows with the tree", "symbols of the tree: depth 1 to 5", "microseconds",
-                 [0, 100, 200, 300, 400, 500], ticks_over(highest), lines)
+    return Panel("Time for each symbol of a tree", "depth", "microseconds", list(DEPTHS), ticks_over(highest), lines)
 
 
 def lengths(table):
@@ -50,8 +55,8 @@ def lengths(table):
              Line("003, 4 members", column(6), ORANGE, DASHED),
              Line("sample", column(1), BLUE),
              Line("003, sample", column(2), BLUE, DASHED)]
-    return Panel("Samples and proofs grow with the depth", "depth", "bytes", [1, 2, 3, 4, 5],
-                 [0, 2000, 4000, 6000, 8000, 10000], lines)
+    return Panel("Samples and proofs grow with the depth", "depth", "bytes", [row[0] for row in rows],
+                 [0, 5000, 10000, 15000, 20000], lines)
 
 
 def survival(curve):

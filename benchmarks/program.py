@@ -7,7 +7,7 @@ import sys
 from pathlib import Path
 
 ROOT = Path(__file__).resolve().parents[1]
-TARGET = ROOT / "target" / "benchmarks"
+TARGET = Path(os.environ.get("BENCHMARKS_TARGET", ROOT / "target" / "benchmarks")).resolve()
 PACKAGE = TARGET / "package"
 PROGRAM = TARGET / "release" / "benchmarks"
 LIBRARY = Path(os.environ.get("CEDUNMI_LIB_DIR", ROOT / "target" / "staticlib")).resolve()
@@ -15,10 +15,19 @@ LIBRARY = Path(os.environ.get("CEDUNMI_LIB_DIR", ROOT / "target" / "staticlib"))
 PROCESSES = 30
 TRIALS = 8
 
+# The depths of a tree, and the largest at which others are beside it.
+DEPTHS = range(1, 10)
+COMPARED = 5
+
 
 def symbols(depth):
     """The symbols of a tree."""
     return 16 * (2 ** int(depth) - 1)
+
+
+def house_words(depth):
+    """The words of the house table."""
+    return 60 * (2 ** depth - 1) + 1
 
 
 def fail(message):
@@ -68,17 +77,22 @@ def shortest(words, changes=(), built=PROGRAM):
     return {tuple(key): float(nanoseconds) for *key, nanoseconds in lines}
 
 
+def searches():
+    """The equations that a search looks at that goes back, by case, depth and symbols."""
+    return shortest(["searches"])
+
+
 def keep_shorter(best, others):
     for key, nanoseconds in others.items():
         best[key] = min(best.get(key, nanoseconds), nanoseconds)
 
 
-def best_of_each(words, programs, processes=PROCESSES):
+def best_of_each(words, programs, processes=PROCESSES, changes=()):
     """The fewest nanoseconds of many processes, in the same form, of each program, taken in turns."""
     fewest = [{} for _ in programs]
     for _ in range(processes):
         for built, best in zip(programs, fewest):
-            keep_shorter(best, shortest(words, built=built))
+            keep_shorter(best, shortest(words, changes, built))
     return fewest
 
 

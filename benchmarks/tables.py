@@ -1,7 +1,7 @@
 """The tables of times: each is a list of rows, the head first."""
 
 import program
-from program import PROCESSES, TRIALS
+from program import COMPARED, DEPTHS, PROCESSES, TRIALS
 
 SHORT, LONG = 256, 1 << 20
 
@@ -26,19 +26,31 @@ READERS = [
     ("sixteenth", "hashing a sixteenth of the tree"),
 ]
 
+LOSSES = [("0", "nothing lost"), ("12.4", "12.4 % lost"), ("25", "25 % lost"), ("47", "47 % lost")]
+
+# The tables that repairs are timed with, by what their cases begin with.
+REPAIRED = [("", "house table"), ("up-", "chain upwards"), ("down-", "chain downwards")]
+
 REPAIRS = [
-    ("0", "nothing lost"),
-    ("12.4", "12.4 % lost"),
-    ("25", "25 % lost"),
-    ("47", "47 % lost"),
-    ("fault", "a fault in the base"),
-    ("stopping", "a stopping set in the base"),
+    *((before + loss, f"{table}, {title}") for before, table in REPAIRED for loss, title in LOSSES),
+    ("fault", "house table, a fault in the base"),
+    ("stopping", "house table, a stopping set in the base"),
 ]
 
+# What is read and written, by name.
+LONG_TOO = [("cedunmi", "house table"), ("long", "long table")]
+
+# Name, case and title.
 CHECKS = [
-    ("proof", "the longest proof"),
-    ("sample", "a sample"),
+    ("cedunmi", "proof", "the longest proof"),
+    ("alone", "proof", "its hashing and reading alone"),
+    ("cedunmi", "long", "with the long table"),
+    ("alone", "long", "its hashing and reading alone"),
+    ("cedunmi", "sample", "a sample"),
+    ("hashes", "sample", "its hashing alone"),
 ]
+
+BEYOND = [str(depth) for depth in DEPTHS[1:]]
 
 
 def hash_times():
@@ -80,7 +92,8 @@ def hashing(best):
 
 
 def reading(best):
-    ((_, words), ours), *_ = best.items()
+    words = str(program.house_words(COMPARED))
+    ours = best["cedunmi", words]
     rows = [["House table of depth 5", "microseconds", "ours/it", "million words/s"]]
     for name, title in READERS:
         time = best[name, words]
@@ -89,41 +102,141 @@ def reading(best):
     return rows
 
 
-def ratios(best, *key):
-    """Our speed over that of the plain Rust, and over hashing alone."""
-    ours = best[("cedunmi", *key)]
-    return [f"{best[(other, *key)] / ours:.2f}" for other in ("reference", "hashes")]
+def of(best, *key):
+    """The times whose keys begin so, by depth."""
+    return [(found, time) for found, time in best.items() if found[:len(key)] == key]
 
 
-def writing(best, hash_best):
-    rows = [["Writing a tree", "microseconds", "per symbol", "MB/s of block", "/plain Rust",
-             "/hashing alone", "/compressing alone"]]
-    for (name, depth, size), ours in best.items():
-        if name == "cedunmi":
-            symbols = program.symbols(depth)
-            compressing = symbols * COMPRESSED * hash_best[0, LONG] / LONG
-            rows.append([f"depth {depth}", f"{ours / 1000:.0f}", f"{ours / 1000 / symbols:.2f}",
-                         f"{int(size) / ours * 1000:.1f}", *ratios(best, depth, size),
-                         f"{compressing / ours:.2f}"])
+def each_word(best, name):
+    """Nanoseconds for each word of a table, by depth."""
+    return [time / int(words) for (_, words), time in of(best, name)]
+
+
+def each_symbol(best, *key):
+    """Microseconds for each symbol of a tree, by depth."""
+    times = [time for _, time in of(best, *key)]
+    return [time / 1000 / program.symbols(depth) for depth, time in zip(DEPTHS, times)]
+
+
+def reading_by_depth(best):
+    rows = [["Reading a table", "words at depth 9", "nanoseconds a word, depth 1", *BEYOND]]
+    for name, title in LONG_TOO:
+        words = int(of(best, name)[-1][0][1])
+        rows.append([title, f"{words:,}", *(f"{time:.2f}" for time in each_word(best, name))])
     return rows
 
 
-def by_depth(head, cases, best, figure, cell):
-    """A table with a row for each case: a figure of depth 5, a cell for each depth, and the
-    ratios of depth 5."""
-    rows = [[*head, "2", "3", "4", "5", "/plain Rust", "/hashing alone"]]
-    for case, title in cases:
-        keys = [key for key in best if key[:2] == ("cedunmi", case)]
-        rows.append([title, figure(keys[-1]), *map(cell, keys), *ratios(best, *keys[-1][1:])])
+def ratio(best, other, *key):
+    """Our speed over another's, where it was timed."""
+    if (other, *key) not in best:
+        return ""
+    return f"{best[(other, *key)] / best[('cedunmi', *key)]:.2f}"
+
+
+def writing(best, hash_best):
+    rows = [["Writing a tree", "microseconds", "per symbol", "per symbol, long table", "MB/s of block",
+             "/plain Rust", "/hashing alone", "/compressing alone"]]
+    symbol_times = zip(each_symbol(best, "cedunmi"), each_symbol(best, "long"))
+    for ((_, *key), ours), (house, long) in zip(of(best, "cedunmi"), symbol_times):
+        depth, size = key
+        compressing = program.symbols(depth) * COMPRESSED * hash_best[0, LONG] / LONG
+        rows.append([f"depth {depth}", f"{ours / 1000:.0f}", f"{house:.2f}", f"{long:.2f}",
+                     f"{int(size) / ours * 1000:.1f}", ratio(best, "reference", *key),
+                     ratio(best, "hashes", *key), f"{compressing / ours:.2f}"])
     return rows
 
 
 def repairing(best):
-    return by_depth(["Repairing a tree", "depth 5, microseconds", "per symbol, depth 1"], REPAIRS,
-                    best, lambda key: f"{best[key] / 1000:.0f}",
-                    lambda key: f"{best[key] / 1000 / int(key[3]):.2f}")
+    rows = [["Repairing a tree", "depth 9, microseconds", "per symbol, depth 1", *BEYOND,
+             "/plain Rust, depth 5", "/hashing alone, depth 9"]]
+    for case, title in REPAIRS:
+        ours = of(best, "cedunmi", case)
+        (_, *compared), (_, *largest) = ours[COMPARED - 1][0], ours[-1][0]
+        rows.append([title, f"{ours[-1][1] / 1000:.0f}",
+                     *(f"{time:.2f}" for time in each_symbol(best, "cedunmi", case)),
+                     ratio(best, "reference", *compared), ratio(best, "hashes", *largest)])
+    return rows
+
+
+def searching(counts):
+    """What a search looks at that goes back."""
+    rows = [["Equations looked at", "in all, depth 9", "per symbol, depth 1", *BEYOND]]
+    for before, table in REPAIRED:
+        for loss, title in LOSSES[1:]:
+            looked = of(counts, before + loss)
+            rows.append([f"{table}, {title}", f"{int(looked[-1][1]):,}",
+                         *(f"{count / int(symbols):.1f}" for (_, _, symbols), count in looked)])
+    return rows
+
+
+def check_times(best):
+    """With the times for hashing and reading alone, which are those of two calls, as another name's."""
+    alone = {("alone", *key): time + best[("reading", *key)]
+             for (name, *key), time in best.items() if name == "hashes" and ("reading", *key) in best}
+    return {**best, **alone}
 
 
 def checking(best):
-    return by_depth(["Checking", "bytes at depth 5", "microseconds, depth 1"], CHECKS, best,
-                    lambda key: f"{int(key[3]):,}", lambda key: f"{best[key] / 1000:.1f}")
+    best = check_times(best)
+    rows = [["Checking", "bytes at depth 5", "at depth 9", "microseconds, depth 1", *BEYOND,
+             "/plain Rust, depth 5"]]
+    for name, case, title in CHECKS:
+        times = of(best, name, case)
+        key, size = times[COMPARED - 1][0][1:], times[-1][0][3]
+        sizes = [f"{int(bytes_):,}" for bytes_ in (key[2], size)] if name == "cedunmi" else ["", ""]
+        rows.append([title, *sizes, *(f"{time / 1000:.1f}" for _, time in times),
+                     ratio(best, "reference", *key) if name == "cedunmi" else ""])
+    return rows
+
+
+class Growth:
+    """What calls of one kind cost for a unit: the most at depth 1 to 5 and deeper, over the least of `base` at depth 1 to 5."""
+
+    def __init__(self, title, unit, base, cases):
+        self.title, self.unit, self.least = title, unit, min(base[:COMPARED])
+        each = [(time, depth, case) for case, times in cases for depth, time in zip(DEPTHS, times)]
+        self.most = [max(one for one in each if one[1] <= COMPARED),
+                     max(one for one in each if one[1] > COMPARED)]
+        self.ratios = [time / self.least for time, _, _ in self.most]
+
+    def row(self):
+        cells = []
+        for (time, depth, case), ratio in zip(self.most, self.ratios):
+            at = f"{time:.2f} at depth {depth}" + (f", {case}" if case else "")
+            cells += [at, f"{ratio:.2f}"]
+        return [self.title, self.unit, f"{self.least:.2f}", *cells]
+
+
+def over_alone(best, case, other):
+    """A check's time over that of its hashing and reading, or of its hashing alone, by depth."""
+    best = check_times(best)
+    pairs = zip(of(best, "cedunmi", case), of(best, other, case))
+    return [ours / alone for (_, ours), (_, alone) in pairs]
+
+
+def repair_growths(repair):
+    for before, title in REPAIRED:
+        cases = [(loss, each_symbol(repair, "cedunmi", before + case)) for case, loss in LOSSES]
+        yield Growth(f"repair, {title}", "microseconds a symbol", each_symbol(repair, "cedunmi", "0"), cases)
+
+
+def write_growths(tree):
+    for name, title in LONG_TOO:
+        yield Growth(f"writing, {title}", "microseconds a symbol", each_symbol(tree, "cedunmi"),
+                     [("", each_symbol(tree, name))])
+
+
+def check_growths(checks):
+    for case, title in (("proof", "the longest proof"), ("long", "the same, long table")):
+        yield Growth(title, "its hashing and reading alone", over_alone(checks, "proof", "alone"),
+                     [("", over_alone(checks, case, "alone"))])
+    yield Growth("a sample", "its hashing alone", over_alone(checks, "sample", "hashes"),
+                 [("", over_alone(checks, "sample", "hashes"))])
+
+
+def growing(tree, repair, checks):
+    rows = [["Growth", "for each, or over", "least, depth 1 to 5", "most, depth 1 to 5", "ratio",
+             "most, depth 6 to 9", "ratio"]]
+    found = [*repair_growths(repair), *write_growths(tree), *check_growths(checks)]
+    shallow, deep = (f"{max(ratios):.2f}" for ratios in zip(*(growth.ratios for growth in found)))
+    return rows + [growth.row() for growth in found] + [["the worst", "", "", "", shallow, "", deep]]

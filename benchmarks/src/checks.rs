@@ -1,7 +1,7 @@
 //! Checking the longest fault proof, with a table like the house table and with a long one, and a sample, beside the reference, beside
 //! hashing alone and beside reading the table alone.
 
-use crate::depths::{calls, depths, worst_too};
+use crate::depths::{calls, depths};
 use crate::turns::{each, shortest, Work};
 use crate::volume::{hash, house, long, with_end, Volume};
 use reference::proof::{self, Head};
@@ -89,9 +89,7 @@ const HASHES: Work<Checked> = ("hashes", |c| each(c.times(), || hash(&c.volume.t
 pub fn time(trials: usize) -> Result<(), String> {
     for depth in depths() {
         print(trials, "proof", &PROOF, Checked::longest_proof(house(depth), HOUSE_END));
-        if worst_too() {
-            print(trials, "long", &PROOF, Checked::longest_proof(long(depth), LONG_END));
-        }
+        print(trials, "long", &PROOF, Checked::longest_proof(long(depth), LONG_END));
         print(trials, "sample", &SAMPLE, Checked::sample(depth));
     }
     Ok(())

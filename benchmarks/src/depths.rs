@@ -5,7 +5,7 @@ use std::ops::RangeInclusive;
 /// The largest depth with the plain Rust beside it, whose search starts again after every take.
 const COMPARED: usize = 5;
 
-/// The variable with the largest depth that is timed: where it is set the worst tables are not.
+/// The variable with the largest depth that is timed: where it is set, our calls alone are.
 const LARGEST: &str = "BENCHMARKS_DEPTH";
 
 fn largest() -> Option<usize> {
@@ -16,14 +16,13 @@ pub fn depths() -> RangeInclusive<usize> {
     1..=largest().unwrap_or(9)
 }
 
-/// Whether the worst tables are timed, too.
-pub fn worst_too() -> bool {
-    largest().is_none()
-}
-
-/// Whether this is timed at that depth.
+/// Whether what has this name is timed at that depth.
 pub fn offered(name: &str, depth: u64) -> bool {
-    name != "reference" || depth <= COMPARED as u64
+    match name {
+        "cedunmi" | "long" => true,
+        "reference" => largest().is_none() && depth <= COMPARED as u64,
+        _ => largest().is_none(),
+    }
 }
 
 /// The calls in one trial, of so many up to depth 5: fewer where they take longer.

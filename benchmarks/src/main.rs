@@ -9,7 +9,7 @@
 //!     benchmarks searches               prints CASE, DEPTH, SYMBOLS and the equations that a search looks at that goes back
 //!     benchmarks checks TRIALS          prints NAME, proof, long or sample, DEPTH, BYTES and the fewest nanoseconds to check it
 //!
-//! With BENCHMARKS_DEPTH set to a depth, tables and trees are of the house table alone, to that depth.
+//! With BENCHMARKS_DEPTH set to a depth, the library's calls alone are timed, to that depth.
 
 mod checks;
 mod clock;

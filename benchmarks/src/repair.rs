@@ -1,6 +1,6 @@
 //! Repairing trees with the house table, beside the reference and beside hashing alone, and with the worst tables.
 
-use crate::depths::{calls, depths, worst_too};
+use crate::depths::{calls, depths};
 use crate::random::mixed;
 use crate::search::{given, looked_at, Equations};
 use crate::turns::{each, shortest, Work};
@@ -194,7 +194,7 @@ fn lose_others(equations: &Equations, absent: &mut [bool], seed: u64) {
     let mut turn = 0;
     loop {
         let mut left = absent.to_vec();
-        given(equations, absent).iter().for_each(|&(_, symbol)| left[symbol] = false);
+        given(equations, absent).iter().for_each(|given| left[given.symbol] = false);
         absent.iter_mut().zip(left).for_each(|(absent, left)| *absent &= !left);
         let missing = wanted - count(absent);
         if missing == 0 {
@@ -223,13 +223,10 @@ fn fault(depth: usize) -> Lent {
 /// Prints name, case, depth, symbols and the shortest time of each over the trials, taken in turns.
 pub fn time(trials: usize) -> Result<(), String> {
     for depth in depths() {
-        for (case, of_depth) in HOUSE {
+        for (case, of_depth) in HOUSE.into_iter().chain(WORST) {
             print(trials, case, of_depth(depth).lent());
         }
         print(trials, "fault", fault(depth));
-        for (case, of_depth) in WORST.into_iter().filter(|_| worst_too()) {
-            print(trials, case, of_depth(depth).lent());
-        }
     }
     Ok(())
 }

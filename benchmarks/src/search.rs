@@ -44,16 +44,25 @@ impl Gaps<'_> {
     }
 }
 
-/// The equations that give a symbol, in the order of 01's step (b), each with that symbol.
-pub fn given(equations: &Equations, absent: &[bool]) -> Vec<(usize, usize)> {
+/// An equation that gives a symbol, and how many others can be taken by that.
+#[derive(Debug, PartialEq, Eq)]
+pub struct Given {
+    pub equation: usize,
+    pub symbol: usize,
+    pub opened: usize,
+}
+
+/// The equations that give a symbol, in the order of 01's step (b).
+pub fn given(equations: &Equations, absent: &[bool]) -> Vec<Given> {
     let mut gaps = Gaps::new(equations, absent);
     let ready = (0..equations.len()).filter(|&e| gaps.lacks[e] <= 1);
     let mut ready: BinaryHeap<_> = ready.map(Reverse).collect();
     let mut given = Vec::new();
-    while let Some(Reverse(e)) = ready.pop() {
-        if let Some(symbol) = gaps.gives(e) {
-            given.push((e, symbol));
-            ready.extend(gaps.store(symbol).into_iter().map(Reverse));
+    while let Some(Reverse(equation)) = ready.pop() {
+        if let Some(symbol) = gaps.gives(equation) {
+            let open = gaps.store(symbol);
+            given.push(Given { equation, symbol, opened: open.len() });
+            ready.extend(open.into_iter().map(Reverse));
         }
     }
     given

@@ -1,6 +1,6 @@
 //! Reading the house table, beside the reference and beside hashing, and reading a long table.
 
-use crate::depths::{calls, depths, worst_too};
+use crate::depths::{calls, depths};
 use crate::turns::{each, shortest, Work};
 use crate::volume::{hash, house, long};
 use reference::table::{self, to_bytes, write, Layers};
@@ -37,10 +37,6 @@ const LONG: [Work<Lent>; 1] = [("long", |t| each(t.times(), || t.read()))];
 
 /// Prints name, words and the shortest time of each over the trials, taken in turns.
 pub fn time(trials: usize) -> Result<(), String> {
-    if !worst_too() {
-        print(trials, &WORK, Lent::new(&house(5)));
-        return Ok(());
-    }
     for depth in depths() {
         print(trials, &WORK, Lent::new(&house(depth)));
         print(trials, &LONG, Lent::new(&long(depth)));

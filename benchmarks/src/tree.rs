@@ -1,6 +1,6 @@
 //! Writing trees with the house table, beside the reference and beside hashing alone, and with a long table.
 
-use crate::depths::{calls, depths, worst_too};
+use crate::depths::{calls, depths};
 use crate::turns::{each, shortest, Work};
 use crate::volume::{hash, house, long, Volume};
 
@@ -21,9 +21,7 @@ const LONG: [Work<Volume>; 1] = [("long", |v| each(times(v), || v.write()))];
 pub fn time(trials: usize) -> Result<(), String> {
     for depth in depths() {
         print(trials, &WORK, Volume::new(&house(depth)));
-        if worst_too() {
-            print(trials, &LONG, Volume::new(&long(depth)));
-        }
+        print(trials, &LONG, Volume::new(&long(depth)));
     }
     Ok(())
 }

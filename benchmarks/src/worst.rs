@@ -120,8 +120,12 @@ pub fn check() -> Result<(), String> {
 fn peels_as_said(k: usize, chain: Chain, lost: usize) -> bool {
     let (equations, order) = (equations(k, chain, lost), order(k, lost));
     let absent: Vec<bool> = (0..4 * k).map(|symbol| symbol < lost).collect();
+    let given = given(&equations, &absent);
     let by_chain = (0..lost - 1).map(|i| (chain.equation(3 * k, lost, i), order[i]));
-    let said: Vec<_> = by_chain.chain([(0, order[lost - 1])]).collect();
+    let in_order = by_chain.chain([(0, order[lost - 1])]);
+    let as_given = given.iter().map(|given| (given.equation, given.symbol));
+    // The one before the last opens all that are not of the chain.
+    let one_by_one = given.iter().take(lost.saturating_sub(2)).all(|given| given.opened == 1);
     let low = &equations[..(k + 4) / 5];
     let low_data = (0..k).all(|symbol| low.iter().any(|members| members.contains(&symbol)));
     let full = |e: usize, below: usize| equations[e].len() == MEMBERS.min(below + 1);
@@ -129,5 +133,5 @@ fn peels_as_said(k: usize, chain: Chain, lost: usize) -> bool {
     let in_chain = |i: usize| (chain.equation(3 * k, lost, i), i + 1);
     let full_chain = (0..lost).map(in_chain).all(|(e, given)| full(e, given + k + e - lost));
     let full_others = (0..3 * k - lost).all(|e| full(e, k + e));
-    given(&equations, &absent) == said && low_data && full_chain && full_others
+    as_given.eq(in_order) && one_by_one && low_data && full_chain && full_others
 }
