@@ -20,6 +20,9 @@ use std::process::ExitCode;
 
 const DEPTHS: std::ops::RangeInclusive<usize> = 1..=5;
 
+/// The depths of a tree, whose lengths are known without a search.
+const ALL_DEPTHS: std::ops::RangeInclusive<usize> = 1..=9;
+
 fn main() -> ExitCode {
     let words: Vec<String> = std::env::args().skip(1).collect();
     match words.iter().map(String::as_str).collect::<Vec<_>>()[..] {
@@ -61,7 +64,7 @@ fn grouped(number: usize) -> String {
 /// Samples and proofs of a fault in the base, beside 003's formulas: the longest proof has 8 members, one by the house table 4.
 fn lengths() -> String {
     let head = "Bytes at depth | a sample | by (2) of 003 | the longest proof | by (4) of 003 | a proof by the house table | by (4) of 003";
-    let rows = DEPTHS.map(|depth| {
+    let rows = ALL_DEPTHS.map(|depth| {
         let proof = |d| {
             format!("{} | {}", grouped(proof_len(depth - 1, d)), grouped(sizes::proof(depth, d)))
         };

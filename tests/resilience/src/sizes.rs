@@ -34,7 +34,7 @@ mod tests {
     /// Where ours has more: whole symbols above, a parity symbol of each layer always, and a head.
     #[test]
     fn beside_ours() {
-        for depth in 1..=5 {
+        for depth in 1..=9 {
             let above = depth - 1;
             assert_eq!(layers(depth), above);
             assert_eq!(sample_len(depth) - sample(depth), (HASH + SYMBOL / RATE) * above);
