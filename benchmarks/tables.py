@@ -226,6 +226,12 @@ def write_growths(tree):
                      [("", each_symbol(tree, name))])
 
 
+def read_growths(table):
+    for name, title in LONG_TOO:
+        yield Growth(f"reading, {title}", "nanoseconds a word", each_word(table, "cedunmi"),
+                     [("", each_word(table, name))])
+
+
 def check_growths(checks):
     for case, title in (("proof", "the longest proof"), ("long", "the same, long table")):
         yield Growth(title, "its hashing and reading alone", over_alone(checks, "proof", "alone"),
@@ -234,9 +240,10 @@ def check_growths(checks):
                  [("", over_alone(checks, "sample", "hashes"))])
 
 
-def growing(tree, repair, checks):
+def growing(table, tree, repair, checks):
     rows = [["Growth", "for each, or over", "least, depth 1 to 5", "most, depth 1 to 5", "ratio",
              "most, depth 6 to 9", "ratio"]]
     found = [*repair_growths(repair), *write_growths(tree), *check_growths(checks)]
     shallow, deep = (f"{max(ratios):.2f}" for ratios in zip(*(growth.ratios for growth in found)))
-    return rows + [growth.row() for growth in found] + [["the worst", "", "", "", shallow, "", deep]]
+    return [*rows, *(growth.row() for growth in found), ["the worst of these", "", "", "", shallow, "", deep],
+            *(growth.row() for growth in read_growths(table))]
