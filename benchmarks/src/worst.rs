@@ -1,12 +1,11 @@
 //! Tables that make a search long, each for a loss: that of the first symbols of each layer, all its data symbols first.
 //!
-//! As many of the last equations of a layer as symbols are lost are a chain: each lacks one symbol that no earlier one of the chain has, and
-//! has the one that the equation before it in the chain gives. So they can be taken one after the other only: upwards, the last equation
-//! last, or downwards, the last equation first. The two symbols that the chain gives last are data symbols, and every other equation has
-//! both: none of these can be taken before, and then equation 0 gives the very last symbol. The first k/5 equations have all data symbols, so
-//! that the first equation of what the chain gives is far from the one that can be taken next. Every equation has eight members, or
-//! all that there are for it; where the rest above leaves a choice, they stand far from each other, and are symbols that are lost: so each
-//! store makes many equations lack one less.
+//! As many of the last equations of a layer as symbols are lost are a chain: each gives one of them, and has the one that the equation before
+//! it in the chain gives. So they can be taken one after the other only: upwards, the last equation last, or downwards, the last equation
+//! first. The two symbols that the chain gives last are data symbols, and every other equation has both: none of these can be taken before,
+//! and then equation 0 gives the very last symbol. The first k/5 equations have all data symbols, so that the first equation of what the
+//! chain gives is far from the one that can be taken next. Every equation has eight members, or all that there are for it; where that leaves
+//! a choice, they are far from each other: in the chain what it has given before, then held symbols, elsewhere data symbols.
 
 use crate::random::mixed;
 use crate::search::given;
