@@ -200,6 +200,64 @@ fn depth_1() -> Files {
     made.files
 }
 
+fn depth_2() -> Files {
+    let mut made = Collected { right: Volume::right(2), files: Files::new() };
+    made.save_right(20);
+    let mut lent = made.right.clone();
+    lent.lose((1..tree_symbols(2)).step_by(3));
+    lent.damage(&[place(0, 3), place(1, 14)]);
+    lent.fill(place(1, 24), 0xee);
+    made.save_repair("whole", &lent, false);
+    let mut lent = made.right.clone();
+    lent.lose([place(0, 2)]);
+    lent.lose([3, 10, 17, 18, 24, 25].map(|number| place(1, number)));
+    lent.damage(&[place(1, 26)]);
+    made.save_repair("unavailable", &lent, false);
+    let mut lent = Volume::wrong(2);
+    lent.lose([place(1, 8)]);
+    made.save_repair("wrong", &lent, true);
+    made.files
+}
+
+fn depth_3() -> Files {
+    let mut made = Collected { right: Volume::right(3), files: Files::new() };
+    made.save_right(61);
+    let mut lent = made.right.clone();
+    lent.lose((1..tree_symbols(3)).step_by(3));
+    lent.damage(&[place(0, 0), place(1, 4), place(2, 42)]);
+    lent.fill(place(2, 1), 0xee);
+    made.save_repair("whole", &lent, false);
+    let mut lent = made.right.clone();
+    lent.lose([4, 5, 6, 8, 9, 12, 15]);
+    lent.lose([place(1, 0), place(2, 2)]);
+    lent.damage(&[place(0, 0), place(2, 12)]);
+    made.save_repair("unavailable", &lent, false);
+    let mut lent = Volume::wrong(3);
+    lent.lose([place(2, 0), place(2, 1)]);
+    lent.damage(&[place(0, 3)]);
+    made.save_repair("wrong", &lent, true);
+    made.files
+}
+
+fn depth_4() -> Files {
+    let mut made = Collected { right: Volume::right(4), files: Files::new() };
+    made.save_right(100);
+    let mut lent = made.right.clone();
+    lent.lose((1..tree_symbols(4)).step_by(4));
+    lent.damage(&[place(0, 7), place(1, 17), place(2, 12), place(3, 88)]);
+    lent.fill(place(3, 1), 0xee);
+    made.save_repair("whole", &lent, false);
+    let mut lent = made.right.clone();
+    lent.lose([place(0, 5), place(1, 4), place(3, 18)]);
+    lent.lose([18, 33, 34, 48, 49, 50].map(|number| place(2, number)));
+    lent.damage(&[place(2, 3), place(3, 28)]);
+    made.save_repair("unavailable", &lent, false);
+    let mut lent = Volume::wrong(4);
+    lent.lose([place(1, 4), place(2, 52)]);
+    made.save_repair("wrong", &lent, true);
+    made.files
+}
+
 fn depth_5() -> Files {
     let mut made = Collected { right: Volume::right(5), files: Files::new() };
     made.save_right(200);
@@ -220,7 +278,7 @@ fn depth_5() -> Files {
 }
 
 fn expected() -> Files {
-    depth_1().into_iter().chain(depth_5()).collect()
+    [depth_1(), depth_2(), depth_3(), depth_4(), depth_5()].into_iter().flatten().collect()
 }
 
 /// The files below a folder, beside what describes them.
