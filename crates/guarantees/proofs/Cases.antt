@@ -24,6 +24,7 @@ use Rattle.calls.proofs.AdmissionLaws.{table-laws-of}
 use Rattle.calls.proofs.Taken.{house-taken}
 use Rattle.fault_calls.proofs.CheckingLaws.{passed}
 use Rattle.guarantees.specs.Terms.{equationsOf}
+use Rattle.guarantees.specs.Before.{now}
 use Rattle.guarantees.specs.Cases.{coded, EveryCall, Depths, Has, Longest, Stands, none, _also_, CasesHold}
 use Rattle.guarantees.specs.Layouts.{bytesFrom, symbolAt, hashFor, kindValue}
 use Rattle.guarantees.specs.Answers.{test, fails, holds, unless, JustWhen}
@@ -36,34 +37,34 @@ use Rattle.guarantees.proofs.LongestProof.{longest-accepted}
 
 -- ---- case 8
 
--- the test of the depth comes first
-at-depth : {number : ℕ} {values : ℕ × ℕ} {right : Type 0} {later : ℕ → ℕ × ℕ → Type 0} → JustWhen number values (test 1 (unless right) later) → ((v : ℕ × ℕ) → later 1 v → ⊥)
-    → (number ≡ 1) ↔ (right → ⊥)
-at-depth {number} {values} {right} {later} j l =
-    (λ e. found values (j .answers 1 values .0 (e, refl)), λ n. j .answers 1 (0, 0) .1 (fails refl (record { is-not = n; alone = refl })) .0)
+-- a test that comes first gives its number just when it fails, where later ones don't give it
+pub at-test : {k number : ℕ} {values : ℕ × ℕ} {right : Type 0} {later : ℕ → ℕ × ℕ → Type 0} → JustWhen number values (test k (unless right) later)
+    → ((v : ℕ × ℕ) → later k v → ⊥) → (number ≡ k) ↔ (right → ⊥)
+at-test {k} {number} {values} {right} {later} j l =
+    (λ e. found values (j .answers k values .0 (e, refl)), λ n. j .answers k (0, 0) .1 (fails refl (record { is-not = n; alone = refl })) .0)
   where
-    found : (v : ℕ × ℕ) → test 1 (unless right) later 1 v → right → ⊥
+    found : (v : ℕ × ℕ) → test k (unless right) later k v → right → ⊥
     found v (fails e x) = x .is-not
     found v (holds x y) = absurd (l v y)
 
-depths : Depths 1 5
+depths : Depths 1 9
 depths d =
     let r = demand-1 .refusals in
     record {
-      table-words = λ ws. at-depth (r .table-words d ws) (never (λ e. omega arith) (never (λ e. omega arith) (done-never (λ e. omega arith))));
-      table-bytes = λ b. at-depth (r .table-bytes d b) (never (λ e. omega arith) (never (λ e. omega arith) (never (λ e. omega arith) (done-never (λ e. omega arith)))));
-      house-words = λ n. at-depth (r .house-words d n) (never (λ e. omega arith) (done-never (λ e. omega arith)));
-      house-bytes = λ n. at-depth (r .house-bytes d n) (never (λ e. omega arith) (done-never (λ e. omega arith)));
-      tree-writer = λ table b t m root. at-depth (r .tree-writer d table b t m root) (never (λ e. omega arith) (never (λ e. omega arith) (never (λ e. omega arith) (done-never (λ e. omega arith)))));
-      block-reader = λ t m b. at-depth (r .block-reader d t m b) (never (λ e. omega arith) (never (λ e. omega arith) (never (λ e. omega arith) (done-never (λ e. omega arith)))));
-      sampler = λ i t m s. at-depth (r .sampler d i t m s) (never (λ e. omega arith) (never (λ e. omega arith) (never (λ e. omega arith) (never (λ e. omega arith) (done-never (λ e. omega arith))))));
-      sample-checker = λ i root s. at-depth (r .sample-checker d i root s) (never (λ e. omega arith) (never (λ e. omega arith) (never (λ e. omega arith) (done-never (λ e. omega arith)))));
-      proof-checker = λ root table b. at-depth (demand-1 .proof-checker d root table b) (never (λ e. omega arith) (never (λ e. omega arith) (never (λ e. omega arith) (never (λ e. omega arith) (never (λ e. omega arith) (never (λ e. omega arith) (never (λ e. omega arith) (done-never (λ e. omega arith)))))))));
-      repairer = λ root table t m o. at-depth (r .repairer d root table t m o) (never (λ e. omega arith) (never (λ e. omega arith) (never (λ e. omega arith) (never (λ e. omega arith) (done-never (λ e. omega arith))))));
+      table-words = λ ws. at-test (r .table-words d ws) (never (λ e. omega arith) (never (λ e. omega arith) (done-never (λ e. omega arith))));
+      table-bytes = λ b. at-test (r .table-bytes d b) (never (λ e. omega arith) (never (λ e. omega arith) (never (λ e. omega arith) (done-never (λ e. omega arith)))));
+      house-words = λ n. at-test (r .house-words d n) (never (λ e. omega arith) (done-never (λ e. omega arith)));
+      house-bytes = λ n. at-test (r .house-bytes d n) (never (λ e. omega arith) (done-never (λ e. omega arith)));
+      tree-writer = λ table b t m root. at-test (r .tree-writer d table b t m root) (never (λ e. omega arith) (never (λ e. omega arith) (never (λ e. omega arith) (done-never (λ e. omega arith)))));
+      block-reader = λ t m b. at-test (r .block-reader d t m b) (never (λ e. omega arith) (never (λ e. omega arith) (never (λ e. omega arith) (done-never (λ e. omega arith)))));
+      sampler = λ i t m s. at-test (r .sampler d i t m s) (never (λ e. omega arith) (never (λ e. omega arith) (never (λ e. omega arith) (never (λ e. omega arith) (done-never (λ e. omega arith))))));
+      sample-checker = λ i root s. at-test (r .sample-checker d i root s) (never (λ e. omega arith) (never (λ e. omega arith) (never (λ e. omega arith) (done-never (λ e. omega arith)))));
+      proof-checker = λ root table b. at-test (demand-1 .proof-checker d root table b) (never (λ e. omega arith) (never (λ e. omega arith) (never (λ e. omega arith) (never (λ e. omega arith) (never (λ e. omega arith) (never (λ e. omega arith) (never (λ e. omega arith) (done-never (λ e. omega arith)))))))));
+      repairer = λ root table t m o. at-test (r .repairer d root table t m o) (never (λ e. omega arith) (never (λ e. omega arith) (never (λ e. omega arith) (never (λ e. omega arith) (done-never (λ e. omega arith))))));
     }
 
 -- so every call stops at a depth that is none of these
-stops : (d : ℕ) → ((1 ≤ d) × (d ≤ 5) → ⊥) → EveryCall d (λ number. number ≡ 1)
+pub stops : (d : ℕ) → ((1 ≤ d) × (d ≤ 9) → ⊥) → EveryCall now d (λ number. number ≡ 1)
 stops d n =
     let k = depths d in
     record {
@@ -79,7 +80,7 @@ stops d n =
       repairer = λ root table t m o. k .repairer root table t m o .1 n;
     }
 
-has : (d n : ℕ) → depthFits d ≡ true → places tree d ≡ n → Has d n
+pub has : (d n : ℕ) → depthFits d ≡ true → places tree d ≡ n → Has d n
 unfolding kOf
 has d n f p =
     record {
@@ -99,26 +100,28 @@ has d n f p =
 
 -- ---- case 9
 
-longer : (j d : ℕ) → j < 5 → d ≤ 8 → proofLength j d ≤ 9996
+longer : (n j d : ℕ) → j ≤ n → d ≤ 8 → proofLength j d ≤ proofLength n 8
 unfolding proofLength
-longer j d h k = omega (arith, mul-le-mul-right {m = d - 1} {n = 7} (suc j) (omega arith))
+longer n j d h k = omega (arith, mul-le-mul-right {m = d - 1} {n = 7} (suc j) (omega arith))
 
-longest : Longest 5 9996
-unfolding proofLength proofMembers
-longest =
+-- at every depth from 3 on
+pub longest : (a : ℕ) → 1 ≤ a → a ≤ 7 → Longest (suc (suc a)) (proofLength (suc a) 8)
+unfolding proofMembers
+longest a some few =
+    let n : ℕ = suc (suc a) in
     record {
-      reached = refl;
-      none-longer = longer;
-      some-accepted = longest-accepted;
+      reached = let same : n - 1 ≡ suc a = omega arith in ap (λ (j : ℕ). proofLength j 8) same;
+      none-longer = λ j m h k. longer (suc a) j m (omega arith) k;
+      some-accepted = longest-accepted a some few;
       none-accepted = λ root table b e.
-          let p = passed 5 root table b e in
+          let p = passed n root table b e in
           let tbl : List (List (List ℕ)) = equationsOf table in
-          let a = accepted-is tree (symbolHash Plain) root tbl b (p .accepts) in
+          let v = accepted-is tree (symbolHash Plain) root tbl b (p .accepts) in
           let j : ℕ = proofLayer b in
           let ms : List ℕ = equationOf tbl j (proofEquation b) in
-          let deep : length tbl ≡ 5 = accepted-table 5 (wordsOf table) (p .admits .taken .accepted) .depth in
-          let few : length ms ≤ 8 = table-laws-of 5 table (p .admits .taken .accepted) .few-members j (proofEquation b) (a .named .layer-ok) (a .named .equation-ok) in
-          omega (arith, a .exact, longer j (length ms) (omega (arith, deep, a .named .layer-ok)) few);
+          let deep : length tbl ≡ n = accepted-table n (wordsOf table) (p .admits .taken .accepted) .depth in
+          let eight : length ms ≤ 8 = table-laws-of n table (p .admits .taken .accepted) .few-members j (proofEquation b) (v .named .layer-ok) (v .named .equation-ok) in
+          omega (arith, v .exact, longer (suc a) j (length ms) (omega (arith, deep, v .named .layer-ok)) eight);
     }
 
 -- ---- case 10
@@ -138,8 +141,9 @@ symbol : (i : ℕ) → symbolAt coded 0 i ≡ symAt tree listed 0 i
 symbol i = symbol-at coded 0 i ∙ ap (λ (t : List ℕ). symAt tree t 0 i) coded-is
 
 pub cases-hold : CasesHold
-unfolding houseTable houseLayers houseEquations houseEquation layerOf equationOf kOf nOf depthFits places place symAt symbolIn
+unfolding houseTable houseLayers houseEquations houseEquation layerOf equationOf kOf nOf depthFits places place symAt symbolIn proofLength
 cases-hold =
     refl also refl also refl also table-size also symbol 5 also symbol 7 also symbol 9
     also two-turns also two-absent also eight-absent also all-absent
-    also stops 0 (λ h. omega (arith, h .0)) also stops 6 (λ h. omega (arith, h .1)) also depths also has 5 _ refl refl also longest also stands also none
+    also stops 0 (λ h. omega (arith, h .0)) also stops 10 (λ h. omega (arith, h .1)) also depths also has 5 _ refl refl also has 9 _ refl refl
+    also longest 3 (omega arith) (omega arith) also longest 7 (omega arith) (omega arith) also stands also none

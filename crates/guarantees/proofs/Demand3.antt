@@ -372,7 +372,7 @@ module _ (depth : ℕ) (root table t m o : List ℕ) (e : repairTested depth roo
 
   -- ---- the ends
 
-  shallow : depth ≤ 5
+  shallow : depth ≤ 9
   shallow = depth-is depth (input .taken .deep) .1
 
   ends-whole : st .end ≡ whole → WholeEnd tree (symbolHash Plain) root tbl t m o st → EndsWhole depth root table t m o

@@ -53,7 +53,7 @@ use Rattle.guarantees.proofs.ProofWritten.{writes-layout}
 
 -- ---- what is read by the head's names is what is named
 
-module _ (depth : ℕ) (tbl : List (List (List ℕ))) (b : List ℕ) (shallow : depth ≤ 5) (o : TableOk depth tbl) (h : Named depth tbl b) where
+module _ (depth : ℕ) (tbl : List (List (List ℕ))) (b : List ℕ) (shallow : depth ≤ 9) (o : TableOk depth tbl) (h : Named depth tbl b) where
   abbrev j : ℕ
   j = h .layer
 
@@ -180,7 +180,7 @@ module _ (depth : ℕ) (tbl : List (List (List ℕ))) (b : List ℕ) (shallow : 
       named-fits f = as-read depth tbl b shallow o h equals (yes-same (f _ xor-is ∙ sym committed-is))
 
 -- two readings of one head
-module _ (depth : ℕ) (tbl : List (List (List ℕ))) (b : List ℕ) (shallow : depth ≤ 5) (o : TableOk depth tbl) (h z : Named depth tbl b) (root : List ℕ) (l p : ℕ) where
+module _ (depth : ℕ) (tbl : List (List (List ℕ))) (b : List ℕ) (shallow : depth ≤ 9) (o : TableOk depth tbl) (h z : Named depth tbl b) (root : List ℕ) (l p : ℕ) where
   pub breaks-as : ProofBreaks root h l p → ProofBreaks root z l p
   breaks-as k = break-named depth tbl b shallow o z root l p (named-break depth tbl b shallow o h root l p k)
 
@@ -229,7 +229,7 @@ module _ (depth : ℕ) (root table b : List ℕ) where
   abbrev Judged : Answered → Verdict → Type 0
   Judged tests v = By tests (judged v)
 
-  module _ (dr : (1 ≤ depth) × (depth ≤ 5)) (lr : ProofLengths root table b) (f : WellFormed depth ws) (covers : AllInTwo depth tbl) where
+  module _ (dr : (1 ≤ depth) × (depth ≤ 9)) (lr : ProofLengths root table b) (f : WellFormed depth ws) (covers : AllInTwo depth tbl) where
     rules : TableOk depth tbl
     rules = formed-rules depth ws f (dr .1)
 

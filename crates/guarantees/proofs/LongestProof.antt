@@ -1,11 +1,11 @@
--- Case 9 of 01: a fault proof of 9,996 bytes is accepted. No hash is computed: all symbols of a layer are the same, and each holds the hash of
--- those of the layer below, whatever it is; above the base a wrong one stands beside it, for the withheld member.
+-- Case 9 of 01, at every depth from 3 on: a fault proof of the greatest length is accepted. No hash is computed: all symbols of a layer are the same, and
+-- each holds the hash of those of the layer below, whatever it is; above the base a wrong one stands beside it, for the withheld member.
 use mathlib.Core.Path.{_≡_, refl, sym, ap, ap₂, _∙_, subst}
 use mathlib.Core.Logic.{_≢_}
 use mathlib.Core.Bool.{true}
 use mathlib.Core.List.{List, [], _∷_, _++_}
 use Prim.Native.Nat.{ℕ, zero, suc, _+_, _-_, _*_, _/_, _%_, _^_, _≤_, _<_}
-use native.Mathlib.Nat.{zero-add, mod-lt}
+use native.Mathlib.Nat.{zero-add, add-zero, sub-zero, mod-lt, div-eq-of-lt, mul-div-cancel}
 use native.Mathlib.Omega.{arith}
 use native.Mathlib.Decide.{ℕ-discrete}
 use lib.ListN.{length, getD, set, replicate, length-set, length-replicate}
@@ -14,23 +14,25 @@ use lib.Dec.{ltb}
 use borrow.Author.Tests.{eq-eqb, le-leb, lt-ltb, ltb-true}
 use Rattle.octets.specs.BigEndian.{be, bytesOf}
 use Rattle.octets.specs.ByteLists.{xors}
-use Rattle.octets.specs.Choice.{pick}
 use Rattle.octets.proofs.Choice.{yes-and}
 use Rattle.sha256.specs.Hash.{sha256}
 use Rattle.sha256.proofs.DigestLaws.{length-sha256}
 use Rattle.parity_table.specs.Shape.{depthFits, kOf, nOf}
-use Rattle.parity_table.specs.Members.{every, ascending, lastOf, IsMember}
-use Rattle.parity_table.specs.Table.{word, layerOf, equationOf, EquationOk, TableOk, equationsWords, layersWords, tableWords}
+use Rattle.parity_table.specs.Members.{every, IsMember}
+use Rattle.parity_table.specs.Table.{word, layerOf, equationOf, EquationOk, TableOk, tableWords}
 use Rattle.parity_table.specs.Coverage.{Mentions, Covered}
-use Rattle.parity_table.proofs.Shape.{k-pos}
-use Rattle.house_table.specs.House.{houseEquation, houseEquations, houseLayers, houseTable}
+use Rattle.parity_table.proofs.Shape.{k-zero, k-pos, k-grows, k-double}
+use Rattle.parity_table.proofs.Chain.{Chain, chain-within, chain-equation}
+use Rattle.parity_table.proofs.Longest.{none-longer, longest-grows, longest-nine}
+use Rattle.table_bytes.specs.Bytes.{maxBytes}
+use Rattle.house_table.specs.House.{houseTable}
 use Rattle.house_table.proofs.HouseRules.{house-rules}
 use Rattle.house_table.proofs.HouseCovered.{house-mentions}
 use Rattle.table_bytes.proofs.RoundTrip.{every-append, table-bytes-say}
 use Rattle.symbol_hash.specs.SymbolHash.{symbolHash}
 use Rattle.symbol_hash.specs.declared.Kind.the-variants.{Plain}
 use Rattle.model.specs.Shape.{tree}
-use Rattle.model.specs.Symbols.{joined, zeros, xorOf, others, count, slot, committed}
+use Rattle.model.specs.Symbols.{joined, zeros, xorOf, others, slot, committed}
 use Rattle.model.specs.Fault.{reached, wayBytes, givenBytes, pathBytes, proofBytes, proofLength, proofMembers, verdict}
 use Rattle.model.proofs.Bytes.{joined-length, joined-piece, length-zeros, sym-zeros}
 use Rattle.model.proofs.Shapes.{tree-ok}
@@ -45,6 +47,8 @@ use Rattle.calls.proofs.Taken.{taken-table}
 use Rattle.fault_calls.proofs.CheckingLaws.{judged-so}
 use Rattle.guarantees.specs.Terms.{equationsOf}
 use Rattle.guarantees.specs.Cases.{AreBytes, AcceptedOf}
+use Rattle.guarantees.proofs.Refusals.{depth-fits}
+use Rattle.guarantees.proofs.ProofHeads.{Fitting, fitting}
 
 -- ---- a table with another equation e of layer j
 
@@ -108,63 +112,7 @@ module _ (d : ℕ) (tbl : List (List (List ℕ))) (ok : TableOk d tbl) (j e : �
         members = rules-there;
       }
 
--- ---- the table of the proof: the house table, but with eight members in equation 0 of the base
-
--- the hashes of the first seven stand in slot 0 of their data symbols above, that of the last, k, in slot 2 of data symbol 0
-abbrev eight : List ℕ
-eight = 0 ∷ 1 ∷ 2 ∷ 3 ∷ 4 ∷ 5 ∷ 6 ∷ 64 ∷ []
-
-eight-ok : EquationOk 4 0 eight
-unfolding every ascending lastOf kOf
-eight-ok = record { some = omega arith; few = omega arith; ascend = refl; final = refl }
-
-wide : List (List (List ℕ))
-wide = changed (houseTable 5) 4 0 eight
-
-wide-rules : TableOk 5 wide
-unfolding wide kOf
-wide-rules = changed-rules 5 (houseTable 5) (house-rules 5) 4 0 eight (omega arith) (omega arith) eight-ok
-
-wide-eight : equationOf wide 4 0 ≡ eight
-unfolding wide kOf
-wide-eight = equation-here 5 (houseTable 5) (house-rules 5) 4 0 eight (omega arith) (omega arith) eight-ok
-
-wide-words : length (tableWords wide) ≡ 1866
-unfolding wide tableWords layersWords equationsWords houseTable houseLayers houseEquations houseEquation layerOf kOf
-wide-words = refl
-
-table : List ℕ
-table = bytesOf (tableWords wide)
-
--- data symbol i is in the equations k+i and 2k+i, as in the house table
-wide-covered : Covered 5 wide
-unfolding wide
-wide-covered j i hj hi =
-    let k = k-pos j in
-    let mentions : (c : ℕ) → 1 ≤ c * kOf j → c < 3 → Mentions (changed (houseTable 5) 4 0 eight) j (c * kOf j + i) i =
-    λ c some few.
-    subst (IsMember i)
-    (sym (equation-there 5 (houseTable 5) (house-rules 5) 4 0 eight (omega arith) (omega (arith, k-pos 4)) eight-ok j (c * kOf j + i) (λ q n. omega arith)))
-    (house-mentions 5 j i c hj hi few) in
-    record {
-      one = 1 * kOf j + i;
-      other = 2 * kOf j + i;
-      different = λ e. omega arith;
-      one-there = omega arith;
-      other-there = omega arith;
-      in-one = mentions 1 (omega arith) (omega arith);
-      in-other = mentions 2 (omega arith) (omega arith);
-    }
-
-taken : TableTaken 5 table
-unfolding table depthFits
-taken = taken-table 5 wide refl wide-rules wide-covered (omega (arith, wide-words))
-
-says : equationsOf table ≡ wide
-unfolding table depthFits
-says = table-bytes-say 5 wide wide-rules refl (omega (arith, wide-words))
-
--- ---- the symbols
+-- ---- hashes and symbols
 
 -- a number that isn't x
 other : ℕ → ℕ
@@ -186,13 +134,6 @@ above : ℕ → List ℕ
 above zero = zeros
 above (suc n) = joined (hashIn n) 0 8
 
--- symbol m of layer l, and the root
-symbol : ℕ → ℕ → List ℕ
-symbol l m = above (4 - l)
-
-root : List ℕ
-root = joined (hashIn 4) 0 16
-
 hash-length : (n c : ℕ) → length (hashIn n c) ≡ 32
 unfolding hashIn wrong
 hash-length zero zero = length-sha256 zeros
@@ -204,36 +145,9 @@ unfolding above
 above-length zero = length-zeros
 above-length (suc n) = joined-length (hashIn n) 32 8 0 (λ q h. hash-length n (0 + q))
 
-root-length : length root ≡ 512
-unfolding root
-root-length = joined-length (hashIn 4) 32 16 0 (λ q h. hash-length 4 (0 + q))
-
--- ---- the hashes
-
 slot-above : (n c : ℕ) → c < 8 → slot (above (suc n)) c ≡ hashIn n c
 unfolding slot above
 slot-above n c h = joined-piece (hashIn n) 32 8 0 c h (λ p k. hash-length n (0 + p)) ∙ ap (hashIn n) (zero-add c)
-
-slot-root : (c : ℕ) → c < 16 → slot root c ≡ hashIn 4 c
-unfolding slot root
-slot-root c h = joined-piece (hashIn 4) 32 16 0 c h (λ p k. hash-length 4 (0 + p)) ∙ ap (hashIn 4) (zero-add c)
-
--- above the base every symbol has the committed hash
-right : (l i : ℕ) → l < 4 → i < tree .n l → (symbolHash Plain) l i (symbol l i) ≡ committed tree root symbol l i
-unfolding symbolHash symbol committed hashIn above kOf nOf
-right zero i h k = sym (slot-root i k)
-right (suc l) i h k =
-    let here : 4 - suc l ≡ suc (2 - l) = omega arith in
-    let up : 4 - l ≡ suc (suc (2 - l)) = omega arith in
-    ap (λ (n : ℕ). sha256 (above n)) here
-    ∙ sym (ap (λ (n : ℕ). slot (above n) (i / kOf l)) up ∙ slot-above (suc (2 - l)) (i / kOf l) (column-lt tree tree-ok l i k))
-
--- and so have the first 32 of the base
-right-base : (y : ℕ) → ltb y 32 ≡ true → (symbolHash Plain) 4 y (symbol 4 y) ≡ committed tree root symbol 4 y
-unfolding symbolHash symbol committed hashIn above kOf
-right-base y t =
-    let low : y / 32 ≡ 0 = omega (arith, ltb-true y 32 t) in
-    sym (ap (slot (above 1)) low ∙ slot-above 0 0 (omega arith))
 
 other-differs : (x : ℕ) → x ≢ other x
 unfolding other
@@ -243,48 +157,6 @@ other-differs (suc x) e = omega arith
 wrong-differs : (h : List ℕ) → h ≢ wrong h
 unfolding wrong
 wrong-differs h e = other-differs (getD h 0 0) (ap (λ (l : List ℕ). getD l 0 0) e)
-
--- the given members' exclusive-or is zeros, whose hash isn't the withheld member's
-xor-zeros : (ys : List ℕ) → xorOf (symbol 4) ys ≡ zeros
-unfolding xorOf symbol above
-xor-zeros [] = refl
-xor-zeros (y ∷ ys) = ap (xors zeros) (xor-zeros ys) ∙ sym-zeros zeros length-zeros
-
-unfit : (ys : List ℕ) → (symbolHash Plain) 4 64 (xorOf (symbol 4) ys) ≢ committed tree root symbol 4 64
-unfolding symbolHash symbol committed hashIn kOf
-unfit ys e = wrong-differs (sha256 zeros) (sym (ap sha256 (xor-zeros ys)) ∙ e ∙ slot-above 0 2 (omega arith))
-
--- ---- the proof
-
-proof : List ℕ
-proof = proofBytes tree symbol 4 0 64 (equationOf wide 4 0)
-
-good : GoodProof tree (symbolHash Plain) root wide 4 0 64 proof
-unfolding proof symbol every count others pick nOf kOf
-good =
-    proof-good tree (tree-ok .shape) symbol 4 (λ l i h k. above-length (4 - l)) (symbolHash Plain) root right
-    wide (table-laws 5 wide (omega arith) (omega arith) wide-rules) (omega (arith, wide-rules .depth)) 0 64
-    (omega (arith, wide-rules .equations 4 (omega arith)))
-    (rw wide-eight (omega arith))
-    (λ y. ltb y 32) (rw wide-eight refl)
-    (λ y t. omega (arith, ltb-true y 32 t)) right-base
-    (unfit (others 64 (equationOf wide 4 0)))
-
-proof-length : length proof ≡ 9996
-unfolding proofMembers proofLength
-proof-length =
-    let g = good in
-    let ms : proofMembers wide proof ≡ eight = ap₂ (equationOf wide) (g .layer-is) (g .equation-is) ∙ wide-eight in
-    accepted-is tree (symbolHash Plain) root wide proof (g .accepts) .exact ∙ ap₂ (λ (j : ℕ) (l : List ℕ). proofLength j (length l)) (g .layer-is) ms
-
-checked : proofChecked 5 root table proof ≡ Done
-unfolding depthFits
-checked =
-    sym (judged-so 5 root table proof
-    (admits 5 (proofSized (length root) (length proof)) table taken
-    (yes-and (eq-eqb (length root) 512 root-length) (le-leb 12 (length proof) (omega (arith, proof-length))))))
-    ∙ ap (λ (tbl : List (List (List ℕ))). judged (verdict tree (symbolHash Plain) root tbl proof)) says
-    ∙ ap judged (good .accepts)
 
 -- ---- all of these are bytes
 
@@ -331,31 +203,214 @@ unfolding above zeros
 bytes-above zero = bytes-same 256 0 (omega arith)
 bytes-above (suc n) = bytes-joined (hashIn n) (bytes-hash n) 8 0
 
-bytes-way : (j i : ℕ) → AreBytes (wayBytes tree symbol j i)
-unfolding wayBytes symbol
-bytes-way j i = bytes-joined (λ x. symbol (j - x) (reached tree j i x)) (λ x. bytes-above (4 - (j - x))) (suc j) 0
+-- ---- a tree whose base is layer a + 1
 
-bytes-given : (ys : List ℕ) → AreBytes (givenBytes tree symbol 4 ys)
-unfolding every givenBytes
-bytes-given [] = refl
-bytes-given (y ∷ ys) = bytes-append (wayBytes tree symbol 4 y) (givenBytes tree symbol 4 ys) (bytes-way 4 y) (bytes-given ys)
+module _ (a : ℕ) (some : 1 ≤ a) (few : a ≤ 7) where
+  abbrev base : ℕ
+  base = suc a
 
-bytes-proof : AreBytes proof
-unfolding proof proofBytes pathBytes
-bytes-proof =
-    bytes-append _ _ (bytes-be 4 (word 1 4)) (bytes-append _ _ (bytes-be 4 (word 2 0)) (bytes-append _ _ (bytes-be 4 (word 3 64))
-    (bytes-append _ _ (bytes-given (others 64 (equationOf wide 4 0))) (bytes-way 3 (64 % kOf 3)))))
+  abbrev depth : ℕ
+  depth = suc base
 
--- ---- the case
+  -- the k of the base, and that of the layer above it, which is s
+  abbrev last : ℕ
+  last = kOf base
 
-pub longest-accepted : AcceptedOf 5 9996
-unfolding root table
-longest-accepted =
-    record {
-      root = root;
-      table = table;
-      proof = proof;
-      are-bytes = (bytes-joined (hashIn 4) (bytes-hash 4) 16 0, bytes-words (tableWords wide), bytes-proof);
-      accepts = checked;
-      sized = proof-length;
-    }
+  twice : last ≡ 2 * kOf a
+  twice = k-double a
+
+  eight-there : 8 ≤ kOf a
+  eight-there =
+      let same : kOf (1 + (a - 1)) ≡ kOf a = ap kOf (omega arith) in
+      omega (arith, k-grows 1 (a - 1), k-double 0, k-zero)
+
+  deep : depthFits depth ≡ true
+  deep = depth-fits depth (omega arith, omega arith)
+
+  -- the table of the proof: the house table, but with eight members in equation 0 of the base. The hashes of the first seven stand in slot 0 of their data
+  -- symbols above, that of the last, k, in slot 2 of data symbol 0.
+  abbrev front : List ℕ
+  front = 0 ∷ 1 ∷ 2 ∷ 3 ∷ 4 ∷ 5 ∷ 6 ∷ []
+
+  abbrev eight : List ℕ
+  eight = front ++ (last ∷ [])
+
+  -- seven numbers, and a last one above them
+  seven : (z : ℕ) → 7 ≤ z → Chain 0 z (front ++ (z ∷ []))
+  seven z h = (omega arith, (omega arith, (omega arith, (omega arith, (omega arith, (omega arith, (omega arith, (h, refl))))))))
+
+  eight-ok : EquationOk base 0 eight
+  eight-ok =
+      chain-equation base 0 eight (rw add-zero (seven last (omega (arith, twice, eight-there)))) (omega arith) (omega arith)
+
+  wide : List (List (List ℕ))
+  wide = changed (houseTable depth) base 0 eight
+
+  has-first : 0 < 3 * kOf base
+  has-first = omega (arith, k-pos base)
+
+  wide-rules : TableOk depth wide
+  unfolding wide
+  wide-rules = changed-rules depth (houseTable depth) (house-rules depth) base 0 eight (omega arith) has-first eight-ok
+
+  wide-eight : equationOf wide base 0 ≡ eight
+  unfolding wide
+  wide-eight = equation-here depth (houseTable depth) (house-rules depth) base 0 eight (omega arith) has-first eight-ok
+
+  -- it isn't too long
+  wide-short : length (tableWords wide) * 4 ≤ maxBytes
+  wide-short =
+      omega
+      (arith, none-longer depth (tableWords wide) (record { table = wide; rules = wide-rules; written = refl }), longest-grows depth 9 (omega arith) (omega arith), longest-nine)
+
+  table : List ℕ
+  table = bytesOf (tableWords wide)
+
+  -- data symbol i is in the equations k+i and 2k+i, as in the house table
+  wide-covered : Covered depth wide
+  unfolding wide
+  wide-covered j i hj hi =
+      let k = k-pos j in
+      let mentions : (c : ℕ) → 1 ≤ c * kOf j → c < 3 → Mentions (changed (houseTable depth) base 0 eight) j (c * kOf j + i) i =
+      λ c some few.
+      subst (IsMember i)
+      (sym (equation-there depth (houseTable depth) (house-rules depth) base 0 eight (omega arith) has-first eight-ok j (c * kOf j + i) (λ q n. omega arith)))
+      (house-mentions depth j i c hj hi few) in
+      record {
+        one = 1 * kOf j + i;
+        other = 2 * kOf j + i;
+        different = λ e. omega arith;
+        one-there = omega arith;
+        other-there = omega arith;
+        in-one = mentions 1 (omega arith) (omega arith);
+        in-other = mentions 2 (omega arith) (omega arith);
+      }
+
+  taken : TableTaken depth table
+  unfolding table
+  taken = taken-table depth wide deep wide-rules wide-covered wide-short
+
+  says : equationsOf table ≡ wide
+  unfolding table
+  says = table-bytes-say depth wide wide-rules deep wide-short
+
+  -- symbol m of layer l, and the root
+  symbol : ℕ → ℕ → List ℕ
+  symbol l m = above (base - l)
+
+  root : List ℕ
+  root = joined (hashIn base) 0 16
+
+  root-length : length root ≡ 512
+  unfolding root
+  root-length = joined-length (hashIn base) 32 16 0 (λ q h. hash-length base (0 + q))
+
+  slot-root : (c : ℕ) → c < 16 → slot root c ≡ hashIn base c
+  unfolding slot root
+  slot-root c h = joined-piece (hashIn base) 32 16 0 c h (λ p k. hash-length base (0 + p)) ∙ ap (hashIn base) (zero-add c)
+
+  at-base : (m : ℕ) → symbol base m ≡ zeros
+  unfolding symbol above
+  at-base m = let none : base - base ≡ 0 = omega arith in ap above none
+
+  slot-next : (m c : ℕ) → c < 8 → slot (symbol a m) c ≡ hashIn 0 c
+  unfolding symbol
+  slot-next m c h = let one : base - a ≡ 1 = omega arith in ap (λ (n : ℕ). slot (above n) c) one ∙ slot-above 0 c h
+
+  -- above the base every symbol has the committed hash
+  right : (l i : ℕ) → l < base → i < tree .n l → (symbolHash Plain) l i (symbol l i) ≡ committed tree root symbol l i
+  unfolding symbolHash symbol committed hashIn above kOf nOf
+  right zero i h k = ap (λ (n : ℕ). sha256 (above n)) (sub-zero base) ∙ sym (slot-root i k)
+  right (suc l) i h k =
+      let here : base - suc l ≡ suc (a - suc l) = omega arith in
+      let up : base - l ≡ suc (suc (a - suc l)) = omega arith in
+      ap (λ (n : ℕ). sha256 (above n)) here
+      ∙ sym (ap (λ (n : ℕ). slot (above n) (i / kOf l)) up ∙ slot-above (suc (a - suc l)) (i / kOf l) (column-lt tree tree-ok l i k))
+
+  -- and so have the first s of the base
+  right-base : (y : ℕ) → ltb y (kOf a) ≡ true → (symbolHash Plain) base y (symbol base y) ≡ committed tree root symbol base y
+  unfolding symbolHash committed hashIn
+  right-base y t =
+      let low : y / kOf a ≡ 0 = div-eq-of-lt (ltb-true y (kOf a) t) in
+      ap sha256 (at-base y) ∙ sym (ap (slot (symbol a (y % kOf a))) low ∙ slot-next (y % kOf a) 0 (omega arith))
+
+  -- the given members' exclusive-or is zeros, whose hash isn't the withheld member's
+  xor-zeros : (ys : List ℕ) → xorOf (symbol base) ys ≡ zeros
+  unfolding xorOf
+  xor-zeros [] = refl
+  xor-zeros (y ∷ ys) = ap₂ xors (at-base y) (xor-zeros ys) ∙ sym-zeros zeros length-zeros
+
+  unfit : (ys : List ℕ) → (symbolHash Plain) base last (xorOf (symbol base) ys) ≢ committed tree root symbol base last
+  unfolding symbolHash committed hashIn
+  unfit ys e =
+      let second : last / kOf a ≡ 2 = ap (λ (n : ℕ). n / kOf a) twice ∙ mul-div-cancel 2 (omega (arith, k-pos a)) in
+      wrong-differs (sha256 zeros)
+      (sym (ap sha256 (xor-zeros ys)) ∙ e ∙ ap (slot (symbol a (last % kOf a))) second ∙ slot-next (last % kOf a) 2 (omega arith))
+
+  -- ---- the proof
+
+  proof : List ℕ
+  proof = proofBytes tree symbol base 0 last (equationOf wide base 0)
+
+  fits : Fitting wide base 0 last front []
+  unfolding kOf
+  fits = fitting wide base 0 last front [] depth (omega arith) wide-rules (omega arith) has-first wide-eight
+
+  given-low : every (λ y. ltb y (kOf a)) front ≡ true
+  given-low =
+      chain-within 0 6 (kOf a) front (omega (arith, eight-there))
+      (omega arith, (omega arith, (omega arith, (omega arith, (omega arith, (omega arith, (omega arith, refl)))))))
+
+  good : GoodProof tree (symbolHash Plain) root wide base 0 last proof
+  unfolding proof symbol nOf
+  good =
+      proof-good tree (tree-ok .shape) symbol base (λ l i h k. above-length (base - l)) (symbolHash Plain) root right
+      wide (table-laws depth wide (omega arith) (omega arith) wide-rules) (fits .in-table) 0 last (fits .in-layer) (fits .member)
+      (λ y. ltb y (kOf a)) (rw (fits .given-are) given-low)
+      (λ y t. omega (arith, ltb-true y (kOf a) t, twice)) right-base
+      (unfit (others last (equationOf wide base 0)))
+
+  proof-length : length proof ≡ proofLength base 8
+  unfolding proofMembers
+  proof-length =
+      let g = good in
+      let ms : proofMembers wide proof ≡ eight = ap₂ (equationOf wide) (g .layer-is) (g .equation-is) ∙ wide-eight in
+      accepted-is tree (symbolHash Plain) root wide proof (g .accepts) .exact ∙ ap₂ (λ (j : ℕ) (l : List ℕ). proofLength j (length l)) (g .layer-is) ms
+
+  checked : proofChecked depth root table proof ≡ Done
+  unfolding proofLength
+  checked =
+      sym (judged-so depth root table proof
+      (admits depth (proofSized (length root) (length proof)) table taken
+      (yes-and (eq-eqb (length root) 512 root-length) (le-leb 12 (length proof) (omega (arith, proof-length))))))
+      ∙ ap (λ (tbl : List (List (List ℕ))). judged (verdict tree (symbolHash Plain) root tbl proof)) says
+      ∙ ap judged (good .accepts)
+
+  bytes-way : (j i : ℕ) → AreBytes (wayBytes tree symbol j i)
+  unfolding wayBytes symbol
+  bytes-way j i = bytes-joined (λ x. symbol (j - x) (reached tree j i x)) (λ x. bytes-above (base - (j - x))) (suc j) 0
+
+  bytes-given : (ys : List ℕ) → AreBytes (givenBytes tree symbol base ys)
+  unfolding every givenBytes
+  bytes-given [] = refl
+  bytes-given (y ∷ ys) = bytes-append (wayBytes tree symbol base y) (givenBytes tree symbol base ys) (bytes-way base y) (bytes-given ys)
+
+  bytes-proof : AreBytes proof
+  unfolding proof proofBytes pathBytes
+  bytes-proof =
+      bytes-append _ _ (bytes-be 4 (word 1 base)) (bytes-append _ _ (bytes-be 4 (word 2 0)) (bytes-append _ _ (bytes-be 4 (word 3 last))
+      (bytes-append _ _ (bytes-given (others last (equationOf wide base 0))) (bytes-way a (last % kOf a)))))
+
+  -- ---- the case
+
+  pub longest-accepted : AcceptedOf depth (proofLength base 8)
+  unfolding root table
+  longest-accepted =
+      record {
+        root = root;
+        table = table;
+        proof = proof;
+        are-bytes = (bytes-joined (hashIn base) (bytes-hash base) 16 0, bytes-words (tableWords wide), bytes-proof);
+        accepts = checked;
+        sized = proof-length;
+      }

@@ -55,7 +55,7 @@ module _ (tbl : List (List (List ℕ))) (j e x : ℕ) (front back : List ℕ) wh
     pub given-are : others x (equationOf tbl j e) ≡ front ++ back
     pub given-count : length (equationOf tbl j e) - 1 ≡ length (front ++ back)
 
-  pub fitting : (depth : ℕ) → depth ≤ 5 → TableOk depth tbl → j < depth → e < 3 * dataSymbols j → equationOf tbl j e ≡ front ++ (x ∷ back) → Fitting
+  pub fitting : (depth : ℕ) → depth ≤ 9 → TableOk depth tbl → j < depth → e < 3 * dataSymbols j → equationOf tbl j e ≡ front ++ (x ∷ back) → Fitting
   fitting depth shallow o hj he em =
       let ms : List ℕ = equationOf tbl j e in
       let laws : TableLaws tree tbl = table-laws depth tbl (omega arith) shallow o in
@@ -77,7 +77,7 @@ module _ (tbl : List (List (List ℕ))) (j e x : ℕ) (front back : List ℕ) wh
         given-count = omega (arith, ap length em, length-append front (x ∷ back), length-append front back);
       }
 
-module _ (depth : ℕ) (tbl : List (List (List ℕ))) (b : List ℕ) (shallow : depth ≤ 5) (o : TableOk depth tbl) where
+module _ (depth : ℕ) (tbl : List (List (List ℕ))) (b : List ℕ) (shallow : depth ≤ 9) (o : TableOk depth tbl) where
   -- ---- a head that names them
 
   module _ (h : Named depth tbl b) where

@@ -81,7 +81,7 @@ depth-right d f = depth-is d f
 
 pub depth-fits : (d : ℕ) → DepthRight d → depthFits d ≡ true
 unfolding depthFits
-depth-fits d r = yes-and (le-leb 1 d (r .0)) (le-leb d 5 (r .1))
+depth-fits d r = yes-and (le-leb 1 d (r .0)) (le-leb d 9 (r .1))
 
 pub depth-wrong : (d : ℕ) → depthFits d ≡ false → DepthRight d → ⊥
 depth-wrong d f r = true≢false (sym (depth-fits d r) ∙ f)
@@ -159,12 +159,12 @@ module _ (table : List ℕ) where
   pub table-long : lengthFits (length table) ≡ true → TableLength table
   unfolding lengthFits
   table-long l =
-      let (p, q) = and-yes (leb (length table) 16384) (eqb (length table % 4) 0) l in
-      record { not-over = leb-true (length table) 16384 p; in-words = eqb-true (length table % 4) 0 q }
+      let (p, q) = and-yes (leb (length table) 220792) (eqb (length table % 4) 0) l in
+      record { not-over = leb-true (length table) 220792 p; in-words = eqb-true (length table % 4) 0 q }
 
   pub long-table : TableLength table → lengthFits (length table) ≡ true
   unfolding lengthFits
-  long-table r = yes-and (le-leb (length table) 16384 (r .not-over)) (eq-eqb (length table % 4) 0 (r .in-words))
+  long-table r = yes-and (le-leb (length table) 220792 (r .not-over)) (eq-eqb (length table % 4) 0 (r .in-words))
 
 -- R being what the lengths are to be, the table's among them
 pub by-admitted : (d : ℕ) {later : ℕ → ℕ × ℕ → Type 0} (R : Type 0) (sized : Bool) (table : List ℕ) (a : Answer)

@@ -11,7 +11,7 @@ use Rattle.octets.specs.BigEndian.{bytesOf}
 use Rattle.sha256.specs.Hash.{sha256}
 use Rattle.parity_table.specs.Members.{every, lastOf}
 use Rattle.parity_table.specs.Table.{equationOf}
-use Rattle.house_table.specs.House.{houseTable, houseWords, houseAnswer}
+use Rattle.house_table.specs.House.{houseTable, houseWords}
 use Rattle.symbol_hash.specs.SymbolHash.{symbolHash}
 use Rattle.symbol_hash.specs.declared.Kind.the-variants.{Plain}
 use Rattle.model.specs.Shape.{tree, places}
@@ -20,17 +20,15 @@ use Rattle.model.specs.Fault.{proofLength}
 use Rattle.model.specs.Repair.{End, working, whole, unavailable, St, absentAt, lowestEq, step, enter}
 use Rattle.calls.specs.declared.Answer.the-variants.{Done}
 use Rattle.calls.specs.Stops.{numberOf}
-use Rattle.calls.specs.Tests.{readAnswer, wordsTested, admitted}
-use Rattle.volume_calls.specs.Reading.{blockRead}
+use Rattle.calls.specs.Tests.{readAnswer}
 use Rattle.volume_calls.specs.Writing.{treeWritten}
-use Rattle.sample_calls.specs.Checking.{sampleChecked}
-use Rattle.sample_calls.specs.Taking.{sampleTaken}
 use Rattle.fault_calls.specs.Checking.{proofChecked}
-use Rattle.fault_calls.specs.Repairing.{Result, ended, RepairLeft, repairTested, repaired}
+use Rattle.fault_calls.specs.Repairing.{Result, ended, RepairLeft, repaired}
 use Rattle.guarantees.specs.Layouts.{dataSymbols, symbolAt, kindValue}
 use Rattle.guarantees.specs.Trees.{CorrectlyCoded}
 use Rattle.guarantees.specs.Terms.{equationsOf}
 use Rattle.guarantees.specs.Demand2.{treeAfter, rootAfter}
+use Rattle.guarantees.specs.Before.{Calls, now}
 
 -- ---- the tree of the cases
 
@@ -96,22 +94,22 @@ pub record Leaves (absent : List ℕ) (end : End) (missing : List ℕ) (stored :
 
 -- ---- other claims
 
--- what holds of the number that every call gives at this depth, whatever else it is lent
-pub record EveryCall (depth : ℕ) (P : ℕ → Type 0) : Type 0 where
-  pub table-words : (ws : List ℕ) → P (numberOf (wordsTested depth ws))
-  pub table-bytes : (b : List ℕ) → P (numberOf (admitted depth true b))
-  pub house-words : (n : ℕ) → P (numberOf (readAnswer (houseAnswer depth n (length (houseWords depth)))))
-  pub house-bytes : (n : ℕ) → P (numberOf (readAnswer (houseAnswer depth n (length (houseWords depth) * 4))))
-  pub tree-writer : (table b t m root : List ℕ) → P (numberOf (treeWritten depth table b t m root .answer))
-  pub block-reader : (t m b : List ℕ) → P (numberOf (blockRead depth t m b .answer))
-  pub sampler : (i : ℕ) (t m s : List ℕ) → P (numberOf (sampleTaken depth i t m s .answer))
-  pub sample-checker : (i : ℕ) (root s : List ℕ) → P (numberOf (sampleChecked depth i root s))
-  pub proof-checker : (root table b : List ℕ) → P (numberOf (proofChecked depth root table b))
-  pub repairer : (root table t m o : List ℕ) → P (numberOf (repairTested depth root table t m o))
+-- what holds of the number that every one of these calls gives at this depth, whatever else it is lent
+pub record EveryCall (calls : Calls) (depth : ℕ) (P : ℕ → Type 0) : Type 0 where
+  pub table-words : (ws : List ℕ) → P (numberOf (calls .table-words depth ws))
+  pub table-bytes : (b : List ℕ) → P (numberOf (calls .table-bytes depth b))
+  pub house-words : (n : ℕ) → P (numberOf (readAnswer (calls .house depth n (length (houseWords depth)))))
+  pub house-bytes : (n : ℕ) → P (numberOf (readAnswer (calls .house depth n (length (houseWords depth) * 4))))
+  pub tree-writer : (table b t m root : List ℕ) → P (numberOf (calls .tree-writer depth table b t m root .answer))
+  pub block-reader : (t m b : List ℕ) → P (numberOf (calls .block-reader depth t m b .answer))
+  pub sampler : (i : ℕ) (t m s : List ℕ) → P (numberOf (calls .sampler depth i t m s .answer))
+  pub sample-checker : (i : ℕ) (root s : List ℕ) → P (numberOf (calls .sample-checker depth i root s))
+  pub proof-checker : (root table b : List ℕ) → P (numberOf (calls .proof-checker depth root table b))
+  pub repairer : (root table t m o : List ℕ) → P (numberOf (calls .repair-tests depth root table t m o))
 
 -- it is 1 just when the depth isn't `least` to `most`
 abbrev pub Depths : ℕ → ℕ → Type 0
-Depths least most = (depth : ℕ) → EveryCall depth (λ number. (number ≡ 1) ↔ (((least ≤ depth) × (depth ≤ most)) → ⊥))
+Depths least most = (depth : ℕ) → EveryCall now depth (λ number. (number ≡ 1) ↔ (((least ≤ depth) × (depth ≤ most)) → ⊥))
 
 -- With the house table and a block of its length, the writer is done just when it is lent a tree of so many symbols, a mark for each, and a root.
 pub record Has (depth symbols : ℕ) : Type 0 where
@@ -167,7 +165,7 @@ Holds (tableHas n v) = (length (houseWords 1) ≡ n) × (lastOf (houseWords 1) 0
 Holds (symbolIs i b) = symbolAt coded 0 i ≡ replicate 256 b
 Holds (repairGives absent gs) = (o : List ℕ) → Turns gs (entered absent o)
 Holds (repairLeaves absent z missing n) = (o : List ℕ) → length o ≡ 12 + 256 * (8 * 1 - 1) → Leaves absent z missing n o
-Holds (depthStops d) = EveryCall d (λ number. number ≡ 1)
+Holds (depthStops d) = EveryCall now d (λ number. number ≡ 1)
 Holds (depthsAre a b) = Depths a b
 Holds (depthHas d n) = Has d n
 Holds (longestProof d n) = Longest d n
@@ -193,13 +191,16 @@ cases =
     -- 6. "All absent: unavailable, all sixteen, stored 0."
     ∷ repairLeaves (0 ∷ 1 ∷ 2 ∷ 3 ∷ 4 ∷ 5 ∷ 6 ∷ 7 ∷ 8 ∷ 9 ∷ 10 ∷ 11 ∷ 12 ∷ 13 ∷ 14 ∷ 15 ∷ []) (unavailable 0)
     (0 ∷ 1 ∷ 2 ∷ 3 ∷ 4 ∷ 5 ∷ 6 ∷ 7 ∷ 8 ∷ 9 ∷ 10 ∷ 11 ∷ 12 ∷ 13 ∷ 14 ∷ 15 ∷ []) 0
-    -- 8. "Depth 0 and depth 6: 1. Depth 5 has 496 symbols." "Depth D is 1 to 5."
+    -- 8. "Depth 0 and depth 6: 1. Depth 5 has 496 symbols." "Depth D is 1 to 5." 02, CR 6: "Depth up to 9. [..] That makes 8,176 symbols [..] Depth 10 stops
+    -- with 1; case 8's depth 6 is accepted."
     ∷ depthStops 0
-    ∷ depthStops 6
-    ∷ depthsAre 1 5
+    ∷ depthStops 10
+    ∷ depthsAre 1 9
     ∷ depthHas 5 496
-    -- 9. "At depth 5 the longest proof is 9,996 bytes."
+    ∷ depthHas 9 8176
+    -- 9. "At depth 5 the longest proof is 9,996 bytes." 02, CR 6: "a proof of up to 18,188 bytes"
     ∷ longestProof 5 9996
+    ∷ longestProof 9 18188
     -- 10. "At depth 2, base symbol 31's hash is in layer 0's data symbol 3, bytes 224 to 255."
     ∷ hashStands 2 31 3 224 255
     ∷ []

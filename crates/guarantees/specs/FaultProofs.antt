@@ -177,13 +177,13 @@ module _ {depth : ℕ} {tbl : List (List (List ℕ))} {b : List ℕ} (h : Named 
 -- takes: a layer's number has to fit a word's value.
 abbrev pub HoldsExactly : Type 0
 HoldsExactly =
-    (depth : ℕ) (tbl : List (List (List ℕ))) (b : List ℕ) → depth ≤ 5 → TableRules depth tbl → (h : Named depth tbl b)
+    (depth : ℕ) (tbl : List (List (List ℕ))) (b : List ℕ) → depth ≤ 9 → TableRules depth tbl → (h : Named depth tbl b)
     → (l m : ℕ) (s : List ℕ) → ProofHolds tree tbl b l m s ↔ Holds h l m s
 
 -- so a proof that has the symbols f holds just these, and only where a given member or a path is
 abbrev pub HoldsItsSymbols : Type 0
 HoldsItsSymbols =
-    (depth : ℕ) (tbl : List (List (List ℕ))) (b : List ℕ) → depth ≤ 5 → TableRules depth tbl → (h : Named depth tbl b)
+    (depth : ℕ) (tbl : List (List (List ℕ))) (b : List ℕ) → depth ≤ 9 → TableRules depth tbl → (h : Named depth tbl b)
     → (f : ℕ → ℕ → List ℕ) → Layout h f → (l m : ℕ) (s : List ℕ) → ProofHolds tree tbl b l m s ↔ (OnPath h l m × (s ≡ f l m))
 
 -- a proof that is written for the symbols f has them in their places, under a head that names its equation and its withheld member
@@ -196,7 +196,7 @@ pub record Written (depth : ℕ) (tbl : List (List (List ℕ))) (f : ℕ → ℕ
 
 abbrev pub WritesLayout : Type 0
 WritesLayout =
-    (depth : ℕ) (tbl : List (List (List ℕ))) → depth ≤ 5 → TableRules depth tbl
+    (depth : ℕ) (tbl : List (List (List ℕ))) → depth ≤ 9 → TableRules depth tbl
     → (f : ℕ → ℕ → List ℕ) → ((l m : ℕ) → l < depth → m < allSymbols l → length (f l m) ≡ 256)
     → (j e x : ℕ) (front back : List ℕ) → j < depth → e < 3 * dataSymbols j → members tbl j e ≡ front ++ (x ∷ back)
     → Written depth tbl f j e x (proofBytes tree f j e x (members tbl j e))

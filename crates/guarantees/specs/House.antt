@@ -31,4 +31,4 @@ pub record HouseTable : Type 0 where
   pub members-are : (d j e x : ℕ) → j < d → e < 3 * dataSymbols j → IsMember x (members (houseTable d) j e) ↔ HouseMember (dataSymbols j) e x
   -- what the calls write, as words and as bytes
   pub words-are : (d : ℕ) → houseWords d ≡ listed (houseTable d)
-  pub bytes-are : (d : ℕ) → d ≤ 5 → wordsOf (bytesOf (houseWords d)) ≡ listed (houseTable d)
+  pub bytes-are : (d : ℕ) → d ≤ 9 → wordsOf (bytesOf (houseWords d)) ≡ listed (houseTable d)

@@ -11,6 +11,7 @@ pub mod House
 pub mod Demand1
 pub mod Demand2
 pub mod Demand3
+pub mod Before
 pub mod Cases
 pub mod Change1
 pub mod Change4

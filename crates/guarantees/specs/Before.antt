@@ -1,0 +1,107 @@
+-- Every call that is lent a depth: those of now, and those of before 02's CR 6. A call's tests are the same but for two numbers, the largest depth and the
+-- most bytes of a table from C. Definitions only.
+use mathlib.Core.Bool.{Bool, true, _&&_}
+use mathlib.Core.List.{List}
+use Prim.Native.Nat.{ℕ, _%_}
+use lib.ListN.{length}
+use lib.Dec.{leb, eqb}
+use Rattle.octets.specs.Choice.{pick}
+use Rattle.parity_table.specs.declared.Answer.{Answer as Read}
+use Rattle.parity_table.specs.declared.Answer.the-variants as read
+use Rattle.parity_table.specs.Reader.{layered, run}
+use Rattle.parity_table.specs.Parse.{tableOf}
+use Rattle.table_bytes.specs.Bytes.{wordsOf}
+use Rattle.house_table.specs.House.{houseAnswer}
+use Rattle.coverage.specs.Coverage.{coverageOf}
+use Rattle.symbol_hash.specs.SymbolHash.{symbolHash}
+use Rattle.symbol_hash.specs.declared.Kind.the-variants.{Plain}
+use Rattle.model.specs.Shape.{tree}
+use Rattle.model.specs.Fault.{verdict}
+use Rattle.model.specs.SampleCheck.{sampleCheck}
+use Rattle.sampling.specs.Absent.{firstAbsent}
+use Rattle.calls.specs.declared.Stop.the-variants.{Depth}
+use Rattle.calls.specs.declared.Answer.{Answer}
+use Rattle.calls.specs.declared.Answer.the-variants.{Done, Stopped}
+use Rattle.calls.specs.Tests.{_then_, testLengths, readAnswer, coverAnswer, testMarks, testNumber, wordsTested, admitted}
+use Rattle.volume_calls.specs.Reading.{BlockLeft, readSized, testBase, readBy, blockRead}
+use Rattle.volume_calls.specs.Writing.{TreeLeft, writeSized, writtenBy, treeWritten}
+use Rattle.sample_calls.specs.Checking.{checkSized, led, sampleChecked}
+use Rattle.sample_calls.specs.Taking.{SampleLeft, takeSized, needed, takenBy, sampleTaken}
+use Rattle.fault_calls.specs.Checking.{proofSized, judged, proofChecked}
+use Rattle.fault_calls.specs.Repairing.{Result, RepairLeft, repairSized, repairTested, repairOf, repairedBy, repaired}
+
+-- what each answers, and what it leaves in the buffers that it is lent; `house` writes the house table, of m entries, into n, just when it answers `Whole`
+pub record Calls : Type 0 where
+  pub table-words : (d : ℕ) (ws : List ℕ) → Answer
+  pub table-bytes : (d : ℕ) (table : List ℕ) → Answer
+  pub house : (d n m : ℕ) → Read
+  pub tree-writer : (d : ℕ) (table b t m root : List ℕ) → TreeLeft Answer
+  pub block-reader : (d : ℕ) (t m b : List ℕ) → BlockLeft Answer
+  pub sampler : (d i : ℕ) (t m s : List ℕ) → SampleLeft Answer
+  pub sample-checker : (d i : ℕ) (root s : List ℕ) → Answer
+  pub proof-checker : (d : ℕ) (root table b : List ℕ) → Answer
+  pub repair-tests : (d : ℕ) (root table t m o : List ℕ) → Answer
+  pub repairer : (d : ℕ) (root table t m o : List ℕ) → RepairLeft Result
+
+-- those of now
+abbrev pub now : Calls
+now =
+    record {
+      table-words = wordsTested;
+      table-bytes = λ d table. admitted d true table;
+      house = houseAnswer;
+      tree-writer = treeWritten;
+      block-reader = blockRead;
+      sampler = sampleTaken;
+      sample-checker = sampleChecked;
+      proof-checker = proofChecked;
+      repair-tests = repairTested;
+      repairer = repaired;
+    }
+
+-- ---- with another largest depth, and another number of bytes that a table from C has at most
+
+module _ (largest most : ℕ) where
+  -- 1, and 2 of a table: "depth not 1 to 5"; "a length over 16,384 or not a multiple of 4 stops with 2"
+  abbrev pub deep : ℕ → Bool
+  deep d = leb 1 d && leb d largest
+
+  abbrev pub short : List ℕ → Bool
+  short table = leb (length table) most && eqb (length table % 4) 0
+
+  -- tests 1 and 2
+  abbrev pub begun : ℕ → Bool → Answer
+  begun d sized = pick (deep d) Done (Stopped Depth) then testLengths sized
+
+  -- of a table as words, and as bytes from C: 1, 3, 10; 1, 2, 3, 10
+  abbrev pub wordsBy : ℕ → List ℕ → Answer
+  wordsBy d ws = readAnswer (pick (deep d) (run d 0 (layered d 0) ws) read.Depth) then coverAnswer (coverageOf d (tableOf ws))
+
+  abbrev pub tableBy : ℕ → Bool → List ℕ → Answer
+  tableBy d sized table = begun d (sized && short table) then wordsBy d (wordsOf table)
+
+  abbrev pub repairBy : ℕ → List ℕ → List ℕ → List ℕ → List ℕ → List ℕ → Answer
+  repairBy d root table t m o = tableBy d (repairSized d (length root) (length t) (length m) (length o)) table then testMarks m
+
+  abbrev pub callsBy : Calls
+  callsBy =
+      record {
+        table-words = wordsBy;
+        table-bytes = λ d table. tableBy d true table;
+        house = λ d n m. pick (deep d) (pick (eqb n m) read.Whole read.Length) read.Depth;
+        tree-writer = λ d table b t m root.
+            writtenBy (tableBy d (writeSized d (length b) (length t) (length m) (length root)) table) d (tableOf (wordsOf table)) b t m root;
+        block-reader = λ d t m b. readBy (begun d (readSized d (length t) (length m) (length b)) then testMarks m then testBase d m) d t b;
+        sampler = λ d i t m s.
+            takenBy (begun d (takeSized d (length t) (length m) (length s)) then testMarks m then testNumber d i then needed (firstAbsent d i m)) d i t s;
+        sample-checker = λ d i root s.
+            (begun d (checkSized d (length root) (length s)) then testNumber d i) then led (sampleCheck tree (symbolHash Plain) root d i s);
+        proof-checker = λ d root table b.
+            tableBy d (proofSized (length root) (length b)) table then judged (verdict tree (symbolHash Plain) root (tableOf (wordsOf table)) b);
+        repair-tests = repairBy;
+        repairer = λ d root table t m o. repairedBy (repairBy d root table t m o) (repairOf root table t m o) t m o;
+      }
+
+-- those of before: "depth not 1 to 5"; "a length over 16,384"
+abbrev pub before : Calls
+before = callsBy 5 16384
