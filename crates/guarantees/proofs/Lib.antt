@@ -22,3 +22,4 @@ pub mod Cases
 pub mod Change1
 pub mod Pages
 pub mod Change4
+pub mod Change6

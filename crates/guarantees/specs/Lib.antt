@@ -15,3 +15,4 @@ pub mod Before
 pub mod Cases
 pub mod Change1
 pub mod Change4
+pub mod Change6
