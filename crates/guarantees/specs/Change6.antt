@@ -1,7 +1,7 @@
 -- 02, CR 6: "Depth up to 9." Statements only.
 --
 -- Depths are 1 to 9 and a table from C has up to 220,792 bytes in all that this crate says: `DepthRight`, `TableLength` (Refusals.antt). Below is what else
--- the request says, and what it leaves as it was.
+-- the request says, and what it leaves as it was. "The built-in table ends at 5 [..]" is of CR 2's table: no call goes without a table yet.
 use mathlib.Core.Path.{_≡_}
 use mathlib.Core.Logic.{_↔_}
 use mathlib.Core.Bool.{true}
@@ -39,8 +39,8 @@ pub record DepthNine : Type 0 where
 
 -- ---- "From C a table may now have 220,792 bytes."
 
--- 220,792 bytes are nine words for each equation of depth 9, one for each layer, and the end word. No table has so many: members ascend strictly and end in
--- k+e, so equations 0, 1 and 2 of layer 0 have at most 5, 6 and 7 of them.
+-- 220,792 bytes are nine words for each equation of depth 9, one for each layer, and the end word. No table has so many, and the longest has six words fewer:
+-- members ascend strictly and end in k+e, so equations 0, 1 and 2 of layer 0 have at most 5, 6 and 7 of them.
 pub record FromC : Type 0 where
   pub none-longer : (d : ℕ) (ws : List ℕ) → DepthRight d → TableRight d ws → length ws * 4 ≤ 220768
   pub longest : (ws : List ℕ) × TableRight 9 ws × (length ws * 4 ≡ 220768)
@@ -88,8 +88,9 @@ pub record Change6 : Type 0 where
   pub depth-nine : DepthNine
   pub from-C : FromC
   pub depth-ten : EveryCall now 10 (λ number. number ≡ 1)
+  -- depth 6, and every other from 1 to 9
   pub accepted : (d : ℕ) → DepthRight d → Accepted d
-  -- the calls of now are those of before but for two numbers
+  -- the calls of now are those of before but for two numbers, 9 for 5 and 220,792 for 16,384
   pub two-numbers : now ≡ callsBy 9 220792
   pub as-before : (d : ℕ) → d ≤ 5 → AsBefore d
   -- and these are the differences
