@@ -1,4 +1,5 @@
 // The house table, as words and as bytes.
+use octets::lesser;
 use parity_table::Answer;
 use parity_table::END;
 use parity_table::EQUATION;
@@ -11,7 +12,7 @@ use parity_table::is_deep;
 use table_bytes::bytes_from;
 ghost use mathlib.Core.Path.{_≡_};
 ghost use mathlib.Core.Bool.{true};
-ghost use Prim.Native.Nat.{_+_, _*_, _<_, _≤_, _^_, min, max};
+ghost use Prim.Native.Nat.{_+_, _*_, _<_, _≤_, _^_, max};
 ghost use lib.ListN.{length};
 ghost use lib.Seq.{sets};
 ghost use Rattle.octets.specs.BigEndian.{bytesOf};
@@ -22,13 +23,6 @@ ghost use Rattle.house_table.specs.House.{houseWords, houseRow, houseLay
 const HOUSE_WORDS: usize = 60 * ((1 << MAX_DEPTH) - 1) + 1;
 
 const SHALLOW_WORDS: usize = 60 * ((1 << SHALLOW) - 1) + 1;
-
-// The lower of two numbers.
-fn low(a: u32, b: u32) -> u32
-    ensures { λ r. ⌜ r ≡ min a b ⌝ }
-{
-    if a < b { a } else { b }
-}
 
 // The higher of two numbers.
 fn high(a: u32, b: u32) -> u32
@@ -47,7 +41,7 @@ fn put_row(out: &mut [u32], at: usize, k: u32, e: u32) -> usize
 {
     let a = e % k;
     let b = (e + 1 + e / k) % k;
-    let l = low(a, b);
+    let l = lesser(a, b);
     let h = high(a, b);
     out[at] = EQUATION + e;
     out[at + 1] = l;

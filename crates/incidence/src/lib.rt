@@ -1,8 +1,7 @@
 // For each symbol of a layer, the equations that it stands in: lists threaded through the slots of the equations' members.
 use parity_table::index;
-ghost use mathlib.Core.Path.{_≡_};
 ghost use Prim.Native.Nat.{_+_};
-ghost use lib.ListN.{length, replicate};
+ghost use lib.ListN.{length};
 ghost use Rattle.incidence.specs.Incidence.{Threadable, Threaded};
 
 // Equation e follows the ones before it: the slot of each of its members leads to the last one that held the symbol, and is now the last one itself.

@@ -8,10 +8,17 @@ pub use lists::fill;
 pub use lists::fill_words;
 pub use lists::xor_at;
 ghost use mathlib.Core.Path.{_≡_};
-ghost use Prim.Native.Nat.{_+_, _*_, _≤_, _^_};
+ghost use Prim.Native.Nat.{_+_, _*_, _≤_, _^_, min};
 ghost use lib.ListN.{length};
 ghost use lib.Seq.{sets, paste};
 ghost use Rattle.octets.specs.BigEndian.{be, wordAt};
+
+// The lesser of two words.
+pub fn lesser(a: u32, b: u32) -> u32
+    ensures { λ r. ⌜ r ≡ min a b ⌝ }
+{
+    if a < b { a } else { b }
+}
 
 // Four bytes as a word.
 fn joined(a: u8, b: u8, c: u8, d: u8) -> u32

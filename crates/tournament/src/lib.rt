@@ -1,14 +1,8 @@
 // The least of n numbers, kept while they change one at a time: a tournament, each node of which is the lesser of the two below it.
-ghost use mathlib.Core.Path.{_≡_};
-ghost use Prim.Native.Nat.{_/_, _≤_, _<_, min};
-ghost use lib.ListN.{length, replicate};
+use octets::lesser;
+ghost use Prim.Native.Nat.{_/_, _≤_, _<_};
+ghost use lib.ListN.{length};
 ghost use Rattle.tournament.specs.Tournament.{entries, Tournament, Entered, Least};
-
-fn lesser(a: u32, b: u32) -> u32
-    ensures { λ r. ⌜ r ≡ min a b ⌝ }
-{
-    if a < b { a } else { b }
-}
 
 // Entry e becomes v, and each node above it, from the lowest up to one that stays as it is, the lesser of the two below it.
 pub fn set(tree: &mut [u32], e: usize, v: u32)

@@ -28,8 +28,8 @@ add-b-2 c = let a = c .before .args in omega (arith, div-le-self (a .e) (a .k))
 rem-b : tie.Need-rem-b
 rem-b c = search needs
 
-low-requires : tie.Need-low-requires
-low-requires c κs = search needs
+lesser-requires : tie.Need-lesser-requires
+lesser-requires c κs = search needs
 
 high-requires : tie.Need-high-requires
 high-requires c κs = search needs
@@ -79,7 +79,7 @@ same-length c = search needs
 returns : tie.Need-returns
 returns c =
     let a = c .before .before .before .before .args in
-    let l = c .before .before .low in
+    let l = c .before .before .lesser in
     let h = c .before .high in
     let q : (word 2 (a .e) ∷ l .result ∷ h .result ∷ a .k ∷ []) ≡ houseRow (a .k) (a .e) =
     row-first (a .k) (a .e) (l .result) (h .result) (c .if1 .taken) (l .ensures) (h .ensures) in (
@@ -115,7 +115,7 @@ slice-write-out-6 : tie.Need-slice-write-out-6
 slice-write-out-6 c =
     simp length-set
     (let a = c .before .before .before .before .args in
-    let l = c .before .before .low in
+    let l = c .before .before .lesser in
     let h = c .before .high in
     omega (arith, ap length (row-later (a .k) (a .e) (l .result) (h .result) (c .if1 .left) (l .ensures) (h .ensures))))
 
@@ -128,7 +128,7 @@ same-length-2 c = search needs
 returns-2 : tie.Need-returns-2
 returns-2 c =
     let a = c .before .before .before .before .args in
-    let l = c .before .before .low in
+    let l = c .before .before .lesser in
     let h = c .before .high in
     let q : (word 2 (a .e) ∷ l .result ∷ h .result ∷ (a .k + a .e - 1) ∷ (a .k + a .e) ∷ []) ≡ houseRow (a .k) (a .e) =
     row-later (a .k) (a .e) (l .result) (h .result) (c .if1 .left) (l .ensures) (h .ensures) in (
@@ -145,7 +145,7 @@ put-row-spec =
     div-b
     add-b-2
     rem-b
-    low-requires
+    lesser-requires
     high-requires
     add-out
     mul-out
