@@ -5,11 +5,11 @@ use mathlib.Core.Path.{_∙_, _≡_, ap, ap₂, subst, sym}
 use Prim.Native.Nat.{_-_, _*_, _/_, _<_, _≤_, ℕ}
 use native.Mathlib.Decide.{decLt, ℕ-discrete}
 use native.Mathlib.Omega.{arith}
-use lib.Dec.{eqb, leb}
+use lib.Dec.{eqb, leb, ltb}
 use lib.ListN.{getD, getD-replicate, length, length-replicate, replicate, set}
 use lib.Seq.{getD-set-other, getD-set-same}
-use borrow.Author.Tests.{eq-eqb, le-leb, lt-leb, ne-eqb}
-use Rattle.octets.proofs.Choice.{by-test, pick-no, pick-yes}
+use borrow.Author.Tests.{eq-eqb, le-leb, le-ltb, lt-leb, lt-ltb, ne-eqb}
+use Rattle.octets.proofs.Choice.{by-test, pick-no, pick-yes, yes-and}
 use Rattle.octets.specs.Choice.{pick}
 use Rattle.tournament.proofs.TreeLaws.{length-entries, level-entries, level-tournament}
 use Rattle.tournament.specs.Tournament.{Entered, Least, entries}
@@ -92,23 +92,39 @@ one-less c h d =
     ]
 
 -- equation q has one absent member fewer
-module _ (u a : List ℕ) {o : List ℕ} (k : Ordered u a o) (q : ℕ) (sized : length a ≡ length u) (l : q < length u) (some : 1 ≤ getD a q 0) where
-  keeps : ready u (set a q (getD a q 0 - 1)) q ≡ ready u a q → Ordered u (set a q (getD a q 0 - 1)) o
+module _ (u a : List ℕ) (at : ℕ) {o : List ℕ} (k : Ordered u a at o) (q : ℕ) (sized : length a ≡ length u) (l : q < length u) (some : 1 ≤ getD a q 0) where
+  abbrev less : List ℕ
+  less = set a q (getD a q 0 - 1)
+
+  abbrev then : ℕ → Bool
+  then x = ltb x at && ready u less x
+
+  others : (x : ℕ) → (x ≡ q → ⊥) → then x ≡ (ltb x at && ready u a x)
+  others x z = ap (λ (b : Bool). ltb x at && b) (ready-other u a q (getD a q 0 - 1) x z)
+
+  keeps : then q ≡ (ltb q at && ready u a q) → Ordered u less at o
   keeps h =
-      order-same k (ready u (set a q (getD a q 0 - 1))) (λ x lx. elim (ℕ-discrete x q) [
+      order-same k then (λ x lx. elim (ℕ-discrete x q) [
         | yes z ↦ rw z h
-        | no z ↦ ready-other u a q (getD a q 0 - 1) x z
+        | no z ↦ others x z
       ])
 
-  pub noted-many : (getD a q 0 - 1 ≡ 1 → ⊥) → Ordered u (set a q (getD a q 0 - 1)) o
+  pub noted-many : (getD a q 0 - 1 ≡ 1 → ⊥) → Ordered u less at o
   noted-many d =
-      keeps (ready-here u a q (getD a q 0 - 1) (omega arith) ∙ ap (λ (b : Bool). eqb (getD u q 0) 0 && b) (one-less (getD a q 0) some d))
+      keeps
+      (ap (λ (b : Bool). ltb q at && b)
+      (ready-here u a q (getD a q 0 - 1) (omega arith) ∙ ap (λ (b : Bool). eqb (getD u q 0) 0 && b) (one-less (getD a q 0) some d)))
 
-  pub noted-used : (getD u q 0 ≡ 0 → ⊥) → Ordered u (set a q (getD a q 0 - 1)) o
+  pub noted-late : at ≤ q → Ordered u less at o
+  noted-late d = keeps (ap (λ (b : Bool). b && ready u less q) (le-ltb q at d) ∙ sym (ap (λ (b : Bool). b && ready u a q) (le-ltb q at d)))
+
+  pub noted-used : (getD u q 0 ≡ 0 → ⊥) → Ordered u less at o
   noted-used d =
-      keeps (ready-used u a q (getD a q 0 - 1) (omega arith) d ∙ sym (ap (λ (b : Bool). b && leb (getD a q 0) 1) (ne-eqb (getD u q 0) 0 d)))
+      keeps
+      (ap (λ (b : Bool). ltb q at && b)
+      (ready-used u a q (getD a q 0 - 1) (omega arith) d ∙ sym (ap (λ (b : Bool). b && leb (getD a q 0) 1) (ne-eqb (getD u q 0) 0 d))))
 
-  pub noted-ready : getD u q 0 ≡ 0 → getD a q 0 - 1 ≡ 1 → (after : List ℕ) → Entered o q q after → Ordered u (set a q (getD a q 0 - 1)) after
-  noted-ready z d after c =
-      order-set k (ready u (set a q (getD a q 0 - 1))) q q after l (λ x lx. ready-other u a q (getD a q 0 - 1) x) c
-      (sym (pick-yes (ready u (set a q (getD a q 0 - 1)) q) q (length u) (ready-now u a q (getD a q 0 - 1) (omega arith) z (omega arith))))
+  pub noted-ready : q < at → getD u q 0 ≡ 0 → getD a q 0 - 1 ≡ 1 → (after : List ℕ) → Entered o q q after → Ordered u less at after
+  noted-ready b z d after c =
+      order-set k then q q after l (λ x lx. others x) c
+      (sym (pick-yes (then q) q (length u) (yes-and (lt-ltb q at b) (ready-now u a q (getD a q 0 - 1) (omega arith) z (omega arith)))))

@@ -32,11 +32,11 @@ module _ (ws starts : List ℕ) (from n x : ℕ) where
   unfolding hits
   hits-some e b = count-dropped (isIt x) (membersAt ws starts (from + e)) (b - 8 * e)
 
-  -- the slots from `bound` on have been noted in the counts a, which were a₀; the next one is `at`, counted from 1
-  pub record Walking (a₀ a : List ℕ) (at : ℕ) : Type 0 where
+  -- the slots from `bound` on have been noted in the counts a, which were a₀; the next one is `slot`, counted from 1
+  pub record Walking (a₀ a : List ℕ) (slot : ℕ) : Type 0 where
     pub bound : ℕ
     pub inside : bound ≤ 8 * n
-    pub here : at ≡ below ws starts from x bound
+    pub here : slot ≡ below ws starts from x bound
     pub left : (e : ℕ) → e < n → getD a e 0 + hits ws starts from x e bound ≡ getD a₀ e 0
 
 module _ {ws starts : List ℕ} {from n : ℕ} {last next : List ℕ} {x : ℕ} (k : Thread ws starts from n last next x) where
@@ -49,49 +49,49 @@ module _ {ws starts : List ℕ} {from n : ℕ} {last next : List ℕ} {x : ℕ} 
         left = λ e l. omega (arith, hits-none ws starts from x e (8 * n) (k .narrow e l) (omega arith));
       }
 
-  module _ {a₀ a : List ℕ} {at : ℕ} (w : Walking ws starts from n x a₀ a at) where
-    pub walk-end : at ≤ 0 → Lowered ws starts from n x a₀ a
+  module _ {a₀ a : List ℕ} {slot : ℕ} (w : Walking ws starts from n x a₀ a slot) where
+    pub walk-end : slot ≤ 0 → Lowered ws starts from n x a₀ a
     walk-end h e l =
         omega
         (arith, w .left e l, hits-all ws starts from x e, below-none ws starts from x (w .bound) (sym (w .here) ∙ omega arith) e (k .narrow e l))
 
     -- a slot is left
-    module _ (h : 0 < at) where
-      met : Met ws starts from x (w .bound) (at - 1)
-      met = below-step ws starts from x (w .bound) (at - 1) (sym (w .here) ∙ omega arith)
+    module _ (h : 0 < slot) where
+      met : Met ws starts from x (w .bound) (slot - 1)
+      met = below-step ws starts from x (w .bound) (slot - 1) (sym (w .here) ∙ omega arith)
 
-      pub walk-slot : at - 1 < 8 * n
+      pub walk-slot : slot - 1 < 8 * n
       walk-slot = omega (arith, met .under, w .inside)
 
-      pub walk-equation : (at - 1) / 8 < n
+      pub walk-equation : (slot - 1) / 8 < n
       walk-equation = omega (arith, walk-slot)
 
-      pub walk-some : ((e : ℕ) → e < n → count (isIt x) (membersAt ws starts (from + e)) ≤ getD a₀ e 0) → 1 ≤ getD a ((at - 1) / 8) 0
+      pub walk-some : ((e : ℕ) → e < n → count (isIt x) (membersAt ws starts (from + e)) ≤ getD a₀ e 0) → 1 ≤ getD a ((slot - 1) / 8) 0
       walk-some enough =
-          let q = (at - 1) / 8 in
+          let q = (slot - 1) / 8 in
           omega
-          (arith, enough q walk-equation, w .left q walk-equation, met .here q (k .narrow q walk-equation) refl, hits-some ws starts from n x q (at - 1))
+          (arith, enough q walk-equation, w .left q walk-equation, met .here q (k .narrow q walk-equation) refl, hits-some ws starts from n x q (slot - 1))
 
-      next-below : getD next (at - 1) 0 ≡ below ws starts from x (at - 1)
-      next-below = k .threaded .links x (at - 1) walk-slot (met .holds)
+      next-below : getD next (slot - 1) 0 ≡ below ws starts from x (slot - 1)
+      next-below = k .threaded .links x (slot - 1) walk-slot (met .holds)
 
-      pub walk-less : getD next (at - 1) 0 < at
+      pub walk-less : getD next (slot - 1) 0 < slot
       walk-less =
-          elim (decLt 0 (below ws starts from x (at - 1))) [
+          elim (decLt 0 (below ws starts from x (slot - 1))) [
             | yes g ↦
-                let s = below ws starts from x (at - 1) - 1 in
-                let z : below ws starts from x (at - 1) ≡ suc s = omega arith in
-                omega (arith, next-below, below-step ws starts from x (at - 1) s z .under)
+                let s = below ws starts from x (slot - 1) - 1 in
+                let z : below ws starts from x (slot - 1) ≡ suc s = omega arith in
+                omega (arith, next-below, below-step ws starts from x (slot - 1) s z .under)
             | no g ↦ omega (arith, next-below)
           ]
 
-      pub walk-turn : (a′ : List ℕ) → a′ ≡ set a ((at - 1) / 8) (getD a ((at - 1) / 8) 0 - 1) → length a ≡ n → 1 ≤ getD a ((at - 1) / 8) 0
-          → Walking ws starts from n x a₀ a′ (getD next (at - 1) 0)
+      pub walk-turn : (a′ : List ℕ) → a′ ≡ set a ((slot - 1) / 8) (getD a ((slot - 1) / 8) 0 - 1) → length a ≡ n → 1 ≤ getD a ((slot - 1) / 8) 0
+          → Walking ws starts from n x a₀ a′ (getD next (slot - 1) 0)
       walk-turn a′ ea la some =
-          let q = (at - 1) / 8 in
+          let q = (slot - 1) / 8 in
           let v = getD a q 0 - 1 in
           record {
-            bound = at - 1;
+            bound = slot - 1;
             inside = omega (arith, walk-slot);
             here = next-below;
             left = λ e l.

@@ -30,7 +30,7 @@ pub record Lent (root ws starts t m out u : List ℕ) (from j : ℕ) : Type 0 wh
   pub twins-room : 512 ≤ length out
 
 -- .. and the next one to take can be found: `last` and `next` lead through the equations of each symbol, `absent` has how many members of each are
--- absent, and `order` those to take
+-- absent, and `order` is right for a cursor before the first equation
 pub record Peelable (root ws starts last next t m out u absent order : List ℕ) (from j : ℕ) : Type 0 where
   pub lent : Lent root ws starts t m out u from j
   pub some : 1 ≤ length u
@@ -39,7 +39,7 @@ pub record Peelable (root ws starts last next t m out u absent order : List ℕ)
   pub last-room : lent .symbols ≤ length last
   pub next-room : 8 * length u ≤ length next
   pub counted : Counted ws starts from j (length u) m absent
-  pub ordered : Ordered u absent order
+  pub ordered : Ordered u absent 0 order
 
 -- layer j of the table has these n equations and no others
 pub record Reads (tbl : List (List (List ℕ))) (ws starts : List ℕ) (from j n : ℕ) : Type 0 where

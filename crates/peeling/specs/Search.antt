@@ -1,10 +1,11 @@
--- The lists by which peeling finds its next equation: how many members of each equation are absent, and in a tournament the lowest equation to take.
+-- The lists by which peeling finds its next equation: how many members of each equation are absent, and in a tournament the lowest equation to take
+-- of those before a cursor.
 -- Definitions only.
 use mathlib.Core.Path.{_≡_}
-use mathlib.Core.Bool.{Bool, _&&_}
+use mathlib.Core.Bool.{Bool, _&&_, false, true}
 use mathlib.Core.List.{List}
-use Prim.Native.Nat.{ℕ, _+_, _*_, _^_, _≤_, _<_}
-use lib.ListN.{length, getD}
+use Prim.Native.Nat.{ℕ, _+_, _*_, _^_, _≤_, _<_, max}
+use lib.ListN.{length, getD, set}
 use lib.Dec.{leb, ltb, eqb}
 use Rattle.octets.specs.Choice.{pick}
 use Rattle.tournament.specs.Tournament.{Tournament, entries}
@@ -27,8 +28,16 @@ pub record Order (n : ℕ) (p : ℕ → Bool) (order : List ℕ) : Type 0 where
 abbrev pub ready : List ℕ → List ℕ → ℕ → Bool
 ready used absent e = eqb (getD used e 0) 0 && leb (getD absent e 0) 1
 
-abbrev pub Ordered : List ℕ → List ℕ → List ℕ → Type 0
-Ordered used absent order = Order (length used) (ready used absent) order
+-- the order has those before the cursor `at` that are so
+abbrev pub Ordered : List ℕ → List ℕ → ℕ → List ℕ → Type 0
+Ordered used absent at order = Order (length used) (λ e. ltb e at && ready used absent e) order
+
+-- equation e is the lowest of all that are so, or their number where there is none: once it is used, the order is right for a cursor past it
+pub record Picked (used absent : List ℕ) (at e : ℕ) (order : List ℕ) : Type 0 where
+  pub inside : e ≤ length used
+  pub none : (x : ℕ) → x < e → ready used absent x ≡ false
+  pub aye : e < length used → ready used absent e ≡ true
+  pub ordered : Ordered (set used e 1) absent (max at (e + 1)) order
 
 -- ---- the absent members
 
@@ -46,12 +55,6 @@ pub record Countable (ws starts : List ℕ) (from j n : ℕ) (m : List ℕ) : Ty
   pub narrow : (e : ℕ) → e < n → Narrow ws starts from e
   pub low : n ≤ 2 ^ 30
 
--- the two lists, when the equations before number i have come
-pub record Prepared (ws starts : List ℕ) (from j : ℕ) (m used : List ℕ) (i : ℕ) (absent order : List ℕ) : Type 0 where
-  pub sized : length absent ≡ length used
-  pub counts : (e : ℕ) → e < i → getD absent e 0 ≡ count (absentAt tree m j) (membersAt ws starts (from + e))
-  pub ordered : Order (length used) (λ e. ltb e i && ready used absent e) order
-
 -- ---- a symbol that is stored
 
 -- the thread of symbol x leads through n equations
@@ -62,13 +65,13 @@ pub record Thread (ws starts : List ℕ) (from n : ℕ) (last next : List ℕ) (
   pub room : 8 * n ≤ length next
 
 -- the equations of a thread, and each has as many absent members as it has members x
-pub record Lowerable (last next used absent order : List ℕ) (x : ℕ) : Type 0 where
+pub record Lowerable (last next used absent order : List ℕ) (at x : ℕ) : Type 0 where
   pub words : List ℕ
   pub starts : List ℕ
   pub from : ℕ
   pub thread : Thread words starts from (length used) last next x
   pub enough : (e : ℕ) → e < length used → count (λ y. eqb y x) (membersAt words starts (from + e)) ≤ getD absent e 0
-  pub ordered : Ordered used absent order
+  pub ordered : Ordered used absent at order
   pub sized : length absent ≡ length used
   pub low : length used ≤ 2 ^ 30
 

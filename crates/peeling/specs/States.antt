@@ -26,6 +26,6 @@ pub record Came (f : St → St) (j : ℕ) (t m o u t′ m′ o′ u′ : List �
 
 -- where an outcome leaves more to do, the lists by which the next equation is found are right
 abbrev pub Kept : List ℕ → List ℕ → ℕ → ℕ → List ℕ → List ℕ → List ℕ → List ℕ → Outcome → Type 0
-Kept ws starts from j m u absent order Peeled = Counted ws starts from j (length u) m absent × Ordered u absent order
+Kept ws starts from j m u absent order Peeled = Counted ws starts from j (length u) m absent × Ordered u absent (length u) order
 Kept ws starts from j m u absent order (Fault e x n) = Unit {0}
 Kept ws starts from j m u absent order (Twins x) = Unit {0}

@@ -1,13 +1,13 @@
-// (b): "Take the lowest unused equation with at most one absent member." The order has it first, and a turn changes the order only at the equation
-// itself and at those that have the symbol that it stored.
+// (b): "Take the lowest unused equation with at most one absent member." It is the first of the order, which has those before a cursor, or else
+// the next from the cursor on. A turn changes the order only at the equation itself and at those that have the symbol that it stored.
 use crate::Outcome;
 use crate::Run;
 use crate::search::lower;
+use crate::search::past;
+use crate::search::pick;
 use equation::Turn;
 use equation::take;
 use symbol_hash::Kind;
-use tournament::least;
-use tournament::set;
 ghost use mathlib.Core.List.{List};
 ghost use Prim.Native.Nat.{ℕ, _+_, _^_, _≤_};
 ghost use lib.ListN.{length};
@@ -18,7 +18,7 @@ ghost use Rattle.peeling.specs.Levels.{Peelable, Reads};
 ghost use Rattle.peeling.specs.States.{Came, Kept};
 
 // Peels layer j, whose equations' members start at the entries of starts from number `from` on, with so many symbols stored before. It has as many
-// equations as there are entries of used. Where none can be taken any more, absent and order are right for another call.
+// equations as there are entries of used. Where none can be taken any more, absent is right, and so is order with the cursor past them all.
 pub fn peel_layer(
     kind: Kind,
     root: &[u8],
@@ -50,15 +50,16 @@ pub fn peel_layer(
 {
     let n = used.len();
     let mut got = stored;
+    let mut at: usize = 0;
     loop {
-        let e = least(order) as usize;
+        let e = pick(used, absent, order, at);
         if n <= e {
             return Run {
                 stored: got,
                 outcome: Outcome::Peeled,
             };
         }
-        set(order, e, n as u32);
+        at = past(at, e);
         match take(
             kind,
             root,
@@ -75,7 +76,7 @@ pub fn peel_layer(
             Turn::Used => {}
             Turn::Stored(x) => {
                 got += 1;
-                lower(last, next, used, absent, order, x);
+                lower(last, next, used, absent, order, at, x);
             }
             Turn::Fault { withheld, size } => {
                 return Run {

@@ -135,7 +135,7 @@ module _ {d : ℕ} {ws starts root t m o : List ℕ} (k : Given d ws starts root
             low = omega (arith, own .used-full, k-low j layer-below);
           }
 
-      pub peelable : Threaded ws starts from (length used) last next → Counted ws starts from j (length used) m absent → Ordered used absent order
+      pub peelable : Threaded ws starts from (length used) last next → Counted ws starts from j (length used) m absent → Ordered used absent 0 order
           → Peelable root ws starts last next t m o used absent order from j
       unfolding lent nOf
       peelable th co ro =

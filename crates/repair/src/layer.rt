@@ -80,7 +80,7 @@ fn set_up(
         ⌜ (now (used .exit) ≡ replicate (length (now (used .entry))) 0)
         × Threaded (now (words .entry)) (now (starts .entry)) from (length (now (used .exit))) (now (last .exit)) (now (next .exit))
         × Counted (now (words .entry)) (now (starts .entry)) from j (length (now (used .exit))) (now (marks .entry)) (now (absent .exit))
-        × Ordered (now (used .exit)) (now (absent .exit)) (now (order .exit)) ⌝ }
+        × Ordered (now (used .exit)) (now (absent .exit)) 0 (now (order .exit)) ⌝ }
 {
     octets::fill(used, 0);
     incidence::fill(words, starts, from, used.len(), last, next);

@@ -10,21 +10,21 @@ use Rattle.peeling.proofs.search.lower.Statement.{statement}
 use Rattle.peeling.proofs.search.lower.Tie as tie
 
 abbrev Inv-loop : tie.InvT-loop
-Inv-loop last next used absent₀ order₀ x at₀ absent order at =
-    (length absent ≡ length absent₀) × (length order ≡ length order₀) × Ordered used absent order
-    × ((ws starts : List ℕ) (from : ℕ) → Thread ws starts from (length used) last next x → Walking ws starts from (length used) x absent₀ absent at)
+Inv-loop last next used absent₀ order₀ at x slot₀ absent order slot =
+    (length absent ≡ length absent₀) × (length order ≡ length order₀) × Ordered used absent at order
+    × ((ws starts : List ℕ) (from : ℕ) → Thread ws starts from (length used) last next x → Walking ws starts from (length used) x absent₀ absent slot)
 
 abbrev μ-loop : tie.MeasureT-loop
-μ-loop last next used absent₀ order₀ x at₀ absent order at = at
+μ-loop last next used absent₀ order₀ at x slot₀ absent order slot = slot
 
-mul-at : tie.Need-mul-at Inv-loop μ-loop
-mul-at c = omega (arith, c .before .before .before .before .before .pre .thread .known)
+mul-slot : tie.Need-mul-slot Inv-loop μ-loop
+mul-slot c = omega (arith, c .before .before .before .before .before .pre .thread .known)
 
-shared-slice-read-at : tie.Need-shared-slice-read-at Inv-loop μ-loop
-shared-slice-read-at c = omega (arith, c .before .before .before .before .before .before .pre .thread .known)
+shared-slice-read-slot : tie.Need-shared-slice-read-slot Inv-loop μ-loop
+shared-slice-read-slot c = omega (arith, c .before .before .before .before .before .before .pre .thread .known)
 
-cast-at : tie.Need-cast-at Inv-loop μ-loop
-cast-at c = omega (arith, c .shared-slice-known4 .given (c .before .before .before .before .before .before .args .x))
+cast-slot : tie.Need-cast-slot Inv-loop μ-loop
+cast-slot c = omega (arith, c .shared-slice-known4 .given (c .before .before .before .before .before .before .args .x))
 
 loop-holds : tie.Need-loop-holds Inv-loop μ-loop
 loop-holds c =
@@ -40,23 +40,23 @@ note-requires c κs =
     let l = c .before .before .before .loop in
     let k = s .pre .thread in
     let w = l .inv .3 (s .pre .words) (s .pre .starts) (s .pre .from) k in
-    let h : 0 < l .at = omega (arith, c .before .before .loop-test .taken) in
+    let h : 0 < l .slot = omega (arith, c .before .before .loop-test .taken) in
     (l .inv .2, l .inv .0 ∙ s .pre .sized, s .pre .low, walk-equation k w h, walk-some k w h (s .pre .enough))
 
-mul-at-2 : tie.Need-mul-at-2 Inv-loop μ-loop
-mul-at-2 c =
+mul-slot-2 : tie.Need-mul-slot-2 Inv-loop μ-loop
+mul-slot-2 c =
     let s = c .before .before .before .before .before .before .before .before .before .before .before .before .before .before .before in
     let l = c .before .before .before .before .before .before .before .before .loop in
     omega (arith, walk-slot (s .pre .thread) (l .inv .3 (s .pre .words) (s .pre .starts) (s .pre .from) (s .pre .thread)) (omega (arith, c .before .before .before .before .before .before .before .loop-test .taken)), s .pre .thread .room)
 
-shared-slice-read-at-2 : tie.Need-shared-slice-read-at-2 Inv-loop μ-loop
-shared-slice-read-at-2 c =
+shared-slice-read-slot-2 : tie.Need-shared-slice-read-slot-2 Inv-loop μ-loop
+shared-slice-read-slot-2 c =
     let s = c .before .before .before .before .before .before .before .before .before .before .before .before .before .before .before .before in
     let l = c .before .before .before .before .before .before .before .before .before .loop in
     omega (arith, walk-slot (s .pre .thread) (l .inv .3 (s .pre .words) (s .pre .starts) (s .pre .from) (s .pre .thread)) (omega (arith, c .before .before .before .before .before .before .before .before .loop-test .taken)), s .pre .thread .room)
 
-cast-at-2 : tie.Need-cast-at-2 Inv-loop μ-loop
-cast-at-2 c = omega (arith, c .shared-slice-known5 .given (c .before .before .before .before .before .before .before .before .before .loop .at - 1))
+cast-slot-2 : tie.Need-cast-slot-2 Inv-loop μ-loop
+cast-slot-2 c = omega (arith, c .shared-slice-known5 .given (c .before .before .before .before .before .before .before .before .before .loop .slot - 1))
 
 loop-less : tie.Need-loop-less Inv-loop μ-loop
 loop-less c =
@@ -69,7 +69,7 @@ loop-again c =
     let s = c .before .before .before .before .before .before .before .before .before .before .before .before .before .before .before .before in
     let l = c .before .before .before .before .before .before .before .before .before .loop in
     let v = c .before .before .before .before .before .note in
-    let h : 0 < l .at = omega (arith, c .before .before .before .before .before .before .before .before .loop-test .taken) in
+    let h : 0 < l .slot = omega (arith, c .before .before .before .before .before .before .before .before .loop-test .taken) in
     let k₀ = s .pre .thread in
     let some = walk-some k₀ (l .inv .3 (s .pre .words) (s .pre .starts) (s .pre .from) k₀) h (s .pre .enough) in
     (v .kept .1 .0 ∙ l .inv .0, v .kept .1 .1 .0 ∙ l .inv .1, v .ensures .1, λ ws starts from k. walk-turn k (l .inv .3 ws starts from k) h _ (v .ensures .0) (l .inv .0 ∙ s .pre .sized) some)
@@ -91,15 +91,15 @@ lower-spec =
     (tie.spec
     Inv-loop
     μ-loop
-    mul-at
-    shared-slice-read-at
-    cast-at
+    mul-slot
+    shared-slice-read-slot
+    cast-slot
     loop-holds
     sub-s
     note-requires
-    mul-at-2
-    shared-slice-read-at-2
-    cast-at-2
+    mul-slot-2
+    shared-slice-read-slot-2
+    cast-slot-2
     loop-less
     loop-again
     same-length

@@ -1,7 +1,8 @@
--- `note` meets its contract: the equation enters the order where it has become one to take.
+-- `note` meets its contract: the equation enters the order where it has become one to take, and is before the cursor.
 use mathlib.Core.Path.{refl}
+use native.Mathlib.Omega.{arith}
 use borrow.Author.Needs.{needs}
-use Rattle.peeling.proofs.OrderLaws.{noted-many, noted-ready, noted-used}
+use Rattle.peeling.proofs.OrderLaws.{noted-late, noted-many, noted-ready, noted-used}
 use Rattle.peeling.proofs.search.note.Statement.{statement}
 use Rattle.peeling.proofs.search.note.Tie as tie
 
@@ -20,18 +21,26 @@ same-length c = search needs
 returns : tie.Need-returns
 returns c =
     let s = c .before .before .before .before .before in
-    (refl, noted-many (s .args .used .now) (s .args .absent .now) (s .pre .0) (s .args .q) (s .pre .1) (s .pre .3) (s .pre .4) (c .if1 .taken))
-
-shared-slice-read-if2 : tie.Need-shared-slice-read-if2
-shared-slice-read-if2 c = search needs
+    (refl, noted-many (s .args .used .now) (s .args .absent .now) (s .args .at) (s .pre .0) (s .args .q) (s .pre .1) (s .pre .3) (s .pre .4) (c .if1 .taken))
 
 same-length-2 : tie.Need-same-length-2
 same-length-2 c = search needs
 
 returns-2 : tie.Need-returns-2
 returns-2 c =
-    let s = c .before .before .before .before .before .before .before in
-    (refl, noted-used (s .args .used .now) (s .args .absent .now) (s .pre .0) (s .args .q) (s .pre .1) (s .pre .3) (s .pre .4) (c .if2 .taken))
+    let s = c .before .before .before .before .before .before in
+    (refl, noted-late (s .args .used .now) (s .args .absent .now) (s .args .at) (s .pre .0) (s .args .q) (s .pre .1) (s .pre .3) (s .pre .4) (c .if2 .taken))
+
+shared-slice-read-if3 : tie.Need-shared-slice-read-if3
+shared-slice-read-if3 c = search needs
+
+same-length-3 : tie.Need-same-length-3
+same-length-3 c = search needs
+
+returns-3 : tie.Need-returns-3
+returns-3 c =
+    let s = c .before .before .before .before .before .before .before .before in
+    (refl, noted-used (s .args .used .now) (s .args .absent .now) (s .args .at) (s .pre .0) (s .args .q) (s .pre .1) (s .pre .3) (s .pre .4) (c .if3 .taken))
 
 cast-set : tie.Need-cast-set
 cast-set c = search needs
@@ -39,16 +48,16 @@ cast-set c = search needs
 set-requires : tie.Need-set-requires
 set-requires c κs = search needs
 
-same-length-3 : tie.Need-same-length-3
-same-length-3 c = search needs
-
 same-length-4 : tie.Need-same-length-4
 same-length-4 c = search needs
 
-returns-3 : tie.Need-returns-3
-returns-3 c =
-    let s = c .before .before .before .before .before .before .before .before .before .before .before in
-    (refl, noted-ready (s .args .used .now) (s .args .absent .now) (s .pre .0) (s .args .q) (s .pre .1) (s .pre .3) (s .pre .4) (c .before .before .before .before .if2 .left) (c .before .before .before .before .before .before .if1 .left) _ (c .before .before .set .ensures))
+same-length-5 : tie.Need-same-length-5
+same-length-5 c = search needs
+
+returns-4 : tie.Need-returns-4
+returns-4 c =
+    let s = c .before .before .before .before .before .before .before .before .before .before .before .before in
+    (refl, noted-ready (s .args .used .now) (s .args .absent .now) (s .args .at) (s .pre .0) (s .args .q) (s .pre .1) (s .pre .3) (s .pre .4) (omega (arith, c .before .before .before .before .before .before .if2 .left)) (c .before .before .before .before .if3 .left) (c .before .before .before .before .before .before .before .if1 .left) _ (c .before .before .set .ensures))
 
 pub note-spec : {M : Type 1} → statement M
 note-spec =
@@ -59,11 +68,13 @@ note-spec =
     slice-write-absent
     same-length
     returns
-    shared-slice-read-if2
     same-length-2
     returns-2
+    shared-slice-read-if3
+    same-length-3
+    returns-3
     cast-set
     set-requires
-    same-length-3
     same-length-4
-    returns-3)
+    same-length-5
+    returns-4)
