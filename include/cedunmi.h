@@ -64,9 +64,9 @@
  * root says nothing of the other two.
  *
  * Stack. A call uses at most CMT_STACK_BYTES bytes of the caller's stack at
- * depth 1 to 5, without a depth, or with one that is refused; at depth 6 to 9 it
- * uses more, at most CMT_STACK_BYTES_AT(depth). No call tests whether there is
- * room. A thread whose stack is smaller must not make deeper calls: it would run
+ * depth 1 to 5, without a depth, or with one that is refused; at depth 6 to 9 a
+ * call that takes or writes a table uses more, at most CMT_STACK_BYTES_AT(depth).
+ * No call tests whether there is room. A thread whose stack is smaller must not make deeper calls: it would run
  * over the end of its stack. These figures are measured, not proved.
  */
 #ifndef CEDUNMI_H

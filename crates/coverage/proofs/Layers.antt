@@ -39,7 +39,7 @@ none-below s n e i h = omega (arith, ap (λ (l : List ℕ). getD l i 0) e ∙ ge
 pub few-words : (d : ℕ) (ws : List ℕ) → readOf d ws ≡ Whole → length ws < 2 ^ 16
 few-words d ws r =
     let (some, most) = accepted-depth d ws r in
-    omega (arith, accepted-short d ws r, longest-grows d maxDepth some most, longest-nine)
+    omega (arith, accepted-short d ws r, longest-grows d 9 some (omega arith), longest-nine)
 
 -- the entries of a layer's data symbols, of an array of zeros for the lowest
 module _ (j : ℕ) (hj : j < maxDepth) (seen : List ℕ) (e : seen ≡ replicate (4 * 2 ^ (maxDepth - 1)) 0) (k : ℕ) (ek : k ≡ kOf j) where

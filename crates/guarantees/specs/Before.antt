@@ -1,5 +1,5 @@
 -- Every call that is lent a depth: those of now, and those of before 02's CR 6. A call's tests are the same but for two numbers, the largest depth and the
--- most bytes of a table from C. Definitions only.
+-- most bytes of a table from C; what they are made from, the definitions of other crates, is what it was. Definitions only.
 use mathlib.Core.Bool.{Bool, true, _&&_}
 use mathlib.Core.List.{List}
 use Prim.Native.Nat.{ℕ, _%_}

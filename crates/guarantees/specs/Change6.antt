@@ -93,6 +93,6 @@ pub record Change6 : Type 0 where
   -- the calls of now are those of before but for two numbers, 9 for 5 and 220,792 for 16,384
   pub two-numbers : now ≡ callsBy 9 220792
   pub as-before : (d : ℕ) → d ≤ 5 → AsBefore d
-  -- and these are the differences
+  -- and these are the differences: depths over 5, and tables whose length was wrong and is right now
   pub deeper-before : (d : ℕ) → 5 < d → EveryCall before d (λ number. number ≡ 1)
   pub longer-table : (d : ℕ) (table : List ℕ) → 1 ≤ d → d ≤ 5 → TableLength table → 16384 < length table → LongerTable d table

@@ -22,7 +22,7 @@ ghost use Rattle.house_table.specs.House.{houseWords, houseRow, houseLay
 // The words of the house table of the largest depth, and of the largest that needs little stack: 5·12·(2^D−1)+1.
 const HOUSE_WORDS: usize = 60 * ((1 << MAX_DEPTH) - 1) + 1;
 
-const SHALLOW_WORDS: usize = 60 * ((1 << SHALLOW) - 1) + 1;
+const SHALLOW_HOUSE_WORDS: usize = 60 * ((1 << SHALLOW) - 1) + 1;
 
 // The higher of two numbers.
 fn high(a: u32, b: u32) -> u32
@@ -167,6 +167,6 @@ pub fn write_bytes(out: &mut [u8], depth: usize) -> Answer
     if is_deep(depth) {
         return write_deep(out, depth);
     }
-    let mut words = [0u32; SHALLOW_WORDS];
+    let mut words = [0u32; SHALLOW_HOUSE_WORDS];
     write_in(out, depth, &mut words)
 }

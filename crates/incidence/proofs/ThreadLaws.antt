@@ -110,7 +110,3 @@ module _ (ws starts : List ℕ) (from x : ℕ) where
       by-test (holdsAt ws starts from x b)
       (λ t. absurd (omega (arith, pick-yes (holdsAt ws starts from x b) (suc b) (below ws starts from x b) t)))
       (λ t. below-none b (sym (pick-no (holdsAt ws starts from x b) (suc b) (below ws starts from x b) t) ∙ h) e k ∙ hits-pass e b k t)
-
-  -- its equation is one of n
-  pub below-equation : (n b s : ℕ) → below ws starts from x b ≡ suc s → b ≤ 8 * n → s / 8 < n
-  below-equation n b s h l = omega (arith, below-step b s h .under)

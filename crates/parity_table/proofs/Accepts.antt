@@ -144,13 +144,3 @@ members-there ws j e at size x = part-ends ws at size ∙ x .members
 -- the number of an equation is computed with no loss
 pub number-small : (j e : ℕ) → j < maxDepth → e < 3 * kOf j → (kOf 0 ≤ kOf j) × (kOf j ≤ 4 * 2 ^ maxDepth)
 number-small j e h g = (omega (arith, k-grows 0 j, ap kOf (zero-add j)), k-small j h)
-
--- the index of an accepted table has room in a buffer for the largest depth
-pub index-room : (d : ℕ) (ws : List ℕ) (n : ℕ) → equationsAbove maxDepth ≤ n → readOf d ws ≡ Whole → length (indexOf ws) ≤ n
-unfolding equationsAbove
-index-room d ws n h r =
-    let (a, b) = accepted-depth d ws r in
-    omega (arith, index-length d ws r, k-grows d (maxDepth - d), ap kOf (omega-sum d b))
-  where
-    omega-sum : (d : ℕ) → d ≤ maxDepth → d + (maxDepth - d) ≡ maxDepth
-    omega-sum d h = omega arith

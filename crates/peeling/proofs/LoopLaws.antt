@@ -51,7 +51,7 @@ module _ {root ws starts last next : List ℕ} {from j : ℕ} {t₀ m₀ o₀ u�
 
       -- no equation can be taken
       pub search-over : length u₀ ≤ e → Ends kind root ws starts from j t₀ m₀ o₀ u₀ s₀ t m o u s outcome.Peeled × (s ≤ s₀ + length u₀)
-          × (Counted ws starts from j (length u) m a × Ordered u a (length u) order′)
+          × (Counted ws starts from j (length u) m a × Ordered u a 0 order′)
       search-over h =
           (peel-over (q .peeling) (λ x b. none-before x (omega arith) b), stored-few (q .peeling), (q .counted, picked-over u a e at l (omega (arith, listed))))
 

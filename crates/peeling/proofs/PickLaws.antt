@@ -44,12 +44,13 @@ module _ (u a : List ℕ) (e : ℕ) where
     resized : {order : List ℕ} → Order (length u) then order → Ordered (set u e 1) a (max at (e + 1)) order
     resized {order} = subst (λ (n : ℕ). Order n then order) (sym (length-set u e 1))
 
-    -- no equation was left
-    pub picked-over : {order : List ℕ} → Picked u a at e order → length u ≤ e → Ordered u a (length u) order
+    -- no equation was left: the order is empty, as when the cursor stands before them all
+    pub picked-over : {order : List ℕ} → Picked u a at e order → length u ≤ e → Ordered u a 0 order
     picked-over {order} p h =
-        order-same (subst (λ (n : ℕ). Order n then order) (length-set u e 1) (p .ordered)) (λ x. ltb x (length u) && ready u a x)
+        order-same (subst (λ (n : ℕ). Order n then order) (length-set u e 1) (p .ordered)) (λ x. ltb x 0 && ready u a x)
         (λ x b.
-        ap₂ (λ (c d : Bool). c && d) (lt-ltb x (length u) b ∙ sym (lt-ltb x (max at (e + 1)) (omega arith))) (sym (used-other x (λ z. omega arith))))
+        ap (λ (c : Bool). c && ready u a x) (le-ltb x 0 (omega arith))
+        ∙ sym (ap₂ (λ (c d : Bool). c && d) (lt-ltb x (max at (e + 1)) (omega arith)) (used-other x (λ z. omega arith) ∙ p .none x (omega arith))))
 
 -- ---- the order's least entry
 

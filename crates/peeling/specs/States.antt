@@ -24,8 +24,8 @@ endOf j (Twins x) = repair.twins j x
 pub record Came (f : St → St) (j : ℕ) (t m o u t′ m′ o′ u′ : List ℕ) (s s′ : ℕ) (r : Outcome) : Type 0 where
   pub goes : (d : ℕ) → f (state t m o u s d working) ≡ state t′ m′ o′ u′ s′ d (endOf j r)
 
--- where an outcome leaves more to do, the lists by which the next equation is found are right
+-- where no equation can be taken any more, the lists by which the next one is found are right for another call
 abbrev pub Kept : List ℕ → List ℕ → ℕ → ℕ → List ℕ → List ℕ → List ℕ → List ℕ → Outcome → Type 0
-Kept ws starts from j m u absent order Peeled = Counted ws starts from j (length u) m absent × Ordered u absent (length u) order
+Kept ws starts from j m u absent order Peeled = Counted ws starts from j (length u) m absent × Ordered u absent 0 order
 Kept ws starts from j m u absent order (Fault e x n) = Unit {0}
 Kept ws starts from j m u absent order (Twins x) = Unit {0}

@@ -1,11 +1,11 @@
 -- One layer of a repair on the lent buffers: sweep, peeling and (c) are the definition's layer.
 use mathlib.Core.Bool.{false}
-use mathlib.Core.List.{List, _∷_}
+use mathlib.Core.List.{List}
 use mathlib.Core.Path.{_∙_, _≡_, ap, ap₂, refl, subst, sym}
-use Prim.Native.Nat.{_*_, _+_, _-_, _<_, _^_, _≤_, suc, zero, ℕ}
+use Prim.Native.Nat.{_*_, _+_, _-_, _<_, _≤_, suc, ℕ}
 use native.Mathlib.Omega.{arith}
 use lib.Dec.{ltb}
-use lib.ListN.{drop, getD, length, length-replicate, replicate, take}
+use lib.ListN.{drop, getD, length, length-replicate, replicate}
 use borrow.Author.Tests.{le-ltb, lt-ltb}
 use Rattle.octets.proofs.Choice.{by-test, pick-no, pick-yes}
 use Rattle.octets.specs.Choice.{pick}

@@ -1,7 +1,6 @@
 -- `repair_with` meets its contract: sweep, peeling and (c), with the layer's own lists.
-use mathlib.Core.List.{List}
 use mathlib.Core.Path.{_∙_, ap, refl, subst, sym}
-use Prim.Native.Nat.{_*_, _≤_, ℕ}
+use Prim.Native.Nat.{ℕ}
 use native.Mathlib.Omega.{arith}
 use lib.ListN.{length, length-replicate, replicate}
 use Rattle.parity_table.specs.Parse.{tableOf}
