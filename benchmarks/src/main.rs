@@ -15,17 +15,15 @@ mod checks;
 mod clock;
 mod depths;
 mod openssl;
-mod random;
 mod repair;
-mod search;
 mod sha256;
 mod table;
 mod timing;
 mod tree;
 mod turns;
 mod volume;
-mod worst;
 
+use linear::worst;
 use std::process::ExitCode;
 
 const USAGE: &str = "usage: check | time TRIALS NAME.. | work NAME LENGTH N | table TRIALS | \

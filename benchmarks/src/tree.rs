@@ -2,7 +2,7 @@
 
 use crate::depths::{calls, depths};
 use crate::turns::{each, shortest, Work};
-use crate::volume::{hash, house, long, Volume};
+use crate::volume::{hash, house, long, write_plainly, Volume};
 
 /// Trees in one trial.
 fn times(v: &Volume) -> usize {
@@ -11,7 +11,7 @@ fn times(v: &Volume) -> usize {
 
 const WORK: [Work<Volume>; 3] = [
     ("cedunmi", |v| each(times(v), || v.write())),
-    ("reference", |v| each(times(v), || v.write_plainly())),
+    ("reference", |v| each(times(v), || write_plainly(v))),
     ("hashes", |v| each(times(v), || hash(&v.tree, v.marks.len()))),
 ];
 

@@ -1,59 +1,15 @@
 //! Trees of the house table, of the table with the longest equations, and of the worst tables.
 
-use crate::worst::{self, Chain};
-use reference::table::{data_symbols, house_equation, to_bytes, write, Layers};
-use reference::tree::{self, block_len, tree_symbols, ROOT, SYMBOL};
+use linear::worst::{self, Chain};
+use reference::table::Layers;
+use reference::tree::{self, SYMBOL};
 
-/// The buffers of a tree.
-pub struct Volume {
-    pub depth: u64,
-    pub table: Vec<u8>,
-    pub block: Vec<u8>,
-    pub tree: Vec<u8>,
-    pub marks: Vec<u8>,
-    pub root: Vec<u8>,
-}
+pub use linear::volume::{house, Volume};
 
-impl Volume {
-    /// A block, and buffers for its tree.
-    pub fn new(layers: &Layers) -> Volume {
-        let depth = layers.len();
-        let bytes = block_len(depth) as u32;
-        Volume {
-            depth: depth as u64,
-            table: to_bytes(&write(layers)),
-            block: (0..bytes).map(|i| (i.wrapping_mul(2_654_435_761) >> 13) as u8).collect(),
-            tree: vec![0; SYMBOL * tree_symbols(depth)],
-            marks: vec![0; tree_symbols(depth)],
-            root: vec![0; ROOT],
-        }
-    }
-
-    /// The tree of a block.
-    pub fn written(layers: &Layers) -> Volume {
-        let mut volume = Volume::new(layers);
-        volume.write();
-        volume
-    }
-
-    pub fn write(&mut self) {
-        let (tree, marks, root) = (&mut self.tree, &mut self.marks, &mut self.root);
-        let result =
-            cedunmi_sys::cmt_tree_write(self.depth, &self.table, &self.block, tree, marks, root);
-        assert_eq!(result, 0);
-    }
-
-    /// The reference's writing.
-    pub fn write_plainly(&mut self) {
-        let (tree, marks, root) = (&mut self.tree, &mut self.marks, &mut self.root);
-        assert!(tree::write(self.depth, &self.table, &self.block, tree, marks, root).is_ok());
-    }
-}
-
-/// The house table.
-pub fn house(depth: usize) -> Layers {
-    let equations = |k: usize| (0..3 * k).map(|e| house_equation(k, e)).collect();
-    (0..depth).map(data_symbols).map(equations).collect()
+/// The reference's writing.
+pub fn write_plainly(volume: &mut Volume) {
+    let Volume { depth, table, block, tree, marks, root } = volume;
+    assert!(tree::write(*depth, table, block, tree, marks, root).is_ok());
 }
 
 /// A table whose members are scattered, eight in nearly every equation.

@@ -1,0 +1,50 @@
+//! Trees of a table.
+
+use reference::table::{data_symbols, house_equation, to_bytes, write, Layers};
+use reference::tree::{block_len, tree_symbols, ROOT, SYMBOL};
+
+/// The buffers of a tree.
+pub struct Volume {
+    pub depth: u64,
+    pub table: Vec<u8>,
+    pub block: Vec<u8>,
+    pub tree: Vec<u8>,
+    pub marks: Vec<u8>,
+    pub root: Vec<u8>,
+}
+
+impl Volume {
+    /// A block, and buffers for its tree.
+    pub fn new(layers: &Layers) -> Volume {
+        let depth = layers.len();
+        let bytes = block_len(depth) as u32;
+        Volume {
+            depth: depth as u64,
+            table: to_bytes(&write(layers)),
+            block: (0..bytes).map(|i| (i.wrapping_mul(2_654_435_761) >> 13) as u8).collect(),
+            tree: vec![0; SYMBOL * tree_symbols(depth)],
+            marks: vec![0; tree_symbols(depth)],
+            root: vec![0; ROOT],
+        }
+    }
+
+    /// The tree of a block.
+    pub fn written(layers: &Layers) -> Volume {
+        let mut volume = Volume::new(layers);
+        volume.write();
+        volume
+    }
+
+    pub fn write(&mut self) {
+        let (tree, marks, root) = (&mut self.tree, &mut self.marks, &mut self.root);
+        let result =
+            cedunmi_sys::cmt_tree_write(self.depth, &self.table, &self.block, tree, marks, root);
+        assert_eq!(result, 0);
+    }
+}
+
+/// The house table.
+pub fn house(depth: usize) -> Layers {
+    let equations = |k: usize| (0..3 * k).map(|e| house_equation(k, e)).collect();
+    (0..depth).map(data_symbols).map(equations).collect()
+}
