@@ -3,14 +3,15 @@ use mathlib.Core.Path.{_≡_, refl, sym, ap, _∙_, subst}
 use mathlib.Core.Logic.{_↔_}
 use mathlib.Core.Bool.{Bool, true, false, _&&_}
 use mathlib.Core.List.{List}
-use Prim.Native.Nat.{ℕ, _-_, _*_, _%_, _≤_, _<_}
+use Prim.Native.Nat.{ℕ, zero, suc, _-_, _*_, _%_, _≤_, _<_}
 use native.Mathlib.Omega.{arith}
 use native.Mathlib.Decide.{decLt}
 use lib.ListN.{length}
 use lib.Dec.{leb, eqb}
-use borrow.Author.Tests.{le-leb, lt-leb}
+use borrow.Author.Tests.{eqb-true, le-leb, leb-false, leb-true, lt-leb}
 use Rattle.octets.specs.BigEndian.{bytesOf}
 use Rattle.octets.specs.Choice.{pick}
+use Rattle.octets.proofs.Choice.{by-test}
 use Rattle.parity_table.specs.Shape.{depthFits}
 use Rattle.parity_table.specs.Table.{tableWords}
 use Rattle.parity_table.specs.Reader.{readOf}
@@ -38,7 +39,7 @@ use Rattle.guarantees.specs.Answers.{test, holds, unless, JustWhen}
 use Rattle.guarantees.specs.Refusals.{DepthRight, TableLength}
 use Rattle.guarantees.specs.Cases.{EveryCall}
 use Rattle.guarantees.specs.Before.{now, tableBy, callsBy, before}
-use Rattle.guarantees.specs.Change6.{DepthNine, Accepted, AsBefore, LongerTable, Change6}
+use Rattle.guarantees.specs.Change6.{DepthNine, Accepted, AsBefore, LengthAsBefore, LongerTable, Change6}
 use Rattle.guarantees.proofs.Answers.{never, done-never, left}
 use Rattle.guarantees.proofs.Layouts.{tree-symbols}
 use Rattle.guarantees.proofs.Tables.{right-formed, formed-right}
@@ -103,23 +104,58 @@ two-numbers : now ≡ callsBy 9 220792
 unfolding depthFits lengthFits readOf testDepth houseAnswer treeWritten blockRead sampleTaken sampleChecked proofChecked repairTested repaired
 two-numbers = refl
 
+-- such a length is right now just where it was
+length-same : (table : List ℕ) → (TableLength table → length table ≤ 16384)
+    → (leb (length table) 220792 && eqb (length table % 4) 0) ≡ (leb (length table) 16384 && eqb (length table % 4) 0)
+length-same table h =
+    by-test (leb (length table) 16384)
+    (λ t. let l = leb-true (length table) 16384 t in rw (t, le-leb (length table) 220792 (omega arith)))
+    (λ t.
+    by-test (eqb (length table % 4) 0)
+    (λ q.
+    by-test (leb (length table) 220792)
+    (λ w.
+    absurd
+    (omega
+    (arith, h (record { not-over = leb-true (length table) 220792 w; in-words = eqb-true (length table % 4) 0 q }), leb-false (length table) 16384 t)))
+    (λ w. rw (t, w)))
+    (λ q. rw q (alike (leb (length table) 220792) (leb (length table) 16384))))
+  where
+    alike : (a b : Bool) → (a && false) ≡ (b && false)
+    alike true true = refl
+    alike true false = refl
+    alike false true = refl
+    alike false false = refl
+
 as-before : (d : ℕ) → d ≤ 5 → AsBefore d
-unfolding depthFits lengthFits readOf testDepth houseAnswer treeWritten blockRead sampleTaken sampleChecked proofChecked repairTested repaired
-as-before d h =
-    let five = le-leb d 5 h in
-    let nine = le-leb d 9 (omega arith) in
-    let short : (table : List ℕ) → length table ≤ 16384 → leb (length table) 16384 ≡ true = λ table l. le-leb (length table) 16384 l in
-    let within : (table : List ℕ) → length table ≤ 16384 → leb (length table) 220792 ≡ true = λ table l. le-leb (length table) 220792 (omega arith) in
+unfolding depthFits lengthFits readOf testDepth houseAnswer treeWritten blockRead sampleTaken sampleChecked proofChecked repairTested repaired pick
+as-before zero h =
+    record {
+      table-words = λ ws. refl;
+      table-bytes = λ table l. refl;
+      house = λ n m. refl;
+      tree-writer = λ table b t m root l. refl;
+      block-reader = λ t m b. refl;
+      sampler = λ i t m s. refl;
+      sample-checker = λ i root s. refl;
+      proof-checker = λ root table b l. refl;
+      repairer = λ root table t m o l. refl;
+    }
+as-before (suc d) h =
+    let five = le-leb (suc d) 5 h in
+    let nine = le-leb (suc d) 9 (omega arith) in
+    let same : (table : List ℕ) → LengthAsBefore (suc d) table
+    → (leb (length table) 220792 && eqb (length table % 4) 0) ≡ (leb (length table) 16384 && eqb (length table % 4) 0) = λ table l. length-same table (l (omega arith)) in
     record {
       table-words = λ ws. rw (five, nine);
-      table-bytes = λ table l. rw (five, nine, short table l, within table l);
+      table-bytes = λ table l. rw (five, nine, same table l);
       house = λ n m. rw (five, nine);
-      tree-writer = λ table b t m root l. rw (five, nine, short table l, within table l);
+      tree-writer = λ table b t m root l. rw (five, nine, same table l);
       block-reader = λ t m b. rw (five, nine);
       sampler = λ i t m s. rw (five, nine);
       sample-checker = λ i root s. rw (five, nine);
-      proof-checker = λ root table b l. rw (five, nine, short table l, within table l);
-      repairer = λ root table t m o l. rw (five, nine, short table l, within table l);
+      proof-checker = λ root table b l. rw (five, nine, same table l);
+      repairer = λ root table t m o l. rw (five, nine, same table l);
     }
 
 deeper-before : (d : ℕ) → 5 < d → EveryCall before d (λ number. number ≡ 1)

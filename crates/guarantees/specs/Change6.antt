@@ -59,17 +59,21 @@ pub record Accepted (d : ℕ) : Type 0 where
 
 -- ---- "Stored forms of depth 1 to 5 read and come out as before."
 
--- what each call answers and leaves is what it answered and left, with any table of no more bytes than were allowed
+-- a table whose length is wrong, or was right before, wherever the depth is looked at first
+abbrev pub LengthAsBefore : ℕ → List ℕ → Type 0
+LengthAsBefore d table = 1 ≤ d → TableLength table → length table ≤ 16384
+
+-- what each call answers and leaves is what it answered and left, with any such table
 pub record AsBefore (d : ℕ) : Type 0 where
   pub table-words : (ws : List ℕ) → wordsTested d ws ≡ before .table-words d ws
-  pub table-bytes : (table : List ℕ) → length table ≤ 16384 → admitted d true table ≡ before .table-bytes d table
+  pub table-bytes : (table : List ℕ) → LengthAsBefore d table → admitted d true table ≡ before .table-bytes d table
   pub house : (n m : ℕ) → houseAnswer d n m ≡ before .house d n m
-  pub tree-writer : (table b t m root : List ℕ) → length table ≤ 16384 → treeWritten d table b t m root ≡ before .tree-writer d table b t m root
+  pub tree-writer : (table b t m root : List ℕ) → LengthAsBefore d table → treeWritten d table b t m root ≡ before .tree-writer d table b t m root
   pub block-reader : (t m b : List ℕ) → blockRead d t m b ≡ before .block-reader d t m b
   pub sampler : (i : ℕ) (t m s : List ℕ) → sampleTaken d i t m s ≡ before .sampler d i t m s
   pub sample-checker : (i : ℕ) (root s : List ℕ) → sampleChecked d i root s ≡ before .sample-checker d i root s
-  pub proof-checker : (root table b : List ℕ) → length table ≤ 16384 → proofChecked d root table b ≡ before .proof-checker d root table b
-  pub repairer : (root table t m o : List ℕ) → length table ≤ 16384 → repaired d root table t m o ≡ before .repairer d root table t m o
+  pub proof-checker : (root table b : List ℕ) → LengthAsBefore d table → proofChecked d root table b ≡ before .proof-checker d root table b
+  pub repairer : (root table t m o : List ℕ) → LengthAsBefore d table → repaired d root table t m o ≡ before .repairer d root table t m o
 
 -- a table of more: every call that is lent it stopped with 2; now it passes 2, where the other lengths are right, and stops with 3
 pub record LongerTable (d : ℕ) (table : List ℕ) : Type 0 where

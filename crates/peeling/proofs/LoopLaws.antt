@@ -58,7 +58,7 @@ module _ {root ws starts last next : List ℕ} {from j : ℕ} {t₀ m₀ o₀ u�
       -- equation e is the lowest
       module _ (he : e < length u₀) where
         aye : can j m u e (membersAt ws starts (from + e)) ≡ true
-        aye = can-is u (q .counted) e (omega (arith, listed)) ∙ l .aye (omega (arith, listed))
+        aye = can-is u (q .counted) e (omega (arith, listed)) ∙ l .is-ready (omega (arith, listed))
 
         none : (x : ℕ) → x < e → can j m u x (membersAt ws starts (from + x)) ≡ false
         none x h = none-before x h (omega arith)

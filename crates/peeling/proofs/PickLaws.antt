@@ -67,7 +67,7 @@ module _ (u a : List ℕ) (at : ℕ) {order : List ℕ} (k : Ordered u a at orde
       record {
         inside = omega arith;
         none = λ x lx. before x (omega arith) (least-first k l x lx (omega arith));
-        aye = λ i. r;
+        is-ready = λ i. r;
         ordered =
             resized u a e at
             (order-set k (then u a e at) e v after h (λ x lx d. ap₂ (λ (y : ℕ) (w : Bool). ltb x y && w) z (used-other u a e x d)) c
@@ -106,7 +106,7 @@ module _ (u a : List ℕ) (at : ℕ) {order : List ℕ} (k : Ordered u a at orde
         record {
           inside = omega (arith, next .upto);
           none = below;
-          aye = λ b. next .found (omega arith);
+          is-ready = λ b. next .found (omega arith);
           ordered = resized u a r at (order-same k (then u a r at) (λ x b. gone x b ∙ sym (empty x b)));
         }
 

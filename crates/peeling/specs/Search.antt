@@ -36,7 +36,7 @@ Ordered used absent at order = Order (length used) (λ e. ltb e at && ready used
 pub record Picked (used absent : List ℕ) (at e : ℕ) (order : List ℕ) : Type 0 where
   pub inside : e ≤ length used
   pub none : (x : ℕ) → x < e → ready used absent x ≡ false
-  pub aye : e < length used → ready used absent e ≡ true
+  pub is-ready : e < length used → ready used absent e ≡ true
   pub ordered : Ordered (set used e 1) absent (max at (e + 1)) order
 
 -- ---- the absent members

@@ -18,7 +18,7 @@ ghost use Rattle.peeling.specs.Levels.{Peelable, Reads};
 ghost use Rattle.peeling.specs.States.{Came, Kept};
 
 // Peels layer j, whose equations' members start at the entries of starts from number `from` on, with so many symbols stored before. It has as many
-// equations as there are entries of used. Where none can be taken any more, absent is right, and so is order with the cursor past them all.
+// equations as there are entries of used. Where none can be taken any more, absent and order are right for another call.
 pub fn peel_layer(
     kind: Kind,
     root: &[u8],

@@ -28,6 +28,7 @@ pub fn length_fits(n: usize) -> bool
     n % 4 == 0
 }
 
+// The lesser of two numbers.
 fn lesser(a: usize, b: usize) -> usize
     ensures { λ r. ⌜ r ≡ min a b ⌝ }
 {
