@@ -12,55 +12,40 @@ use crate::library::{by, by_tests, Function, Library};
 use crate::CALLS;
 use std::thread;
 
-/// A test that a wrong function, over a copy of what it is lent, differs as the
-/// pattern says; or in its result, as the patterns say of the number expected and of
-/// the number found, whatever values go with them. `CALL` is the call.
-macro_rules! wrong {
-    ($name:ident, $difference:pat, $body:expr) => {
+/// A test that these parts of the comparison find a wrong function, over a copy of what it
+/// is lent: it differs as the pattern says; or in its result, as the patterns say of the
+/// number expected and of the number found, whatever values go with them. `CALL` is the call.
+macro_rules! found_by {
+    ($parts:expr, $name:ident, $difference:pat, $body:expr) => {
         #[test]
         fn $name() {
             let body: fn(&mut $crate::input::Input) -> u64 = $body;
             let place = |d: &$crate::difference::Difference| matches!(d, $difference);
             let function = $crate::library::by(&CALL, body);
-            $crate::mutants::find(&CALL, stringify!($name), function, place).unwrap();
+            $crate::mutants::find_in($parts, &CALL, stringify!($name), function, place).unwrap();
         }
     };
-    ($name:ident, $expected:pat => $found:pat, $body:expr) => {
+    ($parts:expr, $name:ident, $expected:pat => $found:pat, $body:expr) => {
         #[test]
         fn $name() {
             let body: fn(&mut $crate::input::Input) -> u64 = $body;
             let place = |expected, found| matches!((expected, found), ($expected, $found));
-            $crate::mutants::find_number(&CALL, stringify!($name), body, place).unwrap();
+            $crate::mutants::find_number($parts, &CALL, stringify!($name), body, place).unwrap();
         }
+    };
+}
+
+/// The same of all parts of the comparison.
+macro_rules! wrong {
+    ($($wrong:tt)*) => {
+        $crate::mutants::found_by!($crate::mutants::ALL, $($wrong)*);
     };
 }
 
 /// The same of a function that is wrong at deep depths alone, which the comparisons there find.
 macro_rules! wrong_deep {
-    ($name:ident, $difference:pat, $body:expr) => {
-        #[test]
-        fn $name() {
-            let body: fn(&mut $crate::input::Input) -> u64 = $body;
-            let place = |d: &$crate::difference::Difference| matches!(d, $difference);
-            let function = $crate::library::by(&CALL, body);
-            let deep = $crate::mutants::DEEP_ALONE;
-            $crate::mutants::find_in(deep, &CALL, stringify!($name), function, place).unwrap();
-        }
-    };
-    ($name:ident, $expected:pat => $found:pat, $body:expr) => {
-        #[test]
-        fn $name() {
-            let body: fn(&mut $crate::input::Input) -> u64 = $body;
-            let place = |d: &$crate::difference::Difference| match *d {
-                $crate::difference::Difference::Result { expected, found } => {
-                    matches!((expected % 256, found % 256), ($expected, $found))
-                }
-                _ => false,
-            };
-            let function = $crate::library::by(&CALL, body);
-            let deep = $crate::mutants::DEEP_ALONE;
-            $crate::mutants::find_in(deep, &CALL, stringify!($name), function, place).unwrap();
-        }
+    ($($wrong:tt)*) => {
+        $crate::mutants::found_by!($crate::mutants::DEEP_ALONE, $($wrong)*);
     };
 }
 
@@ -74,7 +59,7 @@ macro_rules! wrong_test {
     };
 }
 
-pub(crate) use {wrong, wrong_deep, wrong_test};
+pub(crate) use {found_by, wrong, wrong_deep, wrong_test};
 
 /// The parts that find a function, in their order.
 pub const ALL: &[Part] = &[Part::Shallow, Part::Deep];
@@ -108,12 +93,13 @@ pub fn find_in(
 
 /// The same where the result is wrong, by the number expected and the number found.
 pub fn find_number(
+    parts: &[Part],
     call: &'static Call,
     name: &str,
     body: fn(&mut Input) -> u64,
     place: impl Fn(u64, u64) -> bool,
 ) -> Result<(), String> {
-    find(call, name, by(call, body), |difference| match *difference {
+    find_in(parts, call, name, by(call, body), |difference| match *difference {
         Difference::Result { expected, found } => place(expected % 256, found % 256),
         _ => false,
     })
