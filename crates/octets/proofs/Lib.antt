@@ -5,3 +5,4 @@ pub mod Stores
 pub mod Writes
 pub mod HexLaws
 pub mod ListLaws
+pub mod SameLaws

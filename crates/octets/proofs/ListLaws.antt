@@ -1,15 +1,16 @@
 -- Lists byte by byte, as loops meet them: filled, compared, and taken together by exclusive-or.
 use mathlib.Core.Path.{_≡_, refl, sym, ap, ap₂, _∙_}
-use mathlib.Core.Bool.{true, false}
+use mathlib.Core.Bool.{Bool, true, false, _&&_, and-true, and-assoc}
 use mathlib.Core.List.{List, [], _∷_, _++_}
-use Prim.Native.Nat.{ℕ, zero, suc, _+_, _-_, _≤_, _<_, min}
+use Prim.Native.Nat.{ℕ, zero, suc, _+_, _-_, _≤_, _<_, min, max}
 use native.Mathlib.Decide.{decLt}
 use native.Mathlib.Omega.{arith}
-use native.Mathlib.Numerals.{add-one}
+use native.Mathlib.Numerals.{add-one, unary-clauses}
 use lib.Bits.{bitXor}
+use lib.Dec.{eqb}
 use borrow.Author.Tests.{eq-eqb, ne-eqb}
 use lib.ListN.{length, getD, take, drop, set, replicate, length-set, length-take, length-drop, drop-of-length-le}
-use lib.Seq.{drop-cons, getD-take, getD-drop, getD-set-same, getD-set-other, ext-getD, take-suc-set}
+use lib.Seq.{drop-cons, getD-take, getD-drop, getD-set-same, getD-set-other, ext-getD, take-all, take-suc-set}
 use Rattle.octets.specs.ByteLists.{same, xors}
 
 -- the front of an array of zeros
@@ -54,6 +55,28 @@ same-stop a b i ha hb e = rw (drop-cons a i 0 ha, drop-cons b i 0 hb, ne-eqb (ge
 pub same-end : (a b : List ℕ) (i : ℕ) → length a ≤ i → length b ≤ i → same (drop i a) (drop i b) ≡ true
 unfolding same
 same-end a b i ha hb = ap₂ same (drop-of-length-le a ha) (drop-of-length-le b hb)
+
+-- ---- zeros, by the greatest byte
+
+max-zero : (a b : ℕ) → eqb (max a b) 0 ≡ (eqb a 0 && eqb b 0)
+max-zero zero b = simp unary-clauses refl
+max-zero (suc a) b = rw (ne-eqb (max (suc a) b) 0 (λ e. omega arith), ne-eqb (suc a) 0 (λ e. omega arith))
+
+-- one byte more
+zero-snoc : (l : List ℕ) (i : ℕ) → i < length l → same (take (suc i) l) (replicate (suc i) 0) ≡ (same (take i l) (replicate i 0) && eqb (getD l i 0) 0)
+unfolding same
+zero-snoc [] i h = absurd (omega arith)
+zero-snoc (x ∷ xs) zero h = and-true (eqb x 0)
+zero-snoc (x ∷ xs) (suc i) h =
+    ap (λ (b : Bool). eqb x 0 && b) (zero-snoc xs i (omega arith)) ∙ sym (and-assoc (eqb x 0) (same (take i xs) (replicate i 0)) (eqb (getD xs i 0) 0))
+
+pub zero-turn : (l : List ℕ) (i m r : ℕ) → i < length l → r ≡ max m (getD l i 0) → same (take i l) (replicate i 0) ≡ eqb m 0
+    → same (take (i + 1) l) (replicate (i + 1) 0) ≡ eqb r 0
+zero-turn l i m r h er e =
+    rw add-one (zero-snoc l i h ∙ ap (λ (b : Bool). b && eqb (getD l i 0) 0) e ∙ sym (max-zero m (getD l i 0)) ∙ ap (λ (n : ℕ). eqb n 0) (sym er))
+
+pub zero-end : (l : List ℕ) (i m : ℕ) → i ≡ length l → same (take i l) (replicate i 0) ≡ eqb m 0 → eqb m 0 ≡ same l (replicate (length l) 0)
+zero-end l i m h e = sym e ∙ ap₂ (λ (q : List ℕ) (n : ℕ). same q (replicate n 0)) (take-all i l (omega arith)) h
 
 -- ---- exclusive-or
 

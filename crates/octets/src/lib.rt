@@ -6,6 +6,7 @@ pub use hex::put_hex;
 pub use lists::equal_at;
 pub use lists::fill;
 pub use lists::fill_words;
+pub use lists::is_zero;
 pub use lists::xor_at;
 ghost use mathlib.Core.Path.{_≡_};
 ghost use Prim.Native.Nat.{_+_, _*_, _≤_, _^_, min};
