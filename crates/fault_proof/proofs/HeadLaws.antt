@@ -14,22 +14,15 @@ use Rattle.parity_table.specs.Table.{layerOf, equationOf}
 use Rattle.parity_table.specs.Reader.{readOf}
 use Rattle.parity_table.specs.Parse.{tableOf, Indexed, HasEquation}
 use Rattle.parity_table.proofs.Accepts.{accepted-depth, accepted-table}
+use Rattle.heads.specs.Heads.{kindAt, valueAt}
 use Rattle.model.specs.Shape.{Shape}
 use Rattle.model.specs.Symbols.{bit, count}
-use Rattle.model.specs.Fault.{kindAt, valueAt, proofLayer, proofEquation, proofWithheld, proofMembers, proofGiven, layerOk, equationOk, memberOk, headOk, Verdict, wrongHead, proofCheck, withheldFits, verdict}
+use Rattle.model.specs.Fault.{proofLayer, proofEquation, proofWithheld, proofMembers, proofGiven, layerOk, equationOk, memberOk, headOk, Verdict, wrongHead, proofCheck, withheldFits, verdict}
 use Rattle.model.proofs.Counts.{isIt, count-drop, count-end}
 use Rattle.model.proofs.Tables.{table-laws}
 use Rattle.model.proofs.Hung.{top-hashes}
 use Rattle.fault_proof.specs.Lent.{Members}
 use Rattle.fault_proof.specs.Ruled.{withholds, ruled, judged}
-
--- ---- a word of the head
-
-pub names-kind : (b : List ℕ) (i kind bound k : ℕ) → k ≡ kindAt b i → (k ≡ kind → ⊥) → false ≡ (eqb (kindAt b i) kind && ltb (valueAt b i) bound)
-names-kind b i kind bound k e n = rw (sym e, ne-eqb k kind n)
-
-pub names-value : (b : List ℕ) (i kind bound k v : ℕ) → k ≡ kindAt b i → k ≡ kind → v ≡ valueAt b i → ltb v bound ≡ (eqb (kindAt b i) kind && ltb (valueAt b i) bound)
-names-value b i kind bound k v e n ev = rw (sym e, eq-eqb k kind n, ev)
 
 -- ---- a member
 

@@ -11,10 +11,11 @@ use borrow.Author.Tests.{leb-true, ltb-true, eq-eqb, ne-eqb}
 use Rattle.octets.specs.Choice.{pick}
 use Rattle.octets.specs.ByteLists.{same}
 use Rattle.octets.proofs.Choice.{and-yes, pick-yes, pick-no, not-no}
+use Rattle.heads.specs.Heads.{kindAt, valueAt}
 use Rattle.model.specs.Shape.{Shape, Hangs, tree}
 use Rattle.model.specs.Symbols.{count, others}
 use Rattle.model.specs.Climb.{Ways as FoundWays}
-use Rattle.model.specs.Fault.{kindAt, valueAt, proofWithheld, proofLength, body, givenXor, afterGiven, Verdict, accepted, wrongHead, wrongLength, broken, noFault, ruling, pathHash, waysCheck}
+use Rattle.model.specs.Fault.{proofWithheld, proofLength, body, givenXor, afterGiven, Verdict, accepted, wrongHead, wrongLength, broken, noFault, ruling, pathHash, waysCheck}
 use Rattle.model.proofs.Counts.{isIt, count-le, every-member, ascending-once, length-others}
 use Rattle.model.proofs.Ways.{after-at}
 use Rattle.model.proofs.Hung.{pathHash-hung, waysCheck-hung}

@@ -6,9 +6,10 @@ use lib.ListN.{length}
 use lib.Dec.{leb, eqb}
 use Rattle.octets.specs.Choice.{pick}
 use Rattle.octets.specs.ByteLists.{same}
+use Rattle.heads.specs.Heads.{kindAt}
 use Rattle.model.specs.Shape.{Shape}
 use Rattle.model.specs.Symbols.{count, others}
-use Rattle.model.specs.Fault.{kindAt, proofWithheld, proofLength, body, givenXor, afterGiven, Verdict, wrongHead, wrongLength, ruling, pathHash, waysCheck}
+use Rattle.model.specs.Fault.{proofWithheld, proofLength, body, givenXor, afterGiven, Verdict, wrongHead, wrongLength, ruling, pathHash, waysCheck}
 
 -- the third word of the proof b has its kind, with the number of one of the members ms
 unfoldable pub withholds : List ℕ → List ℕ → Bool

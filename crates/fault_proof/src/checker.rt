@@ -2,10 +2,10 @@
 use crate::Verdict;
 use crate::Ways;
 use crate::given;
-use crate::head::names;
-use crate::head::value_at;
 use crate::head::withholds;
 use crate::members;
+use heads::names;
+use heads::value_at;
 use parity_table::data_count;
 use parity_table::index;
 use symbol_hash::Kind;

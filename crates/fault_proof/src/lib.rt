@@ -1,14 +1,12 @@
 // The fault-proof checker's core, for a table and a root that are known to be right: tests 6, 2, 7, 8.
 mod checker; // the whole check
 mod given; // the given members' exclusive-or
-mod head; // the three words in front
+mod head; // the withheld member, which the head names
 mod members; // all members in proof order, with their paths
 mod way; // a symbol and its path
 
 pub use checker::check;
 pub use checker::judge;
-pub use head::names;
-pub use head::value_at;
 
 // What a proof is found to be.
 pub enum Verdict {

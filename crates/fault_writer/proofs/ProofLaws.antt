@@ -7,11 +7,12 @@ use native.Mathlib.Nat.{suc-mul}
 use native.Mathlib.Omega.{arith}
 use lib.Dec.{ltb}
 use lib.ListN.{drop, getD, length, length-append}
-use lib.Seq.{sets}
 use borrow.Author.Tests.{ltb-true}
-use Rattle.fault_writer.proofs.Splices.{length-splice, splice-more, splice-none, splice-over, stored}
+use Rattle.fault_writer.proofs.Splices.{splice-more, splice-none, splice-over}
 use Rattle.fault_writer.proofs.WayLaws.{layers-fewer, path-long, way-length}
-use Rattle.fault_writer.specs.Room.{Layers, Members, head, splice}
+use Rattle.fault_writer.specs.Room.{Layers, Members, splice}
+use Rattle.heads.proofs.HeadLaws.{length-head}
+use Rattle.heads.specs.Heads.{head}
 use Rattle.model.proofs.Counts.{every-others}
 use Rattle.model.proofs.Members.{every-below, others-end, others-skip, others-take}
 use Rattle.model.specs.Fault.{givenBytes, pathBytes, proofBytes, wayBytes}
@@ -21,22 +22,6 @@ use Rattle.octets.proofs.Choice.{and-yes}
 use Rattle.octets.specs.BigEndian.{be}
 use Rattle.parity_table.specs.Members.{every}
 use Rattle.parity_table.specs.Parse.{over}
-use Rattle.parity_table.specs.Table.{word}
-
--- ---- the head
-
-pub head-put : (j e x : ℕ) (out a b c : List ℕ) → 12 ≤ length out → a ≡ sets out 0 (be 4 (1073741824 + j)) → b ≡ sets a 4 (be 4 (2147483648 + e))
-    → c ≡ sets b 8 (be 4 (3221225472 + x)) → c ≡ splice out 0 (head j e x)
-unfolding be
-head-put j e x out a b c room ea eb ec =
-    let u : List ℕ = be 4 (word 1 j) in
-    let v : List ℕ = be 4 (word 2 e) in
-    let w : List ℕ = be 4 (word 3 x) in
-    let a₁ : a ≡ splice out 0 u = ea ∙ stored out 0 u (omega arith) in
-    let la : length a ≡ length out = ap length a₁ ∙ length-splice out 0 u (omega arith) in
-    let b₁ : b ≡ splice out 0 (u ++ v) = eb ∙ stored a 4 v (omega arith) ∙ ap (λ (l : List ℕ). splice l 4 v) a₁ ∙ splice-more out 0 u (omega arith) v in
-    let lb : length b ≡ length out = ap length b₁ ∙ length-splice out 0 (u ++ v) (omega arith) in
-    ec ∙ stored b 8 w (omega arith) ∙ ap (λ (l : List ℕ). splice l 8 w) b₁ ∙ splice-more out 0 (u ++ v) (omega arith) w
 
 -- ---- the given members
 
@@ -119,7 +104,7 @@ module _ (t ms : List ℕ) (j e x : ℕ) (k : Members j t ms) where
   path = pathBytes tree (symAt tree t) j x
 
   proof-is : proofBytes tree (symAt tree t) j e x ms ≡ head j e x ++ (given ++ path)
-  unfolding proofBytes be
+  unfolding proofBytes
   proof-is = refl
 
   given-long : (ys : List ℕ) → every (λ y. ltb y (k .symbols)) ys ≡ true → length (givenBytes tree (symAt tree t) j ys) ≡ 256 * (length ys * suc j)
@@ -139,15 +124,14 @@ module _ (t ms : List ℕ) (j e x : ℕ) (k : Members j t ms) where
   given-length = given-long (others x ms) (every-others (λ y. ltb y (k .symbols)) x ms (k .within))
 
   pub proof-length : length (proofBytes tree (symAt tree t) j e x ms) ≡ 12 + 256 * (length (others x ms) * suc j + j)
-  unfolding be
-  proof-length = ap length proof-is ∙ omega (arith, length-append given path, given-length, path-long t j (k .symbols) (k .layers) j x (omega arith))
+  proof-length = ap length proof-is ∙ omega (arith, length-append (head j e x) (given ++ path), length-head j e x, length-append given path, given-length, path-long t j (k .symbols) (k .layers) j x (omega arith))
 
-  pub proof-put : (out a b w : List ℕ) (p : ℕ) → 12 + 256 * (length (others x ms) * suc j + j) ≤ length out → length a ≡ length out → a ≡ splice out 0 (head j e x)
+  pub proof-put : (out a b w : List ℕ) (p : ℕ) → 12 + 256 * (length (others x ms) * suc j + j) ≤ length out → length a ≡ length out → a ≡ over (head j e x) out
       → b ≡ splice a 12 given → p ≡ 12 + length given → w ≡ splice b p path → w ≡ over (proofBytes tree (symAt tree t) j e x ms) out
-  unfolding be
+  unfolding head be
   proof-put out a b w p room la ea eb ep ew =
       ew ∙ ap₂ (λ (o : List ℕ) (n : ℕ). splice o n path) eb ep ∙ splice-more a 12 given (omega (arith, given-length)) path
-      ∙ ap (λ (o : List ℕ). splice o 12 (given ++ path)) ea
+      ∙ ap (λ (o : List ℕ). splice o 12 (given ++ path)) (ea ∙ sym (splice-over (head j e x) out))
       ∙ splice-more out 0 (head j e x) (omega arith) (given ++ path)
       ∙ splice-over (head j e x ++ (given ++ path)) out
       ∙ ap (λ (q : List ℕ). over q out) (sym proof-is)

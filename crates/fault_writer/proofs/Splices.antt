@@ -4,14 +4,11 @@ use mathlib.Core.Path.{_∙_, _≡_, ap, ap₂, sym}
 use Prim.Native.Nat.{_+_, _≤_, ℕ}
 use native.Mathlib.Omega.{arith}
 use lib.ListN.{drop, length, length-append, take}
-use lib.Seq.{drop-drop, drop-paste, length-paste, paste-zero, sets, sets-eq, take-length, take-paste}
+use lib.Seq.{drop-drop, drop-paste, paste-zero, take-length, take-paste}
 use Rattle.fault_writer.specs.Room.{splice}
 use Rattle.parity_table.specs.Parse.{over}
 
 module _ (o : List ℕ) (at : ℕ) (s : List ℕ) (h : at + length s ≤ length o) where
-  pub length-splice : length (splice o at s) ≡ length o
-  length-splice = length-paste o at s (length s) h (omega arith)
-
   -- a second piece right after the first
   pub splice-more : (p : List ℕ) → splice (splice o at s) (at + length s) p ≡ splice o at (s ++ p)
   splice-more p =
@@ -26,10 +23,6 @@ module _ (o : List ℕ) (at : ℕ) (s : List ℕ) (h : at + length s ≤ length 
       ap₂ (λ (a b : List ℕ). a ++ take (length p) p ++ b) front back
       ∙ ap₂ (λ (a : List ℕ) (k : ℕ). take at o ++ s ++ a ++ drop k o) (take-length p) n
       ∙ ap (λ (a : List ℕ). a ++ drop (at + length (s ++ p)) o) (append-assoc (take at o) s p ∙ ap (λ (a : List ℕ). take at o ++ a) (sym (take-length (s ++ p))))
-
-  -- stores of its bytes, one after the other, are a splice
-  pub stored : sets o at s ≡ splice o at s
-  stored = sets-eq s o at h ∙ ap (λ (l : List ℕ). take at o ++ l ++ drop (at + length s) o) (sym (take-length s))
 
 pub splice-none : (o : List ℕ) (at : ℕ) → splice o at [] ≡ o
 splice-none o at = sym (paste-zero o at [])

@@ -1,15 +1,13 @@
 -- What is written into the output buffer, and what the writers ask of the tree buffer. Definitions only.
 use mathlib.Core.Path.{_≡_}
 use mathlib.Core.Bool.{true}
-use mathlib.Core.List.{List, _++_}
+use mathlib.Core.List.{List}
 use Prim.Native.Nat.{ℕ, _+_, _*_, _^_, _≤_, _<_}
 use lib.Dec.{ltb}
 use lib.ListN.{length}
 use lib.Seq.{paste}
-use Rattle.octets.specs.BigEndian.{be}
 use Rattle.parity_table.specs.Members.{every}
 use Rattle.parity_table.specs.Shape.{maxDepth}
-use Rattle.parity_table.specs.Table.{word}
 use Rattle.model.specs.Shape.{tree, places}
 
 -- out with p in its place from byte at on
@@ -27,7 +25,3 @@ pub record Members (j : ℕ) (t ms : List ℕ) : Type 0 where
   pub numbered : symbols ≤ 2 ^ 30
   pub layers : Layers j symbols t
   pub within : every (λ y. ltb y symbols) ms ≡ true
-
--- the three words of a proof's head
-abbrev pub head : ℕ → ℕ → ℕ → List ℕ
-head j e x = be 4 (word 1 j) ++ (be 4 (word 2 e) ++ be 4 (word 3 x))

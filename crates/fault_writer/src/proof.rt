@@ -1,9 +1,6 @@
 // The whole fault proof: its head, the given members with their paths, and the withheld member's path.
 use crate::way::put_path;
 use crate::way::put_way;
-use parity_table::END;
-use parity_table::EQUATION;
-use parity_table::LAYER;
 ghost use mathlib.Core.Path.{_≡_};
 ghost use Prim.Native.Nat.{suc, _+_, _*_, _^_, _≤_, _<_};
 ghost use lib.ListN.{length};
@@ -11,7 +8,7 @@ ghost use Rattle.parity_table.specs.Parse.{over};
 ghost use Rattle.model.specs.Shape.{Shape, Hangs, tree as shape};
 ghost use Rattle.model.specs.Symbols.{others, symAt};
 ghost use Rattle.model.specs.Fault.{givenBytes, proofBytes};
-ghost use Rattle.fault_writer.specs.Room.{splice, Members, head};
+ghost use Rattle.fault_writer.specs.Room.{splice, Members};
 
 // The members other than x, each with its path; where they end.
 fn put_given(tree: &[u8], members: &[u32], x: usize, j: usize, out: &mut [u8], at: usize) -> usize
@@ -33,16 +30,6 @@ fn put_given(tree: &[u8], members: &[u32], x: usize, j: usize, out: &mut [u8], a
     p
 }
 
-// The head: "kind 01 with the layer j, 10 with the equation, 11 with the withheld member's number".
-fn put_head(j: usize, e: usize, x: usize, out: &mut [u8])
-    requires { ⌜ (j < 2 ^ 30) × (e < 2 ^ 30) × (x < 2 ^ 30) × (12 ≤ length (now out)) ⌝ }
-    ensures { λ r. ⌜ now (out .exit) ≡ splice (now (out .entry)) 0 (head j e x) ⌝ }
-{
-    octets::put_word(out, 0, LAYER + j as u32);
-    octets::put_word(out, 4, EQUATION + e as u32);
-    octets::put_word(out, 8, END + x as u32);
-}
-
 // Writes the fault proof of equation e of layer j, which has these members, withholding x, from the start of out; its length.
 pub fn put_proof(
     tree: &[u8],
@@ -59,7 +46,7 @@ pub fn put_proof(
         → (r ≡ length (proofBytes S (symAt S (now (tree .entry))) j e x (now (members .entry))))
         × (now (out .exit) ≡ over (proofBytes S (symAt S (now (tree .entry))) j e x (now (members .entry))) (now (out .entry)))) ⌝ }
 {
-    put_head(j, e, x, out);
+    heads::put(j, e, x, out);
     let p = put_given(tree, members, x, j, out, 12);
     put_path(tree, j, x, out, p);
     p + 256 * j

@@ -2,9 +2,9 @@
 use mathlib.Core.Path.{ap}
 use Prim.Native.Nat.{_%_}
 use borrow.Author.Needs.{needs}
-use Rattle.model.specs.Fault.{valueAt}
-use Rattle.fault_proof.proofs.head.value_at.Statement.{statement}
-use Rattle.fault_proof.proofs.head.value_at.Tie as tie
+use Rattle.heads.specs.Heads.{valueAt}
+use Rattle.heads.proofs.value_at.Statement.{statement}
+use Rattle.heads.proofs.value_at.Tie as tie
 
 mul-word-at : tie.Need-mul-word-at
 mul-word-at c = search needs

@@ -2,9 +2,9 @@
 use mathlib.Core.Path.{ap}
 use Prim.Native.Nat.{_/_}
 use borrow.Author.Needs.{needs}
-use Rattle.model.specs.Fault.{kindAt}
-use Rattle.fault_proof.proofs.head.kind_at.Statement.{statement}
-use Rattle.fault_proof.proofs.head.kind_at.Tie as tie
+use Rattle.heads.specs.Heads.{kindAt}
+use Rattle.heads.proofs.kind_at.Statement.{statement}
+use Rattle.heads.proofs.kind_at.Tie as tie
 
 mul-word-at : tie.Need-mul-word-at
 mul-word-at c = search needs

@@ -1,8 +1,8 @@
--- `put_head` meets its contract: three words, one after the other.
+-- `put` meets its contract: three words, one after the other.
 use borrow.Author.Needs.{needs}
-use Rattle.fault_writer.proofs.ProofLaws.{head-put}
-use Rattle.fault_writer.proofs.proof.put_head.Statement.{statement}
-use Rattle.fault_writer.proofs.proof.put_head.Tie as tie
+use Rattle.heads.proofs.HeadLaws.{head-put}
+use Rattle.heads.proofs.put.Statement.{statement}
+use Rattle.heads.proofs.put.Tie as tie
 
 cast-put-word : tie.Need-cast-put-word
 cast-put-word c = search needs
@@ -37,10 +37,10 @@ same-length c = search needs
 returns : tie.Need-returns
 returns c =
     let s = c .before .before .before .before .before .before .before .before .before .before .before .before .before in
-    head-put (s .args .j) (s .args .e) (s .args .x) (s .args .out .now) _ _ _ (s .pre .3) (c .before .before .before .before .before .before .before .before .before .before .put-word .ensures) (c .before .before .before .before .before .before .put-word2 .ensures) (c .before .before .put-word3 .ensures)
+    head-put (s .args .first) (s .args .second) (s .args .third) (s .args .out .now) _ _ _ (s .pre .3) (c .before .before .before .before .before .before .before .before .before .before .put-word .ensures) (c .before .before .before .before .before .before .put-word2 .ensures) (c .before .before .put-word3 .ensures)
 
-pub put-head-spec : {M : Type 1} → statement M
-put-head-spec =
+pub put-spec : {M : Type 1} → statement M
+put-spec =
     tie.close
     (tie.spec
     cast-put-word
