@@ -1,18 +1,16 @@
--- The layers one after the other, the whole tree, and the block read back, as the code meets them.
+-- The layers one after the other, and the whole tree, as the code meets them.
 use mathlib.Core.Path.{_≡_, sym, ap, ap₂, _∙_, subst}
-use mathlib.Core.List.{List, _++_, append-nil}
+use mathlib.Core.List.{List}
 use Prim.Native.Nat.{ℕ, zero, suc, _+_, _-_, _*_, _≤_, _<_}
-use native.Mathlib.Nat.{add-zero}
 use native.Mathlib.Omega.{arith}
-use lib.ListN.{length, take, drop, drop-of-length-le}
-use lib.Seq.{paste, take-length}
-use Rattle.octets.proofs.ListLaws.{length-part}
+use lib.ListN.{length}
+use lib.Seq.{paste}
 use Rattle.symbol_hash.specs.SymbolHash.{symbolHash}
 use Rattle.symbol_hash.specs.declared.Kind.{Kind}
 use Rattle.parity_table.specs.Shape.{kOf, nOf}
 use Rattle.parity_table.specs.Table.{layerOf}
 use Rattle.model.specs.Shape.{tree, places, place}
-use Rattle.model.specs.Writer.{parities, putHashes, code, writeTree, blockOf}
+use Rattle.model.specs.Writer.{parities, putHashes, code, writeTree}
 use Rattle.model.proofs.Shapes.{places-mono}
 
 -- layer j is whole inside a tree of depth d
@@ -38,28 +36,12 @@ module _ (kind : Kind) (tbl : List (List (List ℕ))) where
   code-top j t u e eu = ap (λ i. code tree (symbolHash kind) tbl (suc i) t) e ∙ sym eu
 
   -- the block in the base, then all layers
-  pub written-tree : (d base : ℕ) (block t u v : List ℕ) → length tbl ≡ d → base ≡ places tree (d - 1) → length block ≡ 256 * kOf (d - 1)
-      → u ≡ paste t (256 * base) block (length block) → v ≡ code tree (symbolHash kind) tbl d u → v ≡ writeTree tree (symbolHash kind) tbl block t
-  unfolding writeTree place
-  written-tree d base block t u v ed eb lb eu ev =
-      let p : base ≡ places tree (d - 1) + 0 = eb ∙ sym (add-zero (places tree (d - 1))) in
-      ev ∙ ap (code tree (symbolHash kind) tbl d) (eu ∙ ap₂ (λ o m. paste t (256 * o) block m) p lb)
-      ∙ ap (λ q. code tree (symbolHash kind) tbl q (paste t (256 * (places tree (q - 1) + 0)) block (256 * kOf (q - 1)))) (sym ed)
-
--- a copy that fills its buffer
-pub paste-all : (d s : List ℕ) → length s ≡ length d → paste d 0 s (length s) ≡ s
-paste-all d s l =
-    let z : 0 + length s ≡ length d = omega arith in
-    ap₂ _++_ (take-length s) (ap (λ n. drop n d) z ∙ drop-of-length-le d {i = length d} (omega arith)) ∙ append-nil s
-
-pub block-read : (d base n : ℕ) (t block out : List ℕ) → base ≡ places tree (d - 1) → length block ≡ 256 * kOf (d - 1) → n ≡ length block
-    → 256 * base + n ≤ length t → out ≡ paste block 0 (take n (drop (256 * base) t)) (length (take n (drop (256 * base) t)))
-    → out ≡ blockOf tree d t
-unfolding blockOf place
-block-read d base n t block out eb lb en room eo =
-    let p : base ≡ places tree (d - 1) + 0 = eb ∙ sym (add-zero (places tree (d - 1))) in
-    eo ∙ paste-all block (take n (drop (256 * base) t)) (length-part t (256 * base) n room ∙ en)
-    ∙ ap₂ (λ m o. take m (drop (256 * o) t)) (en ∙ lb) p
+  pub written-tree : (d : ℕ) (block t u v : List ℕ) → length tbl ≡ d → u ≡ paste t (256 * place tree (d - 1) 0) block (256 * kOf (d - 1))
+      → v ≡ code tree (symbolHash kind) tbl d u → v ≡ writeTree tree (symbolHash kind) tbl block t
+  unfolding writeTree
+  written-tree d block t u v ed eu ev =
+      ev ∙ ap (code tree (symbolHash kind) tbl d) eu
+      ∙ ap (λ q. code tree (symbolHash kind) tbl q (paste t (256 * place tree (q - 1) 0) block (256 * kOf (q - 1)))) (sym ed)
 
 pub layer-room-up : (d j : ℕ) (t : List ℕ) → 0 < j → j < d → length t ≡ 256 * places tree d
     → 256 * (places tree (suc (j - 1)) + nOf (suc (j - 1))) ≤ length t

@@ -2,12 +2,13 @@
 mod hashes; // the hashes of a layer in the layer above, and the root
 mod marks; // the first symbol that is absent
 mod parity; // the parity symbols of a layer
-mod writer; // the whole tree, its marks and its root; the block read back
+mod writer; // the whole tree, its marks and its root; the block read back, and what fills it up
 
 pub use marks::first_absent;
 pub use parity::xor_others;
 pub use writer::read_block;
 pub use writer::write;
+pub use writer::zero_filled;
 ghost use mathlib.Core.Path.{_≡_};
 ghost use Prim.Native.Nat.{_≤_};
 ghost use Rattle.parity_table.specs.Shape.{maxDepth};

@@ -6,8 +6,8 @@ use Prim.Native.Nat.{_*_, _+_, _-_, _<_, _^_, _≤_, suc, ℕ}
 use native.Mathlib.Nat.{mul-le-mul-right}
 use native.Mathlib.Omega.{arith}
 use lib.Dec.{eqb, ltb}
-use lib.ListN.{drop, getD, length, length-drop, length-take, set, take}
-use lib.Seq.{paste, take-length}
+use lib.ListN.{drop, getD, length, length-drop, length-take, replicate, set, take}
+use lib.Seq.{paste}
 use borrow.Author.Tests.{eq-eqb, leb-true, ltb-true, ne-eqb}
 use Rattle.octets.proofs.Choice.{and-yes, pick-no, pick-yes}
 use Rattle.octets.proofs.ListLaws.{part-ends}
@@ -15,7 +15,6 @@ use Rattle.octets.specs.ByteLists.{same}
 use Rattle.parity_table.proofs.Parse.{members-take}
 use Rattle.parity_table.specs.Members.{every, lastOf}
 use Rattle.parity_table.specs.Parse.{membersOf, over}
-use Rattle.model.proofs.Bytes.{length-zeros}
 use Rattle.model.proofs.Counts.{every-member, every-others, first-member, firstOf-passes, isIt, last-member, length-others}
 use Rattle.model.proofs.Members.{length-xorOf, last-get}
 use Rattle.model.specs.Fault.{proofBytes, proofLength}
@@ -105,11 +104,12 @@ others-all n x (y ∷ ys) h a =
 
 -- whether an equation holds
 pub holds-is : (j x : ℕ) (t ms sum : List ℕ) (k : Members j t ms) → 2 ^ 30 ≤ x → sum ≡ xorOf (symAt tree t j) (others x ms)
-    → same sum (take (length sum) (drop 0 zeros)) ≡ same (xorOf (symAt tree t j) ms) zeros
+    → same sum (replicate (length sum) 0) ≡ same (xorOf (symAt tree t j) ms) zeros
+unfolding zeros
 holds-is j x t ms sum k h es =
     let e : sum ≡ xorOf (symAt tree t j) ms = es ∙ ap (xorOf (symAt tree t j)) (others-all (k .symbols) x ms (omega (arith, k .numbered)) (k .within)) in
-    let l : length sum ≡ length zeros = ap length e ∙ length-xorOf (symAt tree t j) (k .symbols) (λ y b. symbol-length j (k .symbols) t (k .layers) y b) ms (k .within) ∙ sym length-zeros in
-    ap (λ (q : ℕ). same sum (take q zeros)) l ∙ ap₂ same e (take-length zeros)
+    let l : length sum ≡ 256 = ap length e ∙ length-xorOf (symAt tree t j) (k .symbols) (λ y b. symbol-length j (k .symbols) t (k .layers) y b) ms (k .within) in
+    ap₂ (λ (s : List ℕ) (n : ℕ). same s (replicate n 0)) e l
 
 -- ---- the outcomes
 

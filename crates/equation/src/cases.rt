@@ -90,8 +90,7 @@ fn holds(members: &[u32], tree: &[u8], j: usize) -> bool
 {
     let mut sum = [0u8; 256];
     xor_others(&mut sum, tree, first_place(j), members, NONE);
-    let zeros = [0u8; 256];
-    octets::equal_at(&sum, &zeros, 0)
+    octets::is_zero(&sum)
 }
 
 // Takes equation e of layer j by its members, of which at most one is absent.

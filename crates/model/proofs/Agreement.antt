@@ -17,7 +17,8 @@ use Rattle.model.specs.Symbols.{count, firstOf, others, xorOf, zeros, sy
 use Rattle.model.specs.Repair.{absentAt}
 use Rattle.model.specs.Ends.{Within, gapAt}
 use Rattle.model.specs.Finals.{Grown, Refuted}
-use Rattle.model.proofs.Bytes.{same-yes, yes-same, sym-cancel}
+use Rattle.octets.proofs.SameLaws.{same-yes, yes-same}
+use Rattle.model.proofs.Bytes.{sym-cancel}
 use Rattle.model.proofs.Members.{length-xorOf, xorOf-cong}
 use Rattle.model.proofs.Counts.{isIt, count-mono, count-same, firstOf-passes, every-none, every-others, every-member, every-both, none-absent, others-held, first-member, xorOf-others, ascending-once}
 use Rattle.model.proofs.Tables.{TableLaws}

@@ -1,7 +1,5 @@
--- Laws of byte lists: the test whether two are the same, and exclusive-or.
+-- Laws of byte lists: one after the other, and exclusive-or.
 use mathlib.Core.Path.{_≡_, refl, sym, ap, ap₂, _∙_, subst}
-use mathlib.Core.Logic.{_≢_}
-use mathlib.Core.Bool.{true, false, false≢true}
 use mathlib.Core.List.{List, [], _∷_, _++_, List-discrete}
 use Prim.Native.Nat.{ℕ, zero, suc, _+_, _*_, _<_}
 use native.Mathlib.Nat.{add-zero, add-comm, mul-zero, mul-suc}
@@ -9,38 +7,12 @@ use native.Mathlib.Omega.{arith}
 use native.Mathlib.Decide.{ℕ-discrete}
 use lib.ListN.{length, take, drop, replicate, length-append}
 use lib.Seq.{take-at, drop-at, drop-drop}
-use lib.Dec.{eqb}
 use lib.Bits.{xor-comm, xor-self, xor-zero-r}
-use borrow.Author.Tests.{eqb-true, eq-eqb}
 use Rattle.octets.proofs.Bits.{xor-assoc}
-use Rattle.octets.proofs.Choice.{by-test, both, and-yes, yes-and}
-use Rattle.octets.specs.ByteLists.{same, xors}
+use Rattle.octets.specs.ByteLists.{xors}
 use Rattle.model.specs.Symbols.{joined, zeros}
 
--- ---- the same bytes
-
-pub same-yes : (xs ys : List ℕ) → same xs ys ≡ true → xs ≡ ys
-unfolding same
-same-yes [] [] t = refl
-same-yes [] (y ∷ ys) t = absurd (false≢true t)
-same-yes (x ∷ xs) [] t = absurd (false≢true t)
-same-yes (x ∷ xs) (y ∷ ys) t =
-    let (p, q) = and-yes (eqb x y) (same xs ys) t in
-    ap₂ (λ (a : ℕ) (l : List ℕ). a ∷ l) (eqb-true x y p) (same-yes xs ys q)
-
-same-refl : (xs : List ℕ) → same xs xs ≡ true
-unfolding same
-same-refl [] = refl
-same-refl (x ∷ xs) = yes-and (eq-eqb x x refl) (same-refl xs)
-
-pub yes-same : {xs ys : List ℕ} → xs ≡ ys → same xs ys ≡ true
-yes-same {xs} e = subst (λ (l : List ℕ). same xs l ≡ true) e (same-refl xs)
-
-pub same-no : {xs ys : List ℕ} → same xs ys ≡ false → xs ≢ ys
-same-no t e = both (yes-same e) t
-
-pub no-same : {xs ys : List ℕ} → xs ≢ ys → same xs ys ≡ false
-no-same {xs} {ys} ne = by-test (same xs ys) (λ t. absurd (ne (same-yes xs ys t))) (λ t. t)
+-- ---- equal or not
 
 pub bytes-dec : (xs ys : List ℕ) → Dec (xs ≡ ys)
 bytes-dec = List-discrete ℕ-discrete

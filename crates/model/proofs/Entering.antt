@@ -14,7 +14,7 @@ use Rattle.octets.specs.ByteLists.{same}
 use Rattle.model.specs.Symbols.{zeros, committed, symAt}
 use Rattle.model.specs.Repair.{End, going, St, fresh, absentAt, peel, enter}
 use Rattle.model.specs.Ends.{Roomy, PeeledAll, gapAt, filledIn, filled, Always, Peels, none-stored}
-use Rattle.model.proofs.Bytes.{same-yes}
+use Rattle.octets.proofs.SameLaws.{same-yes}
 use Rattle.model.proofs.Counts.{isIt, count-le}
 use Rattle.model.proofs.Shapes.{places-mono}
 use Rattle.model.proofs.Tables.{TableLaws}

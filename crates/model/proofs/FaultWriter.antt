@@ -4,22 +4,24 @@ use mathlib.Core.Logic.{_≢_}
 use mathlib.Core.Bool.{Bool, true, false, not}
 use mathlib.Core.List.{List, [], _∷_, _++_, append-assoc, append-nil}
 use Prim.Native.Nat.{ℕ, zero, suc, _+_, _-_, _*_, _/_, _%_, _^_, _≤_, _<_}
-use native.Mathlib.Nat.{zero-add, div-div-eq-div-mul, mod-eq-of-lt, div-add-mod'}
+use native.Mathlib.Nat.{zero-add}
 use native.Mathlib.Omega.{arith}
 use lib.ListN.{length, take, drop, length-append, length-drop}
 use lib.Seq.{drop-at, take-append-le, drop-append-le}
-use lib.Dec.{leb, ltb, lit<}
+use lib.Dec.{leb, ltb}
 use borrow.Author.Tests.{ltb-true, lt-ltb, le-leb, eq-eqb}
-use Rattle.octets.specs.BigEndian.{be, wordAt}
 use Rattle.parity_table.specs.Members.{every}
-use Rattle.parity_table.specs.Table.{word, layerOf, equationOf}
+use Rattle.parity_table.specs.Table.{layerOf, equationOf}
 use Rattle.octets.proofs.Choice.{pick-no, and-yes, yes-and}
+use Rattle.heads.specs.Heads.{head, kindAt}
+use Rattle.heads.proofs.HeadLaws.{head-kinds, head-values, length-head, after-head}
 use Rattle.model.specs.Shape.{Shape, ShapeOk}
 use Rattle.octets.specs.ByteLists.{same, xors}
 use Rattle.model.specs.Symbols.{symbolIn, xorOf, others, count, slot, committed}
 use Rattle.model.specs.Climb.{leads, allLead, firstBreak}
-use Rattle.model.specs.Fault.{reached, wayBytes, givenBytes, pathBytes, proofBytes, kindAt, valueAt, proofLayer, proofEquation, proofWithheld, proofLength, body, next, givenXor, afterGiven, proofMembers, proofGiven, layerOk, equationOk, memberOk, headOk, accepted, ruling, wayCheck, pathCheck, waysCheck, pathHash, proofCheck, withheldFits, verdict}
-use Rattle.model.proofs.Bytes.{no-same, joined-length, joined-piece}
+use Rattle.model.specs.Fault.{reached, wayBytes, givenBytes, pathBytes, proofBytes, proofLayer, proofEquation, proofWithheld, proofLength, body, next, givenXor, afterGiven, proofMembers, proofGiven, layerOk, equationOk, memberOk, headOk, accepted, ruling, wayCheck, pathCheck, waysCheck, pathHash, proofCheck, withheldFits, verdict}
+use Rattle.octets.proofs.SameLaws.{no-same}
+use Rattle.model.proofs.Bytes.{joined-length, joined-piece}
 use Rattle.model.proofs.Counts.{isIt, ascending-once, every-member, length-others}
 use Rattle.model.proofs.Shapes.{up-lt}
 use Rattle.model.proofs.Tables.{TableLaws}
@@ -33,61 +35,15 @@ pub record GoodProof (S : Shape) (H : ℕ → ℕ → List ℕ → List ℕ) (ro
   pub equation-is : proofEquation p ≡ e
   pub withheld-is : proofWithheld p ≡ x
 
--- ---- words
-
--- a word is read back from its four bytes
-be-read : (x : ℕ) → x < 2 ^ 32 → x / 16777216 % 256 * 16777216 + x / 65536 % 256 * 65536 + x / 256 % 256 * 256 + x / 1 % 256 ≡ x
-be-read x h =
-    let one : x / 1 ≡ x = omega arith in
-    let low : x / 256 * 256 + x / 1 % 256 ≡ x = ap (λ (n : ℕ). x / 256 * 256 + n % 256) one ∙ div-add-mod' x 256 in
-    let mid : x / 65536 * 256 + x / 256 % 256 ≡ x / 256 =
-    ap (λ (n : ℕ). n * 256 + x / 256 % 256) (sym (div-div-eq-div-mul x 256 256)) ∙ div-add-mod' (x / 256) 256 in
-    let top : x / 16777216 % 256 ≡ x / 16777216 = mod-eq-of-lt {n = x / 16777216} {m = 256} (omega arith) in
-    let high : x / 16777216 % 256 * 256 + x / 65536 % 256 ≡ x / 65536 =
-    ap (λ (n : ℕ). n * 256 + x / 65536 % 256) (top ∙ sym (div-div-eq-div-mul x 65536 256)) ∙ div-add-mod' (x / 65536) 256 in
-    sum x (x / 256) (x / 65536) (x / 16777216 % 256) (x / 1 % 256) (x / 256 % 256) (x / 65536 % 256) low mid high
-  where
-    sum : (x a b c r s t : ℕ) → a * 256 + r ≡ x → b * 256 + s ≡ a → c * 256 + t ≡ b → c * 16777216 + t * 65536 + s * 256 + r ≡ x
-    sum x a b c r s t p q u = omega arith
-
-module _ (kind v : ℕ) (r : List ℕ) where
-  pub word-0 : kind < 4 → v < 2 ^ 30 → wordAt (be 4 (word kind v) ++ r) 0 ≡ word kind v
-  unfolding wordAt be
-  word-0 hk hv = be-read (kind * 2 ^ 30 + v) (omega arith)
-
-  kind-0 : kind < 4 → v < 2 ^ 30 → kindAt (be 4 (word kind v) ++ r) 0 ≡ kind
-  unfolding kindAt
-  kind-0 hk hv = ap (λ (w : ℕ). w / 2 ^ 30) (word-0 hk hv) ∙ omega arith
-
-  value-0 : kind < 4 → v < 2 ^ 30 → valueAt (be 4 (word kind v) ++ r) 0 ≡ v
-  unfolding valueAt
-  value-0 hk hv = ap (λ (w : ℕ). w % 2 ^ 30) (word-0 hk hv) ∙ omega arith
-
-  kind-1 : kindAt (be 4 (word kind v) ++ r) 1 ≡ kindAt r 0
-  unfolding kindAt wordAt be
-  kind-1 = refl
-
-  kind-2 : kindAt (be 4 (word kind v) ++ r) 2 ≡ kindAt r 1
-  unfolding kindAt wordAt be
-  kind-2 = refl
-
-  value-1 : valueAt (be 4 (word kind v) ++ r) 1 ≡ valueAt r 0
-  unfolding valueAt wordAt be
-  value-1 = refl
-
-  value-2 : valueAt (be 4 (word kind v) ++ r) 2 ≡ valueAt r 1
-  unfolding valueAt wordAt be
-  value-2 = refl
-
 -- what is read from the head of a proof that is written, whose numbers fit
 module _ (S : Shape) (f : ℕ → ℕ → List ℕ) (j e x : ℕ) (ms : List ℕ) (j-small : j < 2 ^ 30) (e-small : e < 2 ^ 30) (x-small : x < 2 ^ 30) where
-  head-kinds : let b : List ℕ = proofBytes S f j e x ms in (kindAt b 0 ≡ 1) × (kindAt b 1 ≡ 2) × (kindAt b 2 ≡ 3)
+  proof-kinds : let b : List ℕ = proofBytes S f j e x ms in (kindAt b 0 ≡ 1) × (kindAt b 1 ≡ 2) × (kindAt b 2 ≡ 3)
   unfolding proofBytes
-  head-kinds = (kind-0 1 j _ (lit< tt) j-small, kind-1 1 j _ ∙ kind-0 2 e _ (lit< tt) e-small, kind-2 1 j _ ∙ kind-1 2 e _ ∙ kind-0 3 x _ (lit< tt) x-small)
+  proof-kinds = head-kinds j e x _ j-small e-small x-small
 
-  pub head-values : let b : List ℕ = proofBytes S f j e x ms in (proofLayer b ≡ j) × (proofEquation b ≡ e) × (proofWithheld b ≡ x)
+  pub proof-values : let b : List ℕ = proofBytes S f j e x ms in (proofLayer b ≡ j) × (proofEquation b ≡ e) × (proofWithheld b ≡ x)
   unfolding proofBytes proofLayer proofEquation proofWithheld
-  head-values = (value-0 1 j _ (lit< tt) j-small, value-1 1 j _ ∙ value-0 2 e _ (lit< tt) e-small, value-2 1 j _ ∙ value-1 2 e _ ∙ value-0 3 x _ (lit< tt) x-small)
+  proof-values = head-values j e x _ j-small e-small x-small
 
 -- ---- what is written
 
@@ -242,16 +198,16 @@ module _ (S : Shape) (sh : ShapeOk S) (f : ℕ → ℕ → List ℕ) (j : ℕ) (
 
       -- what the checker reads from the head
       kinds : (kindAt bytes 0 ≡ 1) × (kindAt bytes 1 ≡ 2) × (kindAt bytes 2 ≡ 3)
-      kinds = head-kinds S f j e x ms j-small e-small x-small
+      kinds = proof-kinds S f j e x ms j-small e-small x-small
 
       is-layer : proofLayer bytes ≡ j
-      is-layer = head-values S f j e x ms j-small e-small x-small .0
+      is-layer = proof-values S f j e x ms j-small e-small x-small .0
 
       is-equation : proofEquation bytes ≡ e
-      is-equation = head-values S f j e x ms j-small e-small x-small .1
+      is-equation = proof-values S f j e x ms j-small e-small x-small .1
 
       is-withheld : proofWithheld bytes ≡ x
-      is-withheld = head-values S f j e x ms j-small e-small x-small .2
+      is-withheld = proof-values S f j e x ms j-small e-small x-small .2
 
       is-members : proofMembers tbl bytes ≡ ms
       unfolding proofMembers
@@ -262,25 +218,27 @@ module _ (S : Shape) (sh : ShapeOk S) (f : ℕ → ℕ → List ℕ) (j : ℕ) (
       is-given = ap₂ others is-withheld is-members
 
       is-body : body bytes ≡ rest
-      unfolding body proofBytes be
-      is-body = refl
+      unfolding body proofBytes
+      is-body = after-head j e x rest
 
-      head : headOk tbl bytes ≡ true
+      head-ok : headOk tbl bytes ≡ true
       unfolding headOk layerOk equationOk memberOk
-      head =
+      head-ok =
           yes-and (yes-and (eq-eqb _ 1 (kinds .0)) (lt-ltb _ (length tbl) (omega (arith, is-layer))))
           (yes-and
           (yes-and (eq-eqb _ 2 (kinds .1)) (ap₂ (λ (a b : ℕ). ltb a (length (layerOf tbl b))) is-equation is-layer ∙ lt-ltb e _ he))
           (yes-and (eq-eqb _ 3 (kinds .2)) (ap₂ (λ (a : ℕ) (b : List ℕ). leb 1 (count (isIt a) b)) is-withheld is-members ∙ le-leb 1 _ member)))
 
       bytes-length : length bytes ≡ proofLength j (length ms)
-      unfolding proofBytes proofLength be
+      unfolding proofBytes proofLength
       bytes-length =
           let once : count (isIt x) ms ≡ 1 = omega (arith, ascending-once x ms (ok .ascend j e hj he)) in
           let d : length ms - 1 ≡ length (others x ms) = omega (arith, length-others x ms) in
           omega (
             arith,
             ap (λ (k : ℕ). k * suc j) d,
+            length-append (head j e x) rest,
+            length-head j e x,
             length-append (givenBytes S f j (others x ms)) (pathBytes S f j x),
             given-length p below (others x ms) good,
             path-length j x (omega arith),
@@ -309,7 +267,7 @@ module _ (S : Shape) (sh : ShapeOk S) (f : ℕ → ℕ → List ℕ) (j : ℕ) (
       bytes-accepted =
           let sized′ : length bytes ≡ proofLength (proofLayer bytes) (length (proofMembers tbl bytes)) =
           bytes-length ∙ sym (ap₂ (λ (a : ℕ) (b : List ℕ). proofLength a (length b)) is-layer is-members) in
-          pick-no _ _ _ (ap not head)
+          pick-no _ _ _ (ap not head-ok)
           ∙ pick-no _ _ _ (ap not (eq-eqb _ _ sized′))
           ∙ ap₂ ruling lead unfits
           ∙ pick-no false _ _ refl

@@ -8,6 +8,7 @@ pub mod Hashes
 pub mod Coding
 pub mod Unique
 pub mod Writer
+pub mod Filling
 pub mod Binding
 pub mod Climbs
 pub mod Samples

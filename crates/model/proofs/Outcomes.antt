@@ -21,7 +21,7 @@ use Rattle.model.proofs.Counts.{isIt, every-member, ascending-once, len
 use Rattle.model.proofs.Tables.{TableLaws}
 use Rattle.model.proofs.Binding.{original-block}
 use Rattle.model.proofs.Sound.{accepted-is}
-use Rattle.model.proofs.FaultWriter.{head-values}
+use Rattle.model.proofs.FaultWriter.{proof-values}
 use Rattle.model.proofs.Peeling.{taken-member}
 
 module _ (S : Shape) where
@@ -69,7 +69,7 @@ fault-head S H root tbl ok o₀ j e x n st hj end =
     let below : x < S .n j =
     ltb-true x (S .n j) (every-member (λ y. ltb y (S .n j)) x ms (ok .within j e hj he) (taken-member S H root tbl ok (st .tree) (st .marks) j e x hj (end .taken))) in
     let (l, q, w) =
-    head-values S (symAt S (st .tree)) j e x ms (omega (arith, ok .shallow)) (omega (arith, ok .sizes j hj, ok .narrow j hj)) (omega (arith, ok .narrow j hj)) in
+    proof-values S (symAt S (st .tree)) j e x ms (omega (arith, ok .shallow)) (omega (arith, ok .sizes j hj, ok .narrow j hj)) (omega (arith, ok .narrow j hj)) in
     (ap proofLayer (end .proof) ∙ l, ap proofEquation (end .proof) ∙ q, ap proofWithheld (end .proof) ∙ w)
 
 -- a whole end, with the root that was written for a block

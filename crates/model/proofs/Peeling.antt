@@ -21,7 +21,8 @@ use Rattle.model.specs.Repair.{End, working, whole, fault, unavailable, 
 use Rattle.model.specs.Ends.{Roomy, PeeledAll, Always, Passed, Taken, EndOk}
 use Rattle.model.specs.Alike.{kindOf}
 use Rattle.model.specs.Finals.{Grown, Unfit, LastLayer}
-use Rattle.model.proofs.Bytes.{same-yes, same-no, sym-self}
+use Rattle.octets.proofs.SameLaws.{same-yes, same-no}
+use Rattle.model.proofs.Bytes.{sym-self}
 use Rattle.model.proofs.Members.{length-xorOf}
 use Rattle.model.proofs.Counts.{and-no, isIt, every-others, every-member, ascending-once, xorOf-others, none-absent, others-held, every-both, last-member, first-member}
 use Rattle.model.proofs.Tables.{TableLaws}

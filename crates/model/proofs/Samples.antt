@@ -16,7 +16,8 @@ use Rattle.model.specs.Coded.{Digests, InTree, Agrees}
 use Rattle.model.specs.Climb.{leads, breaks, Says}
 use Rattle.model.specs.Sampling.{sampleSize, sampleLayer, dataNo, parityNo, sampleNumber, sampleBytes}
 use Rattle.model.specs.SampleCheck.{sampleData, sampleParity, sampleHas, sampleFits, sampleCheck, SampleLeads, SampleTrue, SampleCollision}
-use Rattle.model.proofs.Bytes.{same-yes, yes-same, joined-length, joined-piece}
+use Rattle.octets.proofs.SameLaws.{same-yes, yes-same}
+use Rattle.model.proofs.Bytes.{joined-length, joined-piece}
 use Rattle.model.proofs.Shapes.{k-double, up-lt}
 use Rattle.model.proofs.Binding.{same-or-collide, all-or, hashes}
 use Rattle.model.proofs.Ways.{committed-same}

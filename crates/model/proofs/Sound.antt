@@ -13,13 +13,15 @@ use Rattle.octets.specs.Choice.{pick}
 use Rattle.parity_table.specs.Members.{every}
 use Rattle.parity_table.specs.Table.{layerOf, equationOf}
 use Rattle.octets.proofs.Choice.{and-yes, both, not-no}
+use Rattle.heads.specs.Heads.{kindAt}
 use Rattle.model.specs.Shape.{Shape, ShapeOk}
 use Rattle.octets.specs.ByteLists.{xors}
 use Rattle.model.specs.Symbols.{symbolIn, xorOf, others, count, slot, committed}
 use Rattle.model.specs.Coded.{Digests, InTree, Agrees, CollisionWith}
 use Rattle.model.specs.Climb.{Climb, leads, breaks, Ways, allLead, breakAt, firstBreak}
-use Rattle.model.specs.Fault.{reached, kindAt, proofLayer, proofEquation, proofWithheld, proofLength, body, next, givenXor, afterGiven, proofMembers, proofGiven, layerOk, equationOk, memberOk, headOk, Verdict, accepted, wrongHead, wrongLength, broken, noFault, ruling, wayCheck, pathCheck, waysCheck, pathHash, proofCheck, withheldFits, verdict, InWay, InGiven, InPath, ProofHolds}
-use Rattle.model.proofs.Bytes.{yes-same, sym-cancel}
+use Rattle.model.specs.Fault.{reached, proofLayer, proofEquation, proofWithheld, proofLength, body, next, givenXor, afterGiven, proofMembers, proofGiven, layerOk, equationOk, memberOk, headOk, Verdict, accepted, wrongHead, wrongLength, broken, noFault, ruling, wayCheck, pathCheck, waysCheck, pathHash, proofCheck, withheldFits, verdict, InWay, InGiven, InPath, ProofHolds}
+use Rattle.octets.proofs.SameLaws.{yes-same}
+use Rattle.model.proofs.Bytes.{sym-cancel}
 use Rattle.model.proofs.Members.{length-xorOf}
 use Rattle.model.proofs.Counts.{isIt, ascending-once, xorOf-others, every-others, every-member}
 use Rattle.model.proofs.Shapes.{up-lt}

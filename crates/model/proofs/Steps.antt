@@ -16,7 +16,7 @@ use Rattle.octets.specs.ByteLists.{same}
 use Rattle.model.specs.Symbols.{count, firstOf, xorOf, zeros, symAt}
 use Rattle.model.specs.Fault.{proofBytes}
 use Rattle.model.specs.Repair.{going, St, useEq, writeFault, writeTwins, absentAt, storeSym, fitsAt, takeable, lowestEq, form, refute, restOf, act, step, peel}
-use Rattle.model.proofs.Bytes.{same-yes, same-no}
+use Rattle.octets.proofs.SameLaws.{same-yes, same-no}
 use Rattle.model.proofs.Counts.{Lowest, lowest-is}
 
 module _ (S : Shape) (H : ℕ → ℕ → List ℕ → List ℕ) (root : List ℕ) (tbl : List (List (List ℕ))) where

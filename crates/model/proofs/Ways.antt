@@ -11,7 +11,7 @@ use Rattle.model.specs.Symbols.{symbolIn, slot, committed}
 use Rattle.model.specs.Climb.{leads, breaks, Says}
 use Rattle.model.specs.Fault.{reached, next, afterGiven, pathHash, wayFits, wayCheck}
 use Rattle.octets.proofs.Choice.{both}
-use Rattle.model.proofs.Bytes.{same-yes, yes-same, no-same}
+use Rattle.octets.proofs.SameLaws.{same-yes, yes-same, no-same}
 use Rattle.model.proofs.Shapes.{up-lt}
 use Rattle.model.proofs.Climbs.{climb-says, climb-is}
 

@@ -3,12 +3,12 @@ use mathlib.Core.Path.{_≡_}
 use mathlib.Core.Logic.{_⊎_}
 use mathlib.Core.Bool.{Bool, not, _&&_}
 use mathlib.Core.List.{List, [], _∷_, _++_}
-use Prim.Native.Nat.{ℕ, zero, suc, _+_, _-_, _*_, _/_, _%_, _^_, _≤_}
+use Prim.Native.Nat.{ℕ, zero, suc, _+_, _-_, _*_, _/_, _%_, _≤_}
 use lib.ListN.{length, drop}
 use lib.Dec.{leb, ltb, eqb}
 use Rattle.octets.specs.Choice.{pick}
-use Rattle.octets.specs.BigEndian.{be, wordAt}
-use Rattle.parity_table.specs.Table.{word, layerOf, equationOf}
+use Rattle.parity_table.specs.Table.{layerOf, equationOf}
+use Rattle.heads.specs.Heads.{head, kindAt, valueAt}
 use Rattle.model.specs.Shape.{Shape}
 use Rattle.octets.specs.ByteLists.{same, xors}
 use Rattle.model.specs.Symbols.{joined, symbolIn, zeros, others, count, slot, committed}
@@ -41,16 +41,9 @@ module _ (S : Shape) where
   -- "three big-endian words: kind 01 with the layer j, 10 with the equation, 11 with the withheld member's number. Then each other member,
   -- ascending, with its path; then the withheld member's path."
   unfoldable pub proofBytes : (ℕ → ℕ → List ℕ) → ℕ → ℕ → ℕ → List ℕ → List ℕ
-  proofBytes f j e x ms = be 4 (word 1 j) ++ (be 4 (word 2 e) ++ (be 4 (word 3 x) ++ (givenBytes f j (others x ms) ++ pathBytes f j x)))
+  proofBytes f j e x ms = head j e x ++ (givenBytes f j (others x ms) ++ pathBytes f j x)
 
 -- ---- what the checker reads
-
--- kind and value of word i of the head
-unfoldable pub kindAt : List ℕ → ℕ → ℕ
-kindAt b i = wordAt b (4 * i) / 2 ^ 30
-
-unfoldable pub valueAt : List ℕ → ℕ → ℕ
-valueAt b i = wordAt b (4 * i) % 2 ^ 30
 
 unfoldable pub proofLayer : List ℕ → ℕ
 proofLayer b = valueAt b 0

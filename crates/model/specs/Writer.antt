@@ -1,9 +1,12 @@
 -- The tree writer and reading back: 01, "Layers". Definitions only.
 use mathlib.Core.Path.{_≡_}
-use mathlib.Core.List.{List, [], _∷_}
+use mathlib.Core.Bool.{Bool}
+use mathlib.Core.List.{List, [], _∷_, _++_}
 use Prim.Native.Nat.{ℕ, zero, suc, _+_, _-_, _*_, _/_, _%_, _<_}
 use lib.ListN.{length, take, drop, replicate}
 use lib.Seq.{paste}
+use lib.Dec.{eqb}
+use Rattle.parity_table.specs.Members.{every}
 use Rattle.parity_table.specs.Table.{layerOf}
 use Rattle.model.specs.Shape.{Shape, place, places}
 use Rattle.model.specs.Symbols.{symbolIn, xorOf, others, symAt, putAt}
@@ -22,6 +25,14 @@ module _ (S : Shape) where
   -- the base's data symbols in order: what reading back gives of a tree of depth d
   unfoldable pub blockOf : ℕ → List ℕ → List ℕ
   blockOf d t = take (256 * S .k (d - 1)) (drop (256 * place S (d - 1) 0) t)
+
+  -- "the writer fills up with zeros": a block, of at most 256·k bytes of the base, as just so many
+  unfoldable pub filled : ℕ → List ℕ → List ℕ
+  filled d block = block ++ replicate (256 * S .k (d - 1) - length block) 0
+
+  -- the filling behind a block of n bytes is zero
+  unfoldable pub zeroFilled : ℕ → ℕ → List ℕ → Bool
+  zeroFilled d n t = every (λ x. eqb x 0) (drop n (blockOf d t))
 
   -- "The writer sets every mark to 1."
   unfoldable pub writtenMarks : ℕ → List ℕ

@@ -1,11 +1,7 @@
 -- `read_block` meets its contract: one copy fills the block.
-use Prim.Native.Nat.{_+_, _-_, _*_}
 use native.Mathlib.Omega.{arith}
-use lib.ListN.{length}
 use borrow.Author.Needs.{needs}
-use Rattle.coded_tree.proofs.WriterLaws.{layer-room, block-read}
-use Rattle.model.specs.Shape.{tree}
-use Rattle.model.proofs.Shapes.{tree-ok}
+use Rattle.coded_tree.proofs.BlockLaws.{base-room, block-read}
 use Rattle.coded_tree.proofs.writer.read_block.Statement.{statement}
 use Rattle.coded_tree.proofs.writer.read_block.Tie as tie
 
@@ -17,13 +13,13 @@ first-place-requires c κs = search needs
 
 mul-from : tie.Need-mul-from
 mul-from c =
-    omega
-    (arith, layer-room (c .before .before .before .args .depth) (c .before .before .before .args .depth - 1) (c .before .before .before .args .tree .now) (omega (arith, c .before .before .before .pre .0)) (c .before .before .before .pre .2), c .first-place .ensures, c .before .before .before .pre .3, tree-ok .shape .within (c .before .before .before .args .depth - 1))
+    let s = c .before .before .before in
+    omega (arith, base-room (s .args .depth) _ (s .args .tree .now) (s .pre .0) (c .first-place .ensures) (s .pre .2))
 
 add-to : tie.Need-add-to
 add-to c =
-    omega
-    (arith, layer-room (c .before .before .before .args .depth) (c .before .before .before .args .depth - 1) (c .before .before .before .args .tree .now) (omega (arith, c .before .before .before .pre .0)) (c .before .before .before .pre .2), c .first-place .ensures, c .before .before .before .pre .3, tree-ok .shape .within (c .before .before .before .args .depth - 1))
+    let s = c .before .before .before in
+    omega (arith, base-room (s .args .depth) _ (s .args .tree .now) (s .pre .0) (c .first-place .ensures) (s .pre .2), s .pre .3)
 
 sub-copy-at : tie.Need-sub-copy-at
 sub-copy-at c = search needs
@@ -33,8 +29,8 @@ part-copy-at-start c = search needs
 
 part-copy-at-end : tie.Need-part-copy-at-end
 part-copy-at-end c =
-    omega
-    (arith, layer-room (c .before .before .before .args .depth) (c .before .before .before .args .depth - 1) (c .before .before .before .args .tree .now) (omega (arith, c .before .before .before .pre .0)) (c .before .before .before .pre .2), c .first-place .ensures, c .before .before .before .pre .3, tree-ok .shape .within (c .before .before .before .args .depth - 1))
+    let s = c .before .before .before in
+    omega (arith, base-room (s .args .depth) _ (s .args .tree .now) (s .pre .0) (c .first-place .ensures) (s .pre .2), s .pre .3)
 
 copy-at-requires : tie.Need-copy-at-requires
 copy-at-requires c κs = search needs
@@ -44,15 +40,9 @@ same-length c = search needs
 
 returns : tie.Need-returns
 returns c =
-    block-read (c .before .before .before .before .before .before .before .before .args .depth)
-    (c .before .before .before .before .before .first-place .result)
-    (256 * c .before .before .before .before .before .first-place .result + length (c .before .before .before .before .before .before .before .before .args .block .now) - 256 * c .before .before .before .before .before .first-place .result)
-    (c .before .before .before .before .before .before .before .before .args .tree .now)
-    (c .before .before .before .before .before .before .before .before .args .block .now) _
-    (c .before .before .before .before .before .first-place .ensures)
-    (c .before .before .before .before .before .before .before .before .pre .3) (omega arith)
-    (omega (arith, layer-room (c .before .before .before .before .before .before .before .before .args .depth) (c .before .before .before .before .before .before .before .before .args .depth - 1) (c .before .before .before .before .before .before .before .before .args .tree .now) (omega (arith, c .before .before .before .before .before .before .before .before .pre .0)) (c .before .before .before .before .before .before .before .before .pre .2), c .before .before .before .before .before .first-place .ensures, c .before .before .before .before .before .before .before .before .pre .3, tree-ok .shape .within (c .before .before .before .before .before .before .before .before .args .depth - 1)))
-    (c .before .before .copy-at .ensures)
+    let s = c .before .before .before .before .before .before .before .before in
+    block-read (s .args .depth) _ (s .args .tree .now) (s .pre .0) (c .before .before .before .before .before .first-place .ensures) (s .pre .2)
+    (s .args .block .now) _ (s .pre .3) (c .before .before .copy-at .ensures)
 
 pub read-block-spec : {M : Type 1} → statement M
 read-block-spec =

@@ -1,4 +1,4 @@
--- `holds` meets its contract: the exclusive-or of all members, compared with zeros.
+-- `holds` meets its contract: the exclusive-or of all members, tested for being zero.
 use mathlib.Core.Path.{_∙_, refl}
 use native.Mathlib.Omega.{arith}
 use borrow.Author.Needs.{needs}
@@ -19,23 +19,19 @@ xor-others-requires c κs =
     let k = c .before .before .before .before .pre in
     (refl, (k .symbols, omega (arith, c .first-place .ensures, k .layers .room), k .within))
 
-slice-aggregate-equal-at : tie.Need-slice-aggregate-equal-at
-slice-aggregate-equal-at c = search needs
+slice-aggregate-is-zero : tie.Need-slice-aggregate-is-zero
+slice-aggregate-is-zero c = search needs
 
-slice-aggregate-equal-at-2 : tie.Need-slice-aggregate-equal-at-2
-slice-aggregate-equal-at-2 c = search needs
-
-equal-at-requires : tie.Need-equal-at-requires
-equal-at-requires c κs = search needs
+is-zero-requires : tie.Need-is-zero-requires
+is-zero-requires c κs = search needs
 
 returns : tie.Need-returns
-unfolding zeros
 returns c =
-    let x = c .before .before .before .before in
+    let x = c .before .before .before in
     let p = x .before .first-place in
     let s = x .before .before .before .before .before in
     let a = s .args in
-    c .equal-at .ensures
+    c .is-zero .ensures
     ∙ holds-is (a .j) _ (a .tree .now) (a .members .now) _ (s .pre) (omega arith) (xor-there (a .tree .now) (a .members .now) _ (a .j) _ _ (p .ensures) (x .xor-others .ensures))
 
 pub holds-spec : {M : Type 1} → statement M
@@ -45,7 +41,6 @@ holds-spec =
     slice-aggregate-xor-others
     first-place-requires
     xor-others-requires
-    slice-aggregate-equal-at
-    slice-aggregate-equal-at-2
-    equal-at-requires
+    slice-aggregate-is-zero
+    is-zero-requires
     returns)
