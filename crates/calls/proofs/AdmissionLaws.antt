@@ -31,7 +31,7 @@ use Rattle.coverage.proofs.Right.{found-low}
 use Rattle.model.specs.Shape.{tree}
 use Rattle.model.proofs.Tables.{TableLaws, table-laws}
 use Rattle.calls.specs.declared.Stop.{Stop}
-use Rattle.calls.specs.declared.Stop.the-variants.{Depth, Length, Table, Mark, Number, Head, Hash, NoFault, Absent, Uncovered}
+use Rattle.calls.specs.declared.Stop.the-variants.{Depth, Length, Table, Mark, Number, Head, Hash, NoFault, Absent, Uncovered, Record, OtherTable}
 use Rattle.calls.specs.declared.Answer.{Answer}
 use Rattle.calls.specs.declared.Answer.the-variants.{Done, Stopped}
 use Rattle.calls.specs.Tests.{_then_, left, readAnswer, coverAnswer, opened, wordsTested, admitted, wordsLeft, startsLeft}
@@ -295,6 +295,8 @@ depth-stop (Stopped (Hash l p)) e = absurd (omega arith)
 depth-stop (Stopped NoFault) e = absurd (omega arith)
 depth-stop (Stopped (Absent x)) e = absurd (omega arith)
 depth-stop (Stopped (Uncovered j i)) e = absurd (omega arith)
+depth-stop (Stopped Record) e = absurd (omega arith)
+depth-stop (Stopped OtherTable) e = absurd (omega arith)
 
 pub at-depth : (d : ℕ) (a : Answer) → stopsAtDepth d a ≡ true → (0 < d) × (a ≡ Stopped Depth)
 unfolding stopsAtDepth

@@ -3,3 +3,4 @@ pub mod LengthLaws
 pub mod TestLaws
 pub mod AdmissionLaws
 pub mod Taken
+pub mod RecordLaws

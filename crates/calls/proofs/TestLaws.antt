@@ -13,7 +13,7 @@ use Rattle.octets.proofs.Choice.{by-test, pick-yes, pick-no, pick-ind}
 use Rattle.parity_table.specs.Shape.{maxDepth, depthFits, nOf}
 use Rattle.parity_table.proofs.Shape.{depth-is}
 use Rattle.calls.specs.declared.Stop.{Stop}
-use Rattle.calls.specs.declared.Stop.the-variants.{Depth, Length, Table, Mark, Number, Head, Hash, NoFault, Absent, Uncovered}
+use Rattle.calls.specs.declared.Stop.the-variants.{Depth, Length, Table, Mark, Number, Head, Hash, NoFault, Absent, Uncovered, Record, OtherTable}
 use Rattle.calls.specs.declared.Answer.{Answer}
 use Rattle.calls.specs.declared.Answer.the-variants.{Done, Stopped}
 use Rattle.calls.specs.Stops.{numberOf, valuesOf, Small}
@@ -118,6 +118,8 @@ number-low (Stopped (Hash l p)) = omega arith
 number-low (Stopped NoFault) = omega arith
 number-low (Stopped (Absent x)) = omega arith
 number-low (Stopped (Uncovered j i)) = omega arith
+number-low (Stopped Record) = omega arith
+number-low (Stopped OtherTable) = omega arith
 
 -- an answer without values
 pub small-plain : {a : Answer} → valuesOf a ≡ (0, 0) → Small a

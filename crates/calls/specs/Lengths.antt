@@ -1,7 +1,7 @@
 -- The lengths of buffers that several calls are lent. Definitions only.
 use mathlib.Core.Bool.{Bool, _&&_}
 use Prim.Native.Nat.{ℕ, _-_, _*_}
-use lib.Dec.{eqb}
+use lib.Dec.{leb, eqb}
 use Rattle.parity_table.specs.Shape.{kOf}
 use Rattle.model.specs.Shape.{tree, places}
 use Rattle.model.specs.Sampling.{sampleSize}
@@ -10,13 +10,17 @@ use Rattle.model.specs.Sampling.{sampleSize}
 abbrev pub treeSized : ℕ → ℕ → ℕ → Bool
 treeSized d t m = eqb t (256 * places tree d) && eqb m (places tree d)
 
--- a block: "exactly 256·k bytes of the base"
+-- a block that is coded: "0 to 256·k of the base"
+abbrev pub blockFits : ℕ → ℕ → Bool
+blockFits d b = leb b (256 * kOf (d - 1))
+
+-- a buffer that a block is read back into: "still lends 256·k bytes"
 abbrev pub blockSized : ℕ → ℕ → Bool
 blockSized d b = eqb b (256 * kOf (d - 1))
 
--- a root: "512 bytes"
-abbrev pub rootSized : ℕ → Bool
-rootSized root = eqb root 512
+-- a root record: "556 in all"
+abbrev pub recordSized : ℕ → Bool
+recordSized r = eqb r 556
 
 -- a sample: "Length 256·(2D−1)"
 abbrev pub sampleSized : ℕ → ℕ → Bool

@@ -1,4 +1,4 @@
--- The tests that calls share, in their order: 1, 2, 3, 10, then 4, then 5. Definitions only.
+-- The tests that calls share, in their order: 1, 2, 11, 3, 10, 12, 4, 5. Definitions only.
 use mathlib.Core.Bool.{Bool, _&&_}
 use mathlib.Core.List.{List}
 use Prim.Native.Nat.{ℕ, _-_}
@@ -11,10 +11,11 @@ use Rattle.parity_table.specs.declared.Answer.the-variants as read
 use Rattle.parity_table.specs.Reader.{readOf}
 use Rattle.parity_table.specs.Parse.{tableOf, indexOf, over}
 use Rattle.table_bytes.specs.Bytes.{wordsOf, frontWords, lengthFits}
+use Rattle.root_record.specs.Records.{headRight, namesTable}
 use Rattle.coverage.specs.declared.Coverage.{Coverage}
 use Rattle.coverage.specs.declared.Coverage.the-variants as coverage
 use Rattle.coverage.specs.Coverage.{coverageOf}
-use Rattle.calls.specs.declared.Stop.the-variants.{Depth, Length, Table, Mark, Number, Uncovered}
+use Rattle.calls.specs.declared.Stop.the-variants.{Depth, Length, Table, Mark, Number, Uncovered, Record, OtherTable}
 use Rattle.calls.specs.declared.Answer.{Answer}
 use Rattle.calls.specs.declared.Answer.the-variants.{Done, Stopped}
 use Rattle.calls.specs.Marks.{lowestBad}
@@ -40,6 +41,10 @@ testDepth d = pick (depthFits d) Done (Stopped Depth)
 unfoldable pub testLengths : Bool → Answer
 testLengths sized = pick sized Done (Stopped Length)
 
+-- 11: "A head with a wrong kind, a length over 256·k or another depth than the call's stops with 11 after 2"
+unfoldable pub testHead : ℕ → List ℕ → Answer
+testHead d r = pick (headRight d r) Done (Stopped Record)
+
 -- 3: "a table breaks a rule", with the first wrong word
 abbrev pub readAnswer : Read → Answer
 readAnswer read.Depth = Stopped Depth
@@ -51,6 +56,10 @@ readAnswer read.Whole = Done
 abbrev pub coverAnswer : Coverage → Answer
 coverAnswer coverage.Covered = Done
 coverAnswer (coverage.Uncovered j i) = Stopped (Uncovered j i)
+
+-- 12: "a table of another word count or hash stops with 12 after 10"
+unfoldable pub testNamed : List ℕ → List ℕ → Answer
+testNamed r table = pick (namesTable r table) Done (Stopped OtherTable)
 
 -- 4: "a mark neither 0 nor 1", with the lowest place
 unfoldable pub testMarks : List ℕ → Answer
@@ -66,6 +75,10 @@ testNumber d i = pick (ltb i (nOf (d - 1))) Done (Stopped Number)
 abbrev pub opened : ℕ → Bool → Answer
 opened d sized = testDepth d then testLengths sized
 
+-- of a call that is lent a record: 1, 2, 11
+abbrev pub headed : ℕ → Bool → List ℕ → Answer
+headed d sized r = opened d sized then testHead d r
+
 -- of a table as words: 1, 3, 10
 abbrev pub wordsTested : ℕ → List ℕ → Answer
 wordsTested d ws = readAnswer (readOf d ws) then coverAnswer (coverageOf d (tableOf ws))
@@ -73,6 +86,10 @@ wordsTested d ws = readAnswer (readOf d ws) then coverAnswer (coverageOf d (tabl
 -- of a call that is lent a table as bytes: 1, 2, 3, 10
 abbrev pub admitted : ℕ → Bool → List ℕ → Answer
 admitted d sized table = opened d (sized && lengthFits (length table)) then wordsTested d (wordsOf table)
+
+-- of a call that is lent a record and a table: 1, 2, 11, 3, 10, 12
+abbrev pub admittedBy : ℕ → Bool → List ℕ → List ℕ → Answer
+admittedBy d sized r table = headed d (sized && lengthFits (length table)) r then wordsTested d (wordsOf table) then testNamed r table
 
 -- what a call's own buffers then hold: for words, which are used once tests 1 and 2 have passed, as many as it has room for; and for the index of a
 -- table that is admitted

@@ -1,14 +1,17 @@
 // What a call answers, and the tests that calls share.
-mod admission; // 1, 2: depth, lengths; then a table's tests
+mod admission; // 1, 2: depth, lengths; then the tests of a record and a table
 mod base; // 5: the number of a base symbol
 mod lengths; // 2: the lengths of a tree and its marks
 mod marks; // 4: the marks of a tree
 mod numbering; // an answer as numbers
+mod records; // 11, 12: a record, and the table that it names
 mod table; // 3, 10: a table
 
 pub use admission::admit;
+pub use admission::admit_by;
 pub use admission::check_table;
 pub use admission::enter;
+pub use admission::enter_by;
 pub use admission::stops_at_depth;
 pub use base::test_number;
 pub use lengths::tree_fits;
@@ -40,6 +43,10 @@ pub enum Stop {
     Absent(usize),
     // a data symbol is a member of fewer than two equations of its layer: the first such layer, and its lowest such symbol
     Uncovered { layer: usize, symbol: usize },
+    // a record's head: wrong kind, a block's length over 256·k, or another depth than the call's
+    Record,
+    // a table of another word count or hash than the record's
+    OtherTable,
 }
 
 // What a call answers.

@@ -32,6 +32,8 @@ fn of_stop(s: Stop) -> Numbers
         Stop::NoFault => with(8, 0, 0),
         Stop::Absent(x) => with(9, x, 0),
         Stop::Uncovered { layer, symbol } => with(10, layer, symbol),
+        Stop::Record => with(11, 0, 0),
+        Stop::OtherTable => with(12, 0, 0),
     }
 }
 
