@@ -1,11 +1,12 @@
 -- Demand 3, of repair: its four ends at the entry, and how large the reported numbers are.
+use mathlib.Core.Bool.{Bool}
 use mathlib.Core.List.{List}
 use mathlib.Core.Path.{_∙_, _≡_, ap, refl, subst, sym}
 use Prim.Native.Nat.{_*_, _+_, _-_, _<_, _^_, _≤_, ℕ}
 use native.Mathlib.Omega.{arith}
 use lib.ListN.{length, take}
 use borrow.Author.Tests.{eq-eqb, le-leb}
-use Rattle.octets.proofs.Choice.{yes-and}
+use Rattle.octets.proofs.Choice.{yes-and, pick-ind}
 use Rattle.parity_table.proofs.Accepts.{accepted-table}
 use Rattle.table_bytes.specs.Bytes.{wordsOf}
 use Rattle.parity_table.specs.Parse.{tableOf}
@@ -23,84 +24,92 @@ use Rattle.model.specs.Repair.{St, End, working, whole, fault, unavailable, twi
 use Rattle.model.specs.Shape.{places, tree}
 use Rattle.calls.specs.declared.Answer.{Answer}
 use Rattle.calls.specs.declared.Answer.the-variants.{Done, Stopped}
-use Rattle.calls.specs.Tests.{admitted}
+use Rattle.root_record.specs.Records.{sizeIn, rootIn}
+use Rattle.calls.specs.Tests.{admittedBy}
 use Rattle.calls.proofs.LengthLaws.{places-small}
 use Rattle.calls.specs.Stops.{Small}
-use Rattle.calls.proofs.AdmissionLaws.{admits, table-laws-of}
+use Rattle.calls.proofs.AdmissionLaws.{table-laws-of}
+use Rattle.calls.proofs.RecordLaws.{root-length, admits-by}
 use Rattle.fault_calls.specs.Checking.{proofSized, judged}
 use Rattle.fault_calls.specs.Ends.{FaultAccepted, FaultCollides, FourWays}
-use Rattle.fault_calls.specs.Repairing.{Fits, endNumber, endValue, repairOf, repairTested, repairedBy, repaired}
+use Rattle.fault_calls.specs.Repairing.{Fits, endNumber, endValue, endedBy, repairOf, repairTested, repairedBy, repaired}
 use Rattle.fault_calls.proofs.CheckingLaws.{judged-so}
 use Rattle.fault_calls.proofs.RepairingLaws.{Formed, formed, small}
 use Rattle.fault_calls.proofs.Sound.{checker-sound}
 
 -- ---- the four ends
 
-module _ (d : ℕ) (root table t m o : List ℕ) (k : Formed d root table t m o) where
+module _ (d : ℕ) (r table t m o : List ℕ) (k : Formed d r table t m o) where
   pub deep : length (tableOf (wordsOf table)) ≡ d
   deep = accepted-table d (wordsOf table) (k .admits .taken .accepted) .depth
 
-  ended-so : Ended tree (symbolHash Plain) root (tableOf (wordsOf table)) t m o (repairOf root table t m o)
+  ended-so : Ended tree (symbolHash Plain) (rootIn r) (tableOf (wordsOf table)) t m o (repairOf r table t m o)
   unfolding repairOf
   ended-so =
-      four-ends tree (tree-ok .shape) (symbolHash Plain) root (tableOf (wordsOf table)) (table-laws-of d table (k .admits .taken .accepted)) (length-symbolHash Plain) t m o
+      four-ends tree (tree-ok .shape) (symbolHash Plain) (rootIn r) (tableOf (wordsOf table)) (table-laws-of d table (k .admits .taken .accepted)) (length-symbolHash Plain) t m o
       (record { tree-length = k .tree-full ∙ ap (λ (q : ℕ). 256 * places tree q) (sym deep); marks-length = k .marks-full ∙ ap (places tree) (sym deep) })
       (table-roomy tree (tableOf (wordsOf table)) (table-laws-of d table (k .admits .taken .accepted)) o (k .out-full ∙ ap (λ (q : ℕ). 12 + 256 * (8 * q - 1)) (sym deep)))
-      (k .root-full ∙ sym tree-root)
+      (root-length r (k .record-full) ∙ sym tree-root)
 
-pub four-ways : (d : ℕ) (root table t m o : List ℕ) → FourWays d root table t m o
-four-ways d root table t m o e = ended-so d root table t m o (formed d root table t m o e)
+pub four-ways : (d : ℕ) (r table t m o : List ℕ) → FourWays d r table t m o
+four-ways d r table t m o e = ended-so d r table t m o (formed d r table t m o e)
 
 -- ---- a fault
 
--- a proof of at least 12 bytes passes tests 1, 2, 3 and 10 for the same root and table
-proof-admitted : (d : ℕ) (root table t m o : List ℕ) → Formed d root table t m o → (b : List ℕ) → 12 ≤ length b
-    → Done ≡ admitted d (proofSized (length root) (length b)) table
-proof-admitted d root table t m o k b l =
-    admits d (proofSized (length root) (length b)) table (k .admits .taken) (yes-and (eq-eqb (length root) 512 (k .root-full)) (le-leb 12 (length b) l))
+-- a proof of at least 12 bytes passes tests 1, 2, 3 and 10 for the same r and table
+proof-admitted : (d : ℕ) (r table t m o : List ℕ) → Formed d r table t m o → (b : List ℕ) → 12 ≤ length b
+    → Done ≡ admittedBy d (proofSized (length r) (length b)) r table
+proof-admitted d r table t m o k b l =
+    admits-by d (proofSized (length r) (length b)) r table
+    (record {
+      lengths = yes-and (eq-eqb (length r) 556 (k .record-full)) (le-leb 12 (length b) l);
+      head = k .admits .head;
+      taken = k .admits .taken;
+      named = k .admits .named;
+    })
 
 long : (tbl : List (List (List ℕ))) (root b : List ℕ) → verdict tree (symbolHash Plain) root tbl b ≡ accepted → 12 ≤ length b
 unfolding proofLength
 long tbl root b e = omega (arith, accepted-is tree (symbolHash Plain) root tbl b e .exact)
 
-pub fault-accepted : (d : ℕ) (root table t m o : List ℕ) → FaultAccepted d root table t m o
-fault-accepted d root table t m o e j q x n ez =
-    let k = formed d root table t m o e in
+pub fault-accepted : (d : ℕ) (r table t m o : List ℕ) → FaultAccepted d r table t m o
+fault-accepted d r table t m o e j q x n ez =
+    let k = formed d r table t m o e in
     let tbl : List (List (List ℕ)) = tableOf (wordsOf table) in
-    let st : St = repairOf root table t m o in
-    let end : FaultEnd tree (symbolHash Plain) root tbl o j q x n st = subst (EndOk tree (symbolHash Plain) root tbl t m o st) ez (ended-so d root table t m o k .ends) in
-    sym (judged-so d root table (take n (st .out)) (proof-admitted d root table t m o k (take n (st .out)) (long tbl root (take n (st .out)) (end .accepts))))
+    let st : St = repairOf r table t m o in
+    let end : FaultEnd tree (symbolHash Plain) (rootIn r) tbl o j q x n st = subst (EndOk tree (symbolHash Plain) (rootIn r) tbl t m o st) ez (ended-so d r table t m o k .ends) in
+    sym (judged-so d r table (take n (st .out)) (proof-admitted d r table t m o k (take n (st .out)) (long tbl (rootIn r) (take n (st .out)) (end .accepts))))
     ∙ ap judged (end .accepts)
 
-pub fault-collides : (d : ℕ) (root table t m o : List ℕ) → FaultCollides d root table t m o
-fault-collides d root table t m o e j q x n ez =
-    checker-sound d root table (take n (repairOf root table t m o .out)) (fault-accepted d root table t m o e j q x n ez)
+pub fault-collides : (d : ℕ) (r table t m o : List ℕ) → FaultCollides d r table t m o
+fault-collides d r table t m o e j q x n ez =
+    checker-sound d r table (take n (repairOf r table t m o .out)) (fault-accepted d r table t m o e j q x n ez)
 
 -- ---- reported numbers
 
-module _ (d : ℕ) (root table t m o : List ℕ) (k : Formed d root table t m o) where
+module _ (d : ℕ) (r table t m o : List ℕ) (k : Formed d r table t m o) where
   abbrev st : St
-  st = repairOf root table t m o
+  st = repairOf r table t m o
 
   stored-fits : st .stored < 2 ^ 16
   stored-fits =
-      let e = ended-so d root table t m o k .always in
+      let e = ended-so d r table t m o k .always in
       let n = places-mono tree (st .entered) (length (tableOf (wordsOf table))) (e .in-depth) in
       omega (
         arith,
         e .counted,
-        filled-le tree (symbolHash Plain) root t m (st .tree) (st .marks) (st .entered),
+        filled-le tree (symbolHash Plain) (rootIn r) t m (st .tree) (st .marks) (st .entered),
         n,
-        ap (places tree) (deep d root table t m o k),
+        ap (places tree) (deep d r table t m o k),
         places-small d (k .shallow),
       )
 
-  value-fits : (z : End) → EndOk tree (symbolHash Plain) root (tableOf (wordsOf table)) t m o st z → endValue z < 2 ^ 16
+  value-fits : (z : End) → EndOk tree (symbolHash Plain) (rootIn r) (tableOf (wordsOf table)) t m o st z → endValue z < 2 ^ 16
   value-fits working x = absurd x
   value-fits whole x = omega arith
   value-fits (fault j e y n) x = omega (arith, x .room, k .out-full, k .shallow)
   value-fits (unavailable j) x =
-      omega (arith, x .last, ended-so d root table t m o k .always .in-depth, deep d root table t m o k, k .shallow)
+      omega (arith, x .last, ended-so d r table t m o k .always .in-depth, deep d r table t m o k, k .shallow)
   value-fits (twins j y) x = omega arith
 
 end-number : (z : End) → endNumber z < 2 ^ 24
@@ -110,14 +119,22 @@ end-number (unavailable j) = omega arith
 end-number (twins j x) = omega arith
 end-number working = omega arith
 
-result-fits : (d : ℕ) (root table t m o : List ℕ) (a : Answer) → repairTested d root table t m o ≡ a → Small a
-    → Fits (repairedBy a (repairOf root table t m o) t m o .answer)
-result-fits d root table t m o Done e h =
-    let k = formed d root table t m o e in
-    let z : End = repairOf root table t m o .end in
-    (stored-fits d root table t m o k, value-fits d root table t m o k z (ended-so d root table t m o k .ends), end-number z)
-result-fits d root table t m o (Stopped w) e h = h
+-- the end by the filling
+ended-fits : (zero : Bool) (s : ℕ) (z : End) → s < 2 ^ 16 → endValue z < 2 ^ 16 → Fits (endedBy zero s z)
+ended-fits zero s working h v = (h, v, end-number working)
+ended-fits zero s whole h v = pick-ind Fits zero (λ e. (h, v, end-number whole)) (λ e. h)
+ended-fits zero s (fault j e x n) h v = (h, v, end-number (fault j e x n))
+ended-fits zero s (unavailable j) h v = (h, v, end-number (unavailable j))
+ended-fits zero s (twins j x) h v = (h, v, end-number (twins j x))
 
-pub repair-fits : (d : ℕ) (root table t m o : List ℕ) → Fits (repaired d root table t m o .answer)
+result-fits : (d : ℕ) (r table t m o : List ℕ) (a : Answer) → repairTested d r table t m o ≡ a → Small a
+    → Fits (repairedBy a d (sizeIn r) (repairOf r table t m o) t m o .answer)
+result-fits d r table t m o Done e h =
+    let k = formed d r table t m o e in
+    let z : End = repairOf r table t m o .end in
+    ended-fits _ _ z (stored-fits d r table t m o k) (value-fits d r table t m o k z (ended-so d r table t m o k .ends))
+result-fits d r table t m o (Stopped w) e h = h
+
+pub repair-fits : (d : ℕ) (r table t m o : List ℕ) → Fits (repaired d r table t m o .answer)
 unfolding repaired
-repair-fits d root table t m o = result-fits d root table t m o (repairTested d root table t m o) refl (small d root table t m o)
+repair-fits d r table t m o = result-fits d r table t m o (repairTested d r table t m o) refl (small d r table t m o)

@@ -1,6 +1,6 @@
 -- What repairing a tree answers and leaves.
-use mathlib.Core.Path.{_≡_, sym, ap, ap₂, _∙_}
-use mathlib.Core.Bool.{true, _&&_}
+use mathlib.Core.Path.{_≡_, refl, sym, ap, ap₂, _∙_}
+use mathlib.Core.Bool.{Bool, true, false, _&&_}
 use mathlib.Core.List.{List}
 use Prim.Native.Nat.{ℕ, _+_, _-_, _*_, _^_, _≤_}
 use native.Mathlib.Omega.{arith}
@@ -8,7 +8,7 @@ use lib.ListN.{length, length-replicate, replicate}
 use lib.Pow.{pow-mono}
 use lib.Dec.{eqb}
 use borrow.Author.Tests.{eqb-true}
-use Rattle.octets.proofs.Choice.{and-yes}
+use Rattle.octets.proofs.Choice.{and-yes, pick-yes, pick-no}
 use Rattle.parity_table.specs.Shape.{depthFits, kOf, maxDepth}
 use Rattle.table_bytes.specs.Bytes.{wordsOf}
 use Rattle.parity_table.specs.Parse.{tableOf}
@@ -16,7 +16,8 @@ use Rattle.parity_table.proofs.Shape.{depth-is}
 use Rattle.symbol_hash.specs.SymbolHash.{symbolHash}
 use Rattle.symbol_hash.specs.declared.Kind.the-variants.{Plain}
 use Rattle.model.specs.Shape.{tree, places}
-use Rattle.model.specs.Repair.{St, repair}
+use Rattle.model.specs.Repair.{End as StepsEnd, working, whole, fault, unavailable, twins, St, repair}
+use Rattle.model.specs.Writer.{zeroFilled}
 use Rattle.repair.specs.declared.End.{End}
 use Rattle.repair.specs.Buffers.{Lists}
 use Rattle.repair.specs.Reports.{endOf, Repaired}
@@ -24,42 +25,61 @@ use Rattle.calls.specs.declared.Stop.{Stop}
 use Rattle.calls.specs.declared.Stop.the-variants.{Depth}
 use Rattle.calls.specs.declared.Answer.{Answer}
 use Rattle.calls.specs.declared.Answer.the-variants.{Done, Stopped}
-use Rattle.calls.specs.Lengths.{treeSized, rootSized}
-use Rattle.calls.specs.Tests.{_then_, admitted, testMarks}
+use Rattle.root_record.specs.Records.{sizeIn, rootIn}
+use Rattle.calls.specs.Lengths.{treeSized, recordSized}
+use Rattle.calls.specs.Tests.{_then_, admittedBy, testMarks}
 use Rattle.calls.proofs.LengthLaws.{places-small, tree-lengths}
 use Rattle.calls.specs.Stops.{Small}
 use Rattle.calls.proofs.TestLaws.{then-done, small-then, small-marks}
-use Rattle.calls.proofs.AdmissionLaws.{Admitted, admission, none-admitted, small-admitted}
+use Rattle.calls.proofs.RecordLaws.{AdmittedBy, admission-by, none-admitted-by, small-admitted-by}
 use Rattle.fault_calls.specs.declared.Outcome.{Outcome}
 use Rattle.fault_calls.specs.declared.Outcome.the-variants as outcome
-use Rattle.fault_calls.specs.Repairing.{Result, ended, stopped, RepairLeft, leaves, repairSized, repairTested, repairOf, repairedBy, repaired, outcomeOf}
+use Rattle.fault_calls.specs.Repairing.{Result, ended, misfilled, stopped, RepairLeft, leaves, repairSized, endNumber, endedBy, repairTested, repairOf, repairedBy, repaired, outcomeOf}
 
 -- ---- the lengths, where their test passes
 
-pub sizes : (d root t m o : ℕ) → repairSized d root t m o ≡ true
-    → (root ≡ 512) × (t ≡ 256 * places tree d) × (m ≡ places tree d) × (o ≡ 12 + 256 * (8 * d - 1))
-sizes d root t m o e =
-    let (p, q) = and-yes (treeSized d t m) (rootSized root && eqb o (12 + 256 * (8 * d - 1))) e in
-    let (x, y) = and-yes (rootSized root) (eqb o (12 + 256 * (8 * d - 1))) q in
+pub sizes : (d r t m o : ℕ) → repairSized d r t m o ≡ true
+    → (r ≡ 556) × (t ≡ 256 * places tree d) × (m ≡ places tree d) × (o ≡ 12 + 256 * (8 * d - 1))
+sizes d r t m o e =
+    let (p, q) = and-yes (treeSized d t m) (recordSized r && eqb o (12 + 256 * (8 * d - 1))) e in
+    let (x, y) = and-yes (recordSized r) (eqb o (12 + 256 * (8 * d - 1))) q in
     let (v, w) = tree-lengths d t m p in
-    (eqb-true root 512 x, v, w, eqb-true o (12 + 256 * (8 * d - 1)) y)
+    (eqb-true r 556 x, v, w, eqb-true o (12 + 256 * (8 * d - 1)) y)
+
+-- ---- the end by the filling
+
+module _ (zero : Bool) (s : ℕ) where
+  pub misfills : (z : StepsEnd) → endNumber z ≡ 0 → zero ≡ false → misfilled s ≡ endedBy zero s z
+  misfills working e f = absurd (omega arith)
+  misfills whole e f = sym (pick-no zero (ended s whole) (misfilled s) f)
+  misfills (fault j q x n) e f = absurd (omega arith)
+  misfills (unavailable j) e f = absurd (omega arith)
+  misfills (twins j x) e f = absurd (omega arith)
+
+  -- any end but whole, and whole where the filling is zero
+  pub ends-so : (z : StepsEnd) → (endNumber z ≡ 0 → zero ≡ true) → ended s z ≡ endedBy zero s z
+  ends-so working f = refl
+  ends-so whole f = sym (pick-yes zero (ended s whole) (misfilled s) (f refl))
+  ends-so (fault j q x n) f = refl
+  ends-so (unavailable j) f = refl
+  ends-so (twins j x) f = refl
 
 -- ---- after the tests
 
-module _ (root : List ℕ) (tbl : List (List (List ℕ))) (t m o : List ℕ) where
+module _ (root : List ℕ) (tbl : List (List (List ℕ))) (d n : ℕ) (t m o : List ℕ) where
   abbrev steps : St
   steps = repair tree (symbolHash Plain) root tbl t m o
 
-  pub marks-refuse : (s : Stop) → Stopped s ≡ testMarks m → leaves (stopped s) t m o ≡ repairedBy (testMarks m) steps t m o
-  marks-refuse s e = ap (λ (a : Answer). repairedBy a steps t m o) e
+  pub marks-refuse : (s : Stop) → Stopped s ≡ testMarks m → leaves (stopped s) t m o ≡ repairedBy (testMarks m) d n steps t m o
+  marks-refuse s e = ap (λ (a : Answer). repairedBy a d n steps t m o) e
 
-  pub repairs : (t′ m′ o′ : List ℕ) (s : ℕ) (z : End) → Repaired Plain root tbl t m o t′ m′ o′ s z → Done ≡ testMarks m
-      → leaves (ended s (endOf z)) t′ m′ o′ ≡ repairedBy (testMarks m) steps t m o
-  repairs t′ m′ o′ s z r e =
-      ap₂ (λ (x : ℕ) y. leaves (ended x y) t′ m′ o′) (r .stored-is) (r .end-is)
-      ∙ ap₂ (λ (x y : List ℕ). leaves (ended (steps .stored) (steps .end)) x y o′) (r .tree-is) (r .marks-is)
-      ∙ ap (λ (x : List ℕ). leaves (ended (steps .stored) (steps .end)) (steps .tree) (steps .marks) x) (r .out-is)
-      ∙ ap (λ (a : Answer). repairedBy a steps t m o) e
+  pub repairs : (t′ m′ o′ : List ℕ) (s : ℕ) (z : End) (x : Result) → Repaired Plain root tbl t m o t′ m′ o′ s z → Done ≡ testMarks m
+      → x ≡ endedBy (zeroFilled tree d n t′) s (endOf z) → leaves x t′ m′ o′ ≡ repairedBy (testMarks m) d n steps t m o
+  repairs t′ m′ o′ s z x r e ex =
+      ap (λ (y : Result). leaves y t′ m′ o′) (ex ∙ ap₂ (λ (q : ℕ) y. endedBy (zeroFilled tree d n t′) q y) (r .stored-is) (r .end-is))
+      ∙ ap₂ (λ (y w : List ℕ). leaves (endedBy (zeroFilled tree d n y) (steps .stored) (steps .end)) y w o′) (r .tree-is) (r .marks-is)
+      ∙ ap (λ (y : List ℕ). leaves (endedBy (zeroFilled tree d n (steps .tree)) (steps .stored) (steps .end)) (steps .tree) (steps .marks) y) (r .out-is)
+      ∙ ap (λ (a : Answer). repairedBy a d n steps t m o) e
 
 -- ---- arrays for the search
 
@@ -82,54 +102,55 @@ lists-for d b up-to f =
 
 -- ---- of the whole call
 
-module _ (d : ℕ) (root table t m o : List ℕ) where
-  pub refused : (s : Stop) → Stopped s ≡ admitted d (repairSized d (length root) (length t) (length m) (length o)) table
-      → leaves (stopped s) t m o ≡ repaired d root table t m o
+module _ (d : ℕ) (r table t m o : List ℕ) where
+  pub refused : (s : Stop) → Stopped s ≡ admittedBy d (repairSized d (length r) (length t) (length m) (length o)) r table
+      → leaves (stopped s) t m o ≡ repaired d r table t m o
   unfolding repaired repairTested
-  refused s e = ap (λ (a : Answer). repairedBy (a then testMarks m) (repairOf root table t m o) t m o) e
+  refused s e = ap (λ (a : Answer). repairedBy (a then testMarks m) d (sizeIn r) (repairOf r table t m o) t m o) e
 
-  pub went-on : (ws : List ℕ) (x : RepairLeft Result) → ws ≡ wordsOf table
-      → x ≡ repairedBy (testMarks m) (repair tree (symbolHash Plain) root (tableOf ws) t m o) t m o
-      → Done ≡ admitted d (repairSized d (length root) (length t) (length m) (length o)) table → x ≡ repaired d root table t m o
+  pub went-on : (ws root : List ℕ) (n : ℕ) (x : RepairLeft Result) → root ≡ rootIn r → n ≡ sizeIn r → ws ≡ wordsOf table
+      → x ≡ repairedBy (testMarks m) d n (repair tree (symbolHash Plain) root (tableOf ws) t m o) t m o
+      → Done ≡ admittedBy d (repairSized d (length r) (length t) (length m) (length o)) r table → x ≡ repaired d r table t m o
   unfolding repaired repairTested repairOf
-  went-on ws x ew ex e =
-      ex ∙ ap (λ (q : List ℕ). repairedBy (testMarks m) (repair tree (symbolHash Plain) root (tableOf q) t m o) t m o) ew
-      ∙ ap (λ (a : Answer). repairedBy (a then testMarks m) (repairOf root table t m o) t m o) e
+  went-on ws root n x eo en ew ex e =
+      ex ∙ ap₂ (λ (q : List ℕ) (k : ℕ). repairedBy (testMarks m) d k (repair tree (symbolHash Plain) q (tableOf ws) t m o) t m o) eo en
+      ∙ ap (λ (q : List ℕ). repairedBy (testMarks m) d (sizeIn r) (repair tree (symbolHash Plain) (rootIn r) (tableOf q) t m o) t m o) ew
+      ∙ ap (λ (a : Answer). repairedBy (a then testMarks m) d (sizeIn r) (repairOf r table t m o) t m o) e
 
   -- the tests that well-formed input has passed
   pub record Formed : Type 0 where
-    pub admits : Admitted d (repairSized d (length root) (length t) (length m) (length o)) table
+    pub admits : AdmittedBy d (repairSized d (length r) (length t) (length m) (length o)) r table
     pub some : 1 ≤ d
     pub shallow : d ≤ maxDepth
-    pub root-full : length root ≡ 512
+    pub record-full : length r ≡ 556
     pub tree-full : length t ≡ 256 * places tree d
     pub marks-full : length m ≡ places tree d
     pub out-full : length o ≡ 12 + 256 * (8 * d - 1)
 
-  admitted-formed : admitted d (repairSized d (length root) (length t) (length m) (length o)) table ≡ Done → Formed
+  admitted-formed : admittedBy d (repairSized d (length r) (length t) (length m) (length o)) r table ≡ Done → Formed
   admitted-formed e =
-      let a = admission d (repairSized d (length root) (length t) (length m) (length o)) table e in
-      let (r, v, w, x) = sizes d (length root) (length t) (length m) (length o) (a .lengths) in
+      let a = admission-by d (repairSized d (length r) (length t) (length m) (length o)) r table e in
+      let (f, v, w, x) = sizes d (length r) (length t) (length m) (length o) (a .lengths) in
       record {
         admits = a;
         some = depth-is d (a .taken .deep) .0;
         shallow = depth-is d (a .taken .deep) .1;
-        root-full = r;
+        record-full = f;
         tree-full = v;
         marks-full = w;
         out-full = x;
       }
 
-  pub formed : repairTested d root table t m o ≡ Done → Formed
+  pub formed : repairTested d r table t m o ≡ Done → Formed
   unfolding repairTested
-  formed e = admitted-formed (then-done (admitted d (repairSized d (length root) (length t) (length m) (length o)) table) (testMarks m) e .0)
+  formed e = admitted-formed (then-done (admittedBy d (repairSized d (length r) (length t) (length m) (length o)) r table) (testMarks m) e .0)
 
   -- a stop's values are small
-  pub small : Small (repairTested d root table t m o)
+  pub small : Small (repairTested d r table t m o)
   unfolding repairTested
   small =
-      small-then (admitted d (repairSized d (length root) (length t) (length m) (length o)) table) (testMarks m)
-      (small-admitted d (repairSized d (length root) (length t) (length m) (length o)) table)
+      small-then (admittedBy d (repairSized d (length r) (length t) (length m) (length o)) r table) (testMarks m)
+      (small-admitted-by d (repairSized d (length r) (length t) (length m) (length o)) r table)
       (λ e. let k = admitted-formed e in small-marks m (omega (arith, k .marks-full, places-small d (k .shallow))))
 
 -- a repair that stopped
@@ -138,9 +159,9 @@ pub stops-so : {q : Outcome} {s : Stop} {t m o : List ℕ} {x : RepairLeft Resul
 stops-so {t = t} {m = m} {o = o} e f = ap (λ (z : Outcome). leaves (outcomeOf z) t m o) (sym e) ∙ f
 
 -- what is answered and left with 1 is answered and left at depth 0
-pub as-at-none : (d : ℕ) (root table t m o : List ℕ) (s : Stop) (t′ m′ o′ : List ℕ) → leaves (stopped s) t′ m′ o′ ≡ repaired d root table t m o
-    → Stopped s ≡ Stopped Depth → repaired 0 root table t′ m′ o′ ≡ repaired d root table t m o
-as-at-none d root table t m o s t′ m′ o′ e z =
+pub as-at-none : (d : ℕ) (r table t m o : List ℕ) (s : Stop) (t′ m′ o′ : List ℕ) → leaves (stopped s) t′ m′ o′ ≡ repaired d r table t m o
+    → Stopped s ≡ Stopped Depth → repaired 0 r table t′ m′ o′ ≡ repaired d r table t m o
+as-at-none d r table t m o s t′ m′ o′ e z =
     let same : s ≡ Depth = cc in
-    sym (refused 0 root table t′ m′ o′ Depth (none-admitted (repairSized 0 (length root) (length t′) (length m′) (length o′)) table))
+    sym (refused 0 r table t′ m′ o′ Depth (none-admitted-by (repairSized 0 (length r) (length t′) (length m′) (length o′)) r table))
     ∙ ap (λ (q : Stop). leaves (stopped q) t′ m′ o′) (sym same) ∙ e

@@ -13,12 +13,13 @@ use Rattle.model.specs.Fault.{Verdict, accepted, wrongHead, wrongLength, broken
 use Rattle.calls.specs.declared.Stop.the-variants.{Length, Head, Hash, NoFault}
 use Rattle.calls.specs.declared.Answer.{Answer}
 use Rattle.calls.specs.declared.Answer.the-variants.{Done, Stopped}
-use Rattle.calls.specs.Lengths.{rootSized}
-use Rattle.calls.specs.Tests.{_then_, admitted}
+use Rattle.root_record.specs.Records.{rootIn}
+use Rattle.calls.specs.Lengths.{recordSized}
+use Rattle.calls.specs.Tests.{_then_, admittedBy}
 
--- a root has its length, and a proof is long enough for a head
+-- a record has its length, and a proof is long enough for a head
 abbrev pub proofSized : ℕ → ℕ → Bool
-proofSized root b = rootSized root && leb 12 b
+proofSized r b = recordSized r && leb 12 b
 
 -- the checker's verdict as an answer
 abbrev pub judged : Verdict → Answer
@@ -28,7 +29,8 @@ judged wrongLength = Stopped Length
 judged (broken l p) = Stopped (Hash l p)
 judged noFault = Stopped NoFault
 
--- "A proof is tested 1, 2, 3, 6, then 2 again for the length its head demands, 7, 8", and 10 "right after 3"
+-- "A proof is tested 1, 2, 3, 6, then 2 again for the length its head demands, 7, 8", 10 "right after 3", "11 after 2", and "12 after 10"; "The fault
+-- promise concerns the 512 bytes inside."
 unfoldable pub proofChecked : ℕ → List ℕ → List ℕ → List ℕ → Answer
-proofChecked d root table b =
-    admitted d (proofSized (length root) (length b)) table then judged (verdict tree (symbolHash Plain) root (tableOf (wordsOf table)) b)
+proofChecked d r table b =
+    admittedBy d (proofSized (length r) (length b)) r table then judged (verdict tree (symbolHash Plain) (rootIn r) (tableOf (wordsOf table)) b)

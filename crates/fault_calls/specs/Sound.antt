@@ -13,6 +13,7 @@ use Rattle.symbol_hash.specs.declared.Kind.the-variants.{Plain}
 use Rattle.model.specs.Shape.{tree}
 use Rattle.model.specs.Coded.{Agrees, CollisionWith}
 use Rattle.model.specs.Fault.{ProofHolds}
+use Rattle.root_record.specs.Records.{rootIn}
 use Rattle.calls.specs.declared.Answer.the-variants.{Done}
 use Rattle.fault_calls.specs.Checking.{proofChecked}
 
@@ -25,5 +26,5 @@ pub record Colliding (tbl : List (List (List ℕ))) (b : List ℕ) (f : ℕ → 
 
 abbrev pub CheckerSound : Type 0
 CheckerSound =
-    (depth : ℕ) (root table b : List ℕ) → proofChecked depth root table b ≡ Done
-    → (f : ℕ → ℕ → List ℕ) → Agrees tree (symbolHash Plain) (tableOf (wordsOf table)) root f → Colliding (tableOf (wordsOf table)) b f
+    (depth : ℕ) (r table b : List ℕ) → proofChecked depth r table b ≡ Done
+    → (f : ℕ → ℕ → List ℕ) → Agrees tree (symbolHash Plain) (tableOf (wordsOf table)) (rootIn r) f → Colliding (tableOf (wordsOf table)) b f

@@ -1,7 +1,7 @@
 // Checking a fault proof.
 use calls::Answer;
 use calls::Stop;
-use calls::admit;
+use calls::admit_by;
 use calls::stops_at_depth;
 use fault_proof::Verdict;
 use parity_table::MAX_EQUATIONS;
@@ -28,11 +28,11 @@ fn answer_of(v: Verdict) -> Answer
     }
 }
 
-// Whether a root has its length, and a proof is long enough for a head.
-fn sizes_fit(root: usize, proof: usize) -> bool
-    ensures { λ r. ⌜ r ≡ proofSized root proof ⌝ }
+// Whether a record has its length, and a proof is long enough for a head.
+fn sizes_fit(record_len: usize, proof: usize) -> bool
+    ensures { λ r. ⌜ r ≡ proofSized record_len proof ⌝ }
 {
-    if root != 512 {
+    if record_len != root_record::BYTES {
         return false;
     }
     12 <= proof
@@ -41,45 +41,46 @@ fn sizes_fit(root: usize, proof: usize) -> bool
 // check, with arrays for the table's words and index.
 fn check_in(
     depth: usize,
-    root: &[u8],
+    root_record: &[u8],
     table: &[u8],
     proof: &[u8],
     words: &mut [u32],
     starts: &mut [usize],
 ) -> Answer
     requires { ⌜ Room depth (now words) (now starts) ⌝ }
-    ensures { λ r. ⌜ r ≡ proofChecked depth (now (root .entry)) (now (table .entry)) (now (proof .entry)) ⌝ }
+    ensures { λ r. ⌜ r ≡ proofChecked depth (now (root_record .entry)) (now (table .entry)) (now (proof .entry)) ⌝ }
 {
-    let sized = sizes_fit(root.len(), proof.len());
-    if let Answer::Stopped(s) = admit(depth, sized, table, words, starts) {
+    let sized = sizes_fit(root_record.len(), proof.len());
+    if let Answer::Stopped(s) = admit_by(depth, sized, root_record, table, words, starts) {
         return Answer::Stopped(s);
     }
     let n = table.len() / 4;
+    let root = &root_record[root_record::ROOT_AT..];
     answer_of(fault_proof::check(Kind::Plain, depth, &words[..n], starts, root, proof))
 }
 
 // check for a deeper tree.
-fn check_deep(depth: usize, root: &[u8], table: &[u8], proof: &[u8]) -> Answer
-    ensures { λ r. ⌜ r ≡ proofChecked depth (now (root .entry)) (now (table .entry)) (now (proof .entry)) ⌝ }
+fn check_deep(depth: usize, root_record: &[u8], table: &[u8], proof: &[u8]) -> Answer
+    ensures { λ r. ⌜ r ≡ proofChecked depth (now (root_record .entry)) (now (table .entry)) (now (proof .entry)) ⌝ }
 {
     let mut words = [0u32; MAX_WORDS];
     let mut starts = [0usize; MAX_EQUATIONS];
-    let answer = check_in(depth, root, table, proof, &mut words, &mut starts);
+    let answer = check_in(depth, root_record, table, proof, &mut words, &mut starts);
     if stops_at_depth(depth, answer) {
-        return check_deep(0, root, table, proof);
+        return check_deep(0, root_record, table, proof);
     }
     answer
 }
 
-// Checks a fault proof against a root and a table that comes as bytes: tests 1, 2, 3, 10, 6, then 2 again for the length its head demands, 7, 8.
-// Done: a fault is shown.
-pub fn check(depth: usize, root: &[u8], table: &[u8], proof: &[u8]) -> Answer
-    ensures { λ r. ⌜ r ≡ proofChecked depth (now (root .entry)) (now (table .entry)) (now (proof .entry)) ⌝ }
+// Checks a fault proof against a record and a table that comes as bytes: tests 1, 2, 11, 3, 10, 12, 6, then 2 again for the length its head
+// demands, 7, 8. Done: a fault is shown.
+pub fn check(depth: usize, root_record: &[u8], table: &[u8], proof: &[u8]) -> Answer
+    ensures { λ r. ⌜ r ≡ proofChecked depth (now (root_record .entry)) (now (table .entry)) (now (proof .entry)) ⌝ }
 {
     if is_deep(depth) {
-        return check_deep(depth, root, table, proof);
+        return check_deep(depth, root_record, table, proof);
     }
     let mut words = [0u32; SHALLOW_WORDS];
     let mut starts = [0usize; SHALLOW_EQUATIONS];
-    check_in(depth, root, table, proof, &mut words, &mut starts)
+    check_in(depth, root_record, table, proof, &mut words, &mut starts)
 }

@@ -6,6 +6,7 @@ mod repairing;
 use calls::Stop;
 pub use checking::check;
 pub use numbering::ending_of;
+pub use numbering::misfilled;
 use repair::Report;
 pub use repairing::repair_tree;
 
@@ -13,6 +14,8 @@ pub use repairing::repair_tree;
 pub enum Outcome {
     // it came to an end: symbols stored, and the end
     Ended(Report),
+    // .. whole, but what fills up the block is not zero: symbols stored
+    Misfilled(usize),
     Stopped(Stop),
 }
 

@@ -4,12 +4,19 @@ use repair::End;
 use repair::Report;
 ghost use mathlib.Core.Path.{_≡_};
 ghost use Rattle.repair.specs.Reports.{endOf};
-ghost use Rattle.fault_calls.specs.Repairing.{endNumber, endValue};
+ghost use Rattle.fault_calls.specs.Repairing.{endNumber, endValue, misfilledNumber};
 
 fn with(end: usize, stored: usize, value: usize) -> Ending
     ensures { λ r. ⌜ (r .end ≡ end) × (r .stored ≡ stored) × (r .value ≡ value) ⌝ }
 {
     Ending { end, stored, value }
+}
+
+// "ends with 13 in place of whole"
+pub fn misfilled(stored: usize) -> Ending
+    ensures { λ n. ⌜ (n .end ≡ misfilledNumber) × (n .stored ≡ stored) × (n .value ≡ 0) ⌝ }
+{
+    with(13, stored, 0)
 }
 
 pub fn ending_of(r: Report) -> Ending

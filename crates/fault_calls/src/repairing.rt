@@ -1,7 +1,8 @@
 // Repairing a tree.
 use crate::Outcome;
+use crate::ending_of;
 use calls::Answer;
-use calls::admit;
+use calls::admit_by;
 use calls::stops_at_depth;
 use calls::test_marks;
 use calls::tree_fits;
@@ -10,41 +11,61 @@ use parity_table::MAX_EQUATIONS;
 use parity_table::SHALLOW_DATA;
 use parity_table::SHALLOW_EQUATIONS;
 use parity_table::is_deep;
+use repair::Report;
 use symbol_hash::Kind;
 use table_bytes::MAX_WORDS;
 use table_bytes::SHALLOW_WORDS;
 ghost use mathlib.Core.Path.{_≡_};
 ghost use mathlib.Core.Bool.{true, _&&_};
-ghost use Prim.Native.Nat.{_-_};
-ghost use Rattle.parity_table.specs.Shape.{depthFits, kOf};
+ghost use Prim.Native.Nat.{_-_, _*_, _≤_};
+ghost use lib.ListN.{length};
+ghost use Rattle.parity_table.specs.Shape.{maxDepth, depthFits, kOf};
 ghost use Rattle.parity_table.specs.Parse.{tableOf};
 ghost use Rattle.symbol_hash.specs.SymbolHash.{symbolHash};
-ghost use Rattle.model.specs.Shape.{tree as shape};
+ghost use Rattle.model.specs.Shape.{tree as shape, places};
+ghost use Rattle.model.specs.Writer.{zeroFilled};
 ghost use Rattle.model.specs.Repair.{repair as steps};
 ghost use Rattle.calls.specs.Tests.{testMarks};
 ghost use Rattle.calls.specs.Room.{Room};
 ghost use Rattle.repair.specs.Buffers.{Given, Lists};
-ghost use Rattle.fault_calls.specs.Repairing.{repairSized, repairedBy, repaired, outcomeOf, leaves};
+ghost use Rattle.repair.specs.Reports.{endOf};
+ghost use Rattle.fault_calls.specs.Repairing.{repairSized, endedBy, repairedBy, repaired, outcomeOf, leaves};
 
-// Whether the depth is one, and root, tree, marks and output have the lengths of it.
-fn sizes_fit(depth: usize, root: usize, tree: usize, marks: usize, out: usize) -> bool
-    ensures { λ r. ⌜ r ≡ depthFits depth && repairSized depth root tree marks out ⌝ }
+// Whether the depth is one, and record, tree, marks and output have the lengths of it.
+fn sizes_fit(depth: usize, record_len: usize, tree: usize, marks: usize, out: usize) -> bool
+    ensures { λ r. ⌜ r ≡ depthFits depth && repairSized depth record_len tree marks out ⌝ }
 {
     if !tree_fits(depth, tree, marks) {
         return false;
     }
-    if root != 512 {
+    if record_len != root_record::BYTES {
         return false;
     }
     out == 12 + 256 * (8 * depth - 1)
 }
 
-// Test 4, then the repair, by a table that is admitted.
+// The end of a repair, of a tree of this depth with a block of n bytes: whole is misfilled where what fills up the block isn't zero.
+fn ended(report: Report, depth: usize, tree: &[u8], n: usize) -> Outcome
+    requires { ⌜ (1 ≤ depth) × (depth ≤ maxDepth) × (length (now tree) ≡ 256 * places shape depth) × (n ≤ 256 * kOf (depth - 1)) ⌝ }
+    ensures { λ r. ⌜ outcomeOf r ≡ endedBy (zeroFilled shape depth n (now (tree .entry))) (report .stored) (endOf (report .end)) ⌝ }
+{
+    let ending = ending_of(report);
+    // whole
+    if ending.end == 0 {
+        if !coded_tree::zero_filled(depth, tree, n) {
+            return Outcome::Misfilled(ending.stored);
+        }
+    }
+    Outcome::Ended(report)
+}
+
+// Test 4, then the repair, by a table that is admitted, of a tree with a block of n bytes.
 fn repair_with(
     depth: usize,
     words: &[u32],
     starts: &[usize],
     root: &[u8],
+    n: usize,
     tree: &mut [u8],
     marks: &mut [u8],
     out: &mut [u8],
@@ -54,18 +75,18 @@ fn repair_with(
     last: &mut [u32],
     next: &mut [u32],
 ) -> Outcome
-    requires { ⌜ Given depth (now words) (now starts) (now root) (now tree) (now marks) (now out)
+    requires { ⌜ Given depth (now words) (now starts) (now root) (now tree) (now marks) (now out) × (n ≤ 256 * kOf (depth - 1))
         × Lists (kOf (depth - 1)) (now used) (now absent) (now order) (now last) (now next) ⌝ }
     ensures { λ r.
         ⌜ leaves (outcomeOf r) (now (tree .exit)) (now (marks .exit)) (now (out .exit))
-        ≡ repairedBy (testMarks (now (marks .entry)))
+        ≡ repairedBy (testMarks (now (marks .entry))) depth n
         (steps shape (symbolHash Kind.Plain) (now (root .entry)) (tableOf (now (words .entry))) (now (tree .entry)) (now (marks .entry)) (now (out .entry)))
         (now (tree .entry)) (now (marks .entry)) (now (out .entry)) ⌝ }
 {
     if let Answer::Stopped(s) = test_marks(marks) {
         return Outcome::Stopped(s);
     }
-    Outcome::Ended(repair::repair(
+    let report = repair::repair(
         Kind::Plain,
         depth,
         words,
@@ -79,13 +100,14 @@ fn repair_with(
         order,
         last,
         next,
-    ))
+    );
+    ended(report, depth, tree, n)
 }
 
 // repair_tree, with arrays for the table's words and index, and for the search.
 fn repair_in(
     depth: usize,
-    root: &[u8],
+    root_record: &[u8],
     table: &[u8],
     tree: &mut [u8],
     marks: &mut [u8],
@@ -102,18 +124,19 @@ fn repair_in(
         × (depthFits depth ≡ true → Lists (kOf (depth - 1)) (now used) (now absent) (now order) (now last) (now next)) ⌝ }
     ensures { λ r.
         ⌜ leaves (outcomeOf r) (now (tree .exit)) (now (marks .exit)) (now (out .exit))
-        ≡ repaired depth (now (root .entry)) (now (table .entry)) (now (tree .entry)) (now (marks .entry)) (now (out .entry)) ⌝ }
+        ≡ repaired depth (now (root_record .entry)) (now (table .entry)) (now (tree .entry)) (now (marks .entry)) (now (out .entry)) ⌝ }
 {
-    let sized = sizes_fit(depth, root.len(), tree.len(), marks.len(), out.len());
-    if let Answer::Stopped(s) = admit(depth, sized, table, words, starts) {
+    let sized = sizes_fit(depth, root_record.len(), tree.len(), marks.len(), out.len());
+    if let Answer::Stopped(s) = admit_by(depth, sized, root_record, table, words, starts) {
         return Outcome::Stopped(s);
     }
-    let n = table.len() / 4;
+    let count = table.len() / 4;
     repair_with(
         depth,
-        &words[..n],
+        &words[..count],
         starts,
-        root,
+        &root_record[root_record::ROOT_AT..],
+        root_record::size(root_record),
         tree,
         marks,
         out,
@@ -128,7 +151,7 @@ fn repair_in(
 // repair_tree for a deeper tree.
 fn repair_deep(
     depth: usize,
-    root: &[u8],
+    root_record: &[u8],
     table: &[u8],
     tree: &mut [u8],
     marks: &mut [u8],
@@ -136,7 +159,7 @@ fn repair_deep(
 ) -> Outcome
     ensures { λ r.
         ⌜ leaves (outcomeOf r) (now (tree .exit)) (now (marks .exit)) (now (out .exit))
-        ≡ repaired depth (now (root .entry)) (now (table .entry)) (now (tree .entry)) (now (marks .entry)) (now (out .entry)) ⌝ }
+        ≡ repaired depth (now (root_record .entry)) (now (table .entry)) (now (tree .entry)) (now (marks .entry)) (now (out .entry)) ⌝ }
 {
     let mut words = [0u32; MAX_WORDS];
     let mut starts = [0usize; MAX_EQUATIONS];
@@ -147,7 +170,7 @@ fn repair_deep(
     let mut next = [0u32; 24 * MAX_DATA];
     let outcome = repair_in(
         depth,
-        root,
+        root_record,
         table,
         tree,
         marks,
@@ -162,17 +185,17 @@ fn repair_deep(
     );
     if let Outcome::Stopped(s) = outcome {
         if stops_at_depth(depth, Answer::Stopped(s)) {
-            return repair_deep(0, root, table, tree, marks, out);
+            return repair_deep(0, root_record, table, tree, marks, out);
         }
         return Outcome::Stopped(s);
     }
     outcome
 }
 
-// Repairs a tree by a root and a table that comes as bytes: tests 1, 2, 3, 10, 4.
+// Repairs a tree by a record and a table that comes as bytes: tests 1, 2, 11, 3, 10, 12, 4.
 pub fn repair_tree(
     depth: usize,
-    root: &[u8],
+    root_record: &[u8],
     table: &[u8],
     tree: &mut [u8],
     marks: &mut [u8],
@@ -180,10 +203,10 @@ pub fn repair_tree(
 ) -> Outcome
     ensures { λ r.
         ⌜ leaves (outcomeOf r) (now (tree .exit)) (now (marks .exit)) (now (out .exit))
-        ≡ repaired depth (now (root .entry)) (now (table .entry)) (now (tree .entry)) (now (marks .entry)) (now (out .entry)) ⌝ }
+        ≡ repaired depth (now (root_record .entry)) (now (table .entry)) (now (tree .entry)) (now (marks .entry)) (now (out .entry)) ⌝ }
 {
     if is_deep(depth) {
-        return repair_deep(depth, root, table, tree, marks, out);
+        return repair_deep(depth, root_record, table, tree, marks, out);
     }
     let mut words = [0u32; SHALLOW_WORDS];
     let mut starts = [0usize; SHALLOW_EQUATIONS];
@@ -194,7 +217,7 @@ pub fn repair_tree(
     let mut next = [0u32; 24 * SHALLOW_DATA];
     repair_in(
         depth,
-        root,
+        root_record,
         table,
         tree,
         marks,

@@ -11,22 +11,23 @@ use Rattle.model.specs.SampleCheck.{sampleCheck}
 use Rattle.calls.specs.declared.Stop.the-variants.{Hash}
 use Rattle.calls.specs.declared.Answer.{Answer}
 use Rattle.calls.specs.declared.Answer.the-variants.{Done, Stopped}
-use Rattle.calls.specs.Lengths.{rootSized, sampleSized}
-use Rattle.calls.specs.Tests.{_then_, opened, testNumber}
+use Rattle.root_record.specs.Records.{rootIn}
+use Rattle.calls.specs.Lengths.{recordSized, sampleSized}
+use Rattle.calls.specs.Tests.{_then_, headed, testNumber}
 
--- root and sample have the lengths of depth d
+-- record and sample have the lengths of depth d
 abbrev pub checkSized : ℕ → ℕ → ℕ → Bool
-checkSized d root s = rootSized root && sampleSized d s
+checkSized d r s = recordSized r && sampleSized d s
 
--- tests 1, 2, 5, root and sample having so many bytes
-abbrev pub checkTested : ℕ → ℕ → ℕ → ℕ → Answer
-checkTested d i root s = opened d (checkSized d root s) then testNumber d i
+-- tests 1, 2, 11, 5, the sample having so many bytes
+abbrev pub checkTested : ℕ → ℕ → List ℕ → ℕ → Answer
+checkTested d i r s = headed d (checkSized d (length r) s) r then testNumber d i
 
 -- 7: "a hash doesn't lead to the root", with the layer where it breaks
 abbrev pub led : Climb → Answer
 led leads = Done
 led (breaks l) = Stopped (Hash l 0)
 
--- tests 1, 2, 5, 7
+-- tests 1, 2, 11, 5, 7
 unfoldable pub sampleChecked : ℕ → ℕ → List ℕ → List ℕ → Answer
-sampleChecked d i root s = checkTested d i (length root) (length s) then led (sampleCheck tree (symbolHash Plain) root d i s)
+sampleChecked d i r s = checkTested d i r (length s) then led (sampleCheck tree (symbolHash Plain) (rootIn r) d i s)

@@ -1,7 +1,7 @@
 // Checking a sample.
 use calls::Answer;
 use calls::Stop;
-use calls::enter;
+use calls::enter_by;
 use calls::test_number;
 use parity_table::depth_fits;
 use symbol_hash::Kind;
@@ -12,24 +12,25 @@ ghost use Rattle.parity_table.specs.Shape.{depthFits};
 ghost use Rattle.symbol_hash.specs.Ways.{climbOf};
 ghost use Rattle.sample_calls.specs.Checking.{checkSized, led, checkTested, sampleChecked};
 
-// Whether the depth is one, and root and sample have the lengths of it.
-fn sizes_fit(depth: usize, root: usize, sample: usize) -> bool
-    ensures { λ r. ⌜ r ≡ depthFits depth && checkSized depth root sample ⌝ }
+// Whether the depth is one, and record and sample have the lengths of it.
+fn sizes_fit(depth: usize, record_len: usize, sample: usize) -> bool
+    ensures { λ r. ⌜ r ≡ depthFits depth && checkSized depth record_len sample ⌝ }
 {
     if !depth_fits(depth) {
         return false;
     }
-    if root != 512 {
+    if record_len != root_record::BYTES {
         return false;
     }
     sample == 256 * (2 * depth - 1)
 }
 
-// Tests 1, 2, 5, of a root and a sample of so many bytes.
-fn tests(depth: usize, number: usize, root: usize, sample: usize) -> Answer
-    ensures { λ r. ⌜ r ≡ checkTested depth number root sample ⌝ }
+// Tests 1, 2, 11, 5, of a sample of so many bytes.
+fn tests(depth: usize, number: usize, root_record: &[u8], sample: usize) -> Answer
+    ensures { λ r. ⌜ r ≡ checkTested depth number (now (root_record .entry)) sample ⌝ }
 {
-    if let Answer::Stopped(s) = enter(depth, sizes_fit(depth, root, sample)) {
+    let sized = sizes_fit(depth, root_record.len(), sample);
+    if let Answer::Stopped(s) = enter_by(depth, sized, root_record) {
         return Answer::Stopped(s);
     }
     test_number(depth, number)
@@ -45,12 +46,13 @@ fn answer_of(w: Way) -> Answer
     }
 }
 
-// Checks a sample of the base symbol of this number against the root: tests 1, 2, 5, 7.
-pub fn check(depth: usize, number: usize, root: &[u8], sample: &[u8]) -> Answer
-    ensures { λ r. ⌜ r ≡ sampleChecked depth number (now (root .entry)) (now (sample .entry)) ⌝ }
+// Checks a sample of the base symbol of this number against the record: tests 1, 2, 11, 5, 7.
+pub fn check(depth: usize, number: usize, root_record: &[u8], sample: &[u8]) -> Answer
+    ensures { λ r. ⌜ r ≡ sampleChecked depth number (now (root_record .entry)) (now (sample .entry)) ⌝ }
 {
-    if let Answer::Stopped(s) = tests(depth, number, root.len(), sample.len()) {
+    if let Answer::Stopped(s) = tests(depth, number, root_record, sample.len()) {
         return Answer::Stopped(s);
     }
+    let root = &root_record[root_record::ROOT_AT..];
     answer_of(sampling::check(Kind::Plain, depth, number, root, sample))
 }

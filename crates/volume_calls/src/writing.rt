@@ -16,17 +16,17 @@ ghost use Rattle.parity_table.specs.Shape.{depthFits};
 ghost use Rattle.calls.specs.Room.{Room};
 ghost use Rattle.volume_calls.specs.Writing.{writeSized, treeWritten, leaves};
 
-// Whether the depth is one, and block, tree, marks and root have the lengths of it.
-fn sizes_fit(depth: usize, block: usize, tree: usize, marks: usize, root: usize) -> bool
-    ensures { λ r. ⌜ r ≡ depthFits depth && writeSized depth block tree marks root ⌝ }
+// Whether the depth is one, and block, tree, marks and record have the lengths of it.
+fn sizes_fit(depth: usize, block: usize, tree: usize, marks: usize, record_len: usize) -> bool
+    ensures { λ r. ⌜ r ≡ depthFits depth && writeSized depth block tree marks record_len ⌝ }
 {
     if !tree_fits(depth, tree, marks) {
         return false;
     }
-    if block != 256 * data_count(depth - 1) {
+    if block > 256 * data_count(depth - 1) {
         return false;
     }
-    root == 512
+    record_len == root_record::BYTES
 }
 
 // write_tree, with arrays for the table's words and index.
@@ -36,16 +36,22 @@ fn write_in(
     block: &[u8],
     tree: &mut [u8],
     marks: &mut [u8],
-    root: &mut [u8],
+    root_record: &mut [u8],
     words: &mut [u32],
     starts: &mut [usize],
 ) -> Answer
     requires { ⌜ Room depth (now words) (now starts) ⌝ }
     ensures { λ r.
-        ⌜ leaves r (now (tree .exit)) (now (marks .exit)) (now (root .exit))
-        ≡ treeWritten depth (now (table .entry)) (now (block .entry)) (now (tree .entry)) (now (marks .entry)) (now (root .entry)) ⌝ }
+        ⌜ leaves r (now (tree .exit)) (now (marks .exit)) (now (root_record .exit))
+        ≡ treeWritten depth (now (table .entry)) (now (block .entry)) (now (tree .entry)) (now (marks .entry)) (now (root_record .entry)) ⌝ }
 {
-    let sized = sizes_fit(depth, block.len(), tree.len(), marks.len(), root.len());
+    let sized = sizes_fit(
+        depth,
+        block.len(),
+        tree.len(),
+        marks.len(),
+        root_record.len(),
+    );
     if let Answer::Stopped(s) = admit(depth, sized, table, words, starts) {
         return Answer::Stopped(s);
     }
@@ -58,8 +64,9 @@ fn write_in(
         block,
         tree,
         marks,
-        root,
+        &mut root_record[root_record::ROOT_AT..],
     );
+    root_record::put(depth, block.len(), table, root_record);
     Answer::Done
 }
 
@@ -70,11 +77,11 @@ fn write_deep(
     block: &[u8],
     tree: &mut [u8],
     marks: &mut [u8],
-    root: &mut [u8],
+    root_record: &mut [u8],
 ) -> Answer
     ensures { λ r.
-        ⌜ leaves r (now (tree .exit)) (now (marks .exit)) (now (root .exit))
-        ≡ treeWritten depth (now (table .entry)) (now (block .entry)) (now (tree .entry)) (now (marks .entry)) (now (root .entry)) ⌝ }
+        ⌜ leaves r (now (tree .exit)) (now (marks .exit)) (now (root_record .exit))
+        ≡ treeWritten depth (now (table .entry)) (now (block .entry)) (now (tree .entry)) (now (marks .entry)) (now (root_record .entry)) ⌝ }
 {
     let mut words = [0u32; MAX_WORDS];
     let mut starts = [0usize; MAX_EQUATIONS];
@@ -84,31 +91,31 @@ fn write_deep(
         block,
         tree,
         marks,
-        root,
+        root_record,
         &mut words,
         &mut starts,
     );
     if stops_at_depth(depth, answer) {
-        return write_deep(0, table, block, tree, marks, root);
+        return write_deep(0, table, block, tree, marks, root_record);
     }
     answer
 }
 
-// Writes the tree of a block, its marks and its root, by a table that comes as bytes: tests 1, 2, 3, 10.
+// Writes the tree of a block, its marks and its record, by a table that comes as bytes: tests 1, 2, 3, 10.
 pub fn write_tree(
     depth: usize,
     table: &[u8],
     block: &[u8],
     tree: &mut [u8],
     marks: &mut [u8],
-    root: &mut [u8],
+    root_record: &mut [u8],
 ) -> Answer
     ensures { λ r.
-        ⌜ leaves r (now (tree .exit)) (now (marks .exit)) (now (root .exit))
-        ≡ treeWritten depth (now (table .entry)) (now (block .entry)) (now (tree .entry)) (now (marks .entry)) (now (root .entry)) ⌝ }
+        ⌜ leaves r (now (tree .exit)) (now (marks .exit)) (now (root_record .exit))
+        ≡ treeWritten depth (now (table .entry)) (now (block .entry)) (now (tree .entry)) (now (marks .entry)) (now (root_record .entry)) ⌝ }
 {
     if is_deep(depth) {
-        return write_deep(depth, table, block, tree, marks, root);
+        return write_deep(depth, table, block, tree, marks, root_record);
     }
     let mut words = [0u32; SHALLOW_WORDS];
     let mut starts = [0usize; SHALLOW_EQUATIONS];
@@ -118,7 +125,7 @@ pub fn write_tree(
         block,
         tree,
         marks,
-        root,
+        root_record,
         &mut words,
         &mut starts,
     )

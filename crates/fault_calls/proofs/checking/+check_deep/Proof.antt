@@ -90,7 +90,7 @@ check-deep-returns : (t : ℕ) → check-deep-lts.Need-returns (
 check-deep-returns t c =
     let a = c .before .before .before .before .before .before .before .before .before .before .before .args in
     let k = at-depth (a .depth) _ (sym (c .before .before .stops-at-depth .ensures) ∙ c .before .if1 .taken) in
-    c .check-deep .ensures ∙ sym (none-checked (a .depth) (a .root .now) (a .table .now) (a .proof .now)) ∙ sym (k .1) ∙ c .before .before .before .before .before .check-in .ensures
+    c .check-deep .ensures ∙ sym (none-checked (a .depth) (a .root-record .now) (a .table .now) (a .proof .now)) ∙ sym (k .1) ∙ c .before .before .before .before .before .check-in .ensures
 
 check-deep-returns-2 : (t : ℕ) → check-deep-lts.Need-returns-2 (
   check-in-reads.Asked,

@@ -189,7 +189,7 @@ repair-deep-returns t c =
     let a = c .before .before .before .before .before .before .before .before .before .before .before .before .before .before .before .before .before .before .before .before .before .before .before .before .before .before .before .before .before .before .before .before .before .before .before .before .before .before .before .before .before .before .before .before .args in
     let k = at-depth (a .depth) _ (sym (c .before .before .before .before .before .before .before .before .before .before .before .stops-at-depth .ensures) ∙ c .before .before .before .before .before .before .before .before .before .before .if1 .taken) in
     c .before .before .before .before .before .before .repair-deep .ensures
-    ∙ as-at-none (a .depth) (a .root .now) (a .table .now) (a .tree .now) (a .marks .now) (a .out .now) _ _ _ _ (stops-so (c .before .before .before .before .before .before .before .before .before .before .before .before .before .outcome .given .1) (c .before .before .before .before .before .before .before .before .before .before .before .before .before .before .before .before .before .before .before .before .before .before .before .before .before .before .before .before .repair-in .ensures)) (k .1)
+    ∙ as-at-none (a .depth) (a .root-record .now) (a .table .now) (a .tree .now) (a .marks .now) (a .out .now) _ _ _ _ (stops-so (c .before .before .before .before .before .before .before .before .before .before .before .before .before .outcome .given .1) (c .before .before .before .before .before .before .before .before .before .before .before .before .before .before .before .before .before .before .before .before .before .before .before .before .before .before .before .before .repair-in .ensures)) (k .1)
 
 repair-deep-same-length-4 : (t : ℕ) → repair-deep-lts.Need-same-length-4 (
   repair-in-reads.Asked,
@@ -231,16 +231,6 @@ repair-deep-returns-2 : (t : ℕ) → repair-deep-lts.Need-returns-2 (
 ) (repair-deep-at t) repair-deep.Post
 repair-deep-returns-2 t c = stops-so (c .before .before .before .outcome .given .1) (c .before .before .before .before .before .before .before .before .before .before .before .before .before .before .before .before .before .before .repair-in .ensures)
 
-repair-deep-enum-told : (t : ℕ) → repair-deep-lts.Need-enum-told (
-  repair-in-reads.Asked,
-  repair-in-reads.Learnt,
-  stops-at-depth-reads.Asked,
-  stops-at-depth-reads.Learnt,
-  repair-deep-below t,
-  repair-deep.Post,
-) (repair-deep-at t) repair-deep.Post
-repair-deep-enum-told t c = search needs
-
 repair-deep-same-length-7 : (t : ℕ) → repair-deep-lts.Need-same-length-7 (
   repair-in-reads.Asked,
   repair-in-reads.Learnt,
@@ -279,7 +269,7 @@ repair-deep-returns-3 : (t : ℕ) → repair-deep-lts.Need-returns-3 (
   repair-deep-below t,
   repair-deep.Post,
 ) (repair-deep-at t) repair-deep.Post
-repair-deep-returns-3 t c = c .before .before .before .before .before .before .before .before .before .before .before .before .before .before .before .repair-in .ensures
+repair-deep-returns-3 t c = c .before .before .before .before .before .before .before .before .before .before .before .before .before .before .repair-in .ensures
 
 pub +repair-deep-spec : {M : Type 1} → statement M
 +repair-deep-spec = close μ-repair-deep λ t. repair-deep-lts.spec (
@@ -311,7 +301,6 @@ pub +repair-deep-spec : {M : Type 1} → statement M
     (repair-deep-same-length-5 t)
     (repair-deep-same-length-6 t)
     (repair-deep-returns-2 t)
-    (repair-deep-enum-told t)
     (repair-deep-same-length-7 t)
     (repair-deep-same-length-8 t)
     (repair-deep-same-length-9 t)

@@ -1,10 +1,12 @@
 -- `repair_in` meets its contract: refused by a test, or handed on.
-use mathlib.Core.Path.{sym, _∙_}
+use mathlib.Core.Path.{sym, ap, _∙_}
+use native.Mathlib.Omega.{arith}
 use lib.ListN.{length}
 use borrow.Author.Needs.{needs}
 use Rattle.parity_table.specs.Shape.{depthFits}
-use Rattle.calls.proofs.AdmissionLaws.{admitted-sized, ready}
+use Rattle.calls.proofs.RecordLaws.{admission-by, admitted-by-sized, ready-by, root-length, root-part}
 use Rattle.octets.proofs.Choice.{and-yes}
+use Rattle.root_record.proofs.RecordLaws.{head-parts}
 use Rattle.fault_calls.specs.Repairing.{repairSized}
 use Rattle.fault_calls.proofs.RepairingLaws.{refused, went-on, sizes}
 use Rattle.fault_calls.proofs.repairing.repair_in.Statement.{statement}
@@ -13,8 +15,10 @@ use Rattle.fault_calls.proofs.repairing.repair_in.Tie as tie
 sizes-fit-requires : tie.Need-sizes-fit-requires
 sizes-fit-requires c κs = search needs
 
-admit-requires : tie.Need-admit-requires
-admit-requires c κs = c .before .before .before .before .before .before .before .before .before .before .before .before .before .before .before .pre .0
+admit-by-requires : tie.Need-admit-by-requires
+admit-by-requires c κs =
+    let g = c .before .before .before .before .before .before .before .before .before .before .before .before .before .before .before .args in
+    (c .before .before .before .before .before .before .before .before .before .before .before .before .before .before .before .pre .0, λ e. sizes (g .depth) _ _ _ _ (and-yes (depthFits (g .depth)) (repairSized (g .depth) (length (g .root-record .now)) (length (g .tree .now)) (length (g .marks .now)) (length (g .out .now))) (sym (c .before .before .sizes-fit .ensures) ∙ e) .1) .0)
 
 enum-known-s : tie.Need-enum-known-s
 enum-known-s c = search needs
@@ -28,7 +32,7 @@ same-length-2 c = search needs
 returns : tie.Need-returns
 returns c =
     let g = c .before .before .before .before .before .before .before .before .before .before .before .before .before .before .before .before .before .before .before .before .before .before .before .args in
-    refused (g .depth) (g .root .now) (g .table .now) (g .tree .now) (g .marks .now) (g .out .now) _ (sym (c .before .s .given .1) ∙ (c .before .before .before .before .before .before .before .admit .ensures .0 ∙ admitted-sized (g .depth) _ (repairSized (g .depth) (length (g .root .now)) (length (g .tree .now)) (length (g .marks .now)) (length (g .out .now))) (g .table .now) (c .before .before .before .before .before .before .before .before .before .before .sizes-fit .ensures)))
+    refused (g .depth) (g .root-record .now) (g .table .now) (g .tree .now) (g .marks .now) (g .out .now) _ (sym (c .before .s .given .1) ∙ (c .before .before .before .before .before .before .before .admit-by .ensures .0 ∙ admitted-by-sized (g .depth) _ (repairSized (g .depth) (length (g .root-record .now)) (length (g .tree .now)) (length (g .marks .now)) (length (g .out .now))) (g .root-record .now) (g .table .now) (c .before .before .before .before .before .before .before .before .before .before .sizes-fit .ensures)))
 
 enum-told : tie.Need-enum-told
 enum-told c = search needs
@@ -36,19 +40,44 @@ enum-told c = search needs
 slice-reshare-prefix-repair-with : tie.Need-slice-reshare-prefix-repair-with
 slice-reshare-prefix-repair-with c =
     let g = c .before .before .before .before .before .before .before .before .before .before .before .before .before .before .before .before .before .before .before .before .before .before .args in
-    ready (g .depth) (c .before .before .before .before .before .before .before .before .before .sizes-fit .result) (g .table .now) (sym (c .enum-told .given .1) ∙ c .before .before .before .before .before .before .admit .ensures .0) _ _ _ _ (c .before .before .before .before .before .before .before .before .before .before .before .before .before .before .before .before .before .before .before .before .before .before .pre .0) (c .before .before .before .before .before .before .admit .ensures .1) (c .before .before .before .before .before .before .admit .ensures .2) .words-room
+    ready-by (g .depth) (c .before .before .before .before .before .before .before .before .before .sizes-fit .result) (g .root-record .now) (g .table .now) (sym (c .enum-told .given .1) ∙ c .before .before .before .before .before .before .admit-by .ensures .0) _ _ _ _ (c .before .before .before .before .before .before .before .before .before .before .before .before .before .before .before .before .before .before .before .before .before .before .pre .0) (c .before .before .before .before .before .before .admit-by .ensures .1) (c .before .before .before .before .before .before .admit-by .ensures .2) .words-room
 
 slice-aggregate-repair-with : tie.Need-slice-aggregate-repair-with
 slice-aggregate-repair-with c =
     let g = c .before .before .before .before .before .before .before .before .before .before .before .before .before .before .before .before .before .before .before .before .before .before .before .args in
-    ready (g .depth) (c .before .before .before .before .before .before .before .before .before .before .sizes-fit .result) (g .table .now) (sym (c .before .enum-told .given .1) ∙ c .before .before .before .before .before .before .before .admit .ensures .0) _ _ _ _ (c .before .before .before .before .before .before .before .before .before .before .before .before .before .before .before .before .before .before .before .before .before .before .before .pre .0) (c .before .before .before .before .before .before .before .admit .ensures .1) (c .before .before .before .before .before .before .before .admit .ensures .2) .words-count
+    ready-by (g .depth) (c .before .before .before .before .before .before .before .before .before .before .sizes-fit .result) (g .root-record .now) (g .table .now) (sym (c .before .enum-told .given .1) ∙ c .before .before .before .before .before .before .before .admit-by .ensures .0) _ _ _ _ (c .before .before .before .before .before .before .before .before .before .before .before .before .before .before .before .before .before .before .before .before .before .before .before .pre .0) (c .before .before .before .before .before .before .before .admit-by .ensures .1) (c .before .before .before .before .before .before .before .admit-by .ensures .2) .words-count
+
+sub-repair-with : tie.Need-sub-repair-with
+sub-repair-with c =
+    let g = c .before .before .before .before .before .before .before .before .before .before .before .before .before .before .before .before .before .before .before .before .before .before .before .before .args in
+    let a = admission-by (g .depth) (c .before .before .before .before .before .before .before .before .before .before .before .sizes-fit .result) (g .root-record .now) (g .table .now) (sym (sym (c .before .before .enum-told .given .1) ∙ c .before .before .before .before .before .before .before .before .admit-by .ensures .0)) in
+    let (r, t, m, o) = sizes (g .depth) (length (g .root-record .now)) (length (g .tree .now)) (length (g .marks .now)) (length (g .out .now)) (and-yes (depthFits (g .depth)) (repairSized (g .depth) (length (g .root-record .now)) (length (g .tree .now)) (length (g .marks .now)) (length (g .out .now))) (sym (c .before .before .before .before .before .before .before .before .before .before .before .sizes-fit .ensures) ∙ a .lengths) .1) in
+    omega (arith, r)
+
+part-repair-with-start : tie.Need-part-repair-with-start
+part-repair-with-start c =
+    let g = c .before .before .before .before .before .before .before .before .before .before .before .before .before .before .before .before .before .before .before .before .before .before .before .before .args in
+    let a = admission-by (g .depth) (c .before .before .before .before .before .before .before .before .before .before .before .sizes-fit .result) (g .root-record .now) (g .table .now) (sym (sym (c .before .before .enum-told .given .1) ∙ c .before .before .before .before .before .before .before .before .admit-by .ensures .0)) in
+    let (r, t, m, o) = sizes (g .depth) (length (g .root-record .now)) (length (g .tree .now)) (length (g .marks .now)) (length (g .out .now)) (and-yes (depthFits (g .depth)) (repairSized (g .depth) (length (g .root-record .now)) (length (g .tree .now)) (length (g .marks .now)) (length (g .out .now))) (sym (c .before .before .before .before .before .before .before .before .before .before .before .sizes-fit .ensures) ∙ a .lengths) .1) in
+    omega (arith, r)
+
+part-repair-with-end : tie.Need-part-repair-with-end
+part-repair-with-end c = search needs
+
+size-requires : tie.Need-size-requires
+size-requires c κs =
+    let g = c .before .before .before .before .before .before .before .before .before .before .before .before .before .before .before .before .before .before .before .before .before .before .before .before .before .args in
+    let a = admission-by (g .depth) (c .before .before .before .before .before .before .before .before .before .before .before .before .sizes-fit .result) (g .root-record .now) (g .table .now) (sym (sym (c .before .before .before .enum-told .given .1) ∙ c .before .before .before .before .before .before .before .before .before .admit-by .ensures .0)) in
+    let (r, t, m, o) = sizes (g .depth) (length (g .root-record .now)) (length (g .tree .now)) (length (g .marks .now)) (length (g .out .now)) (and-yes (depthFits (g .depth)) (repairSized (g .depth) (length (g .root-record .now)) (length (g .tree .now)) (length (g .marks .now)) (length (g .out .now))) (sym (c .before .before .before .before .before .before .before .before .before .before .before .before .sizes-fit .ensures) ∙ a .lengths) .1) in
+    r
 
 repair-with-requires : tie.Need-repair-with-requires
 repair-with-requires c κs =
-    let g = c .before .before .before .before .before .before .before .before .before .before .before .before .before .before .before .before .before .before .before .before .before .before .before .before .before .before .before .before .before .before .before .before .args in
-    let k = ready (g .depth) (c .before .before .before .before .before .before .before .before .before .before .before .before .before .before .before .before .before .before .before .sizes-fit .result) (g .table .now) (sym (c .before .before .before .before .before .before .before .before .before .before .enum-told .given .1) ∙ c .before .before .before .before .before .before .before .before .before .before .before .before .before .before .before .before .admit .ensures .0) _ _ _ _ (c .before .before .before .before .before .before .before .before .before .before .before .before .before .before .before .before .before .before .before .before .before .before .before .before .before .before .before .before .before .before .before .before .pre .0) (c .before .before .before .before .before .before .before .before .before .before .before .before .before .before .before .before .admit .ensures .1) (c .before .before .before .before .before .before .before .before .before .before .before .before .before .before .before .before .admit .ensures .2) in
-    let (r, t, m, o) = sizes (g .depth) _ _ _ _ (and-yes (depthFits (g .depth)) (repairSized (g .depth) (length (g .root .now)) (length (g .tree .now)) (length (g .marks .now)) (length (g .out .now))) (sym (c .before .before .before .before .before .before .before .before .before .before .before .before .before .before .before .before .before .before .before .sizes-fit .ensures) ∙ k .admits .lengths) .1) in
-    (record { indexed = k .indexed; root-full = r; tree-full = t; marks-full = m; out-full = o }, c .before .before .before .before .before .before .before .before .before .before .before .before .before .before .before .before .before .before .before .before .before .before .before .before .before .before .before .before .before .before .before .before .pre .1 (k .admits .taken .deep))
+    let g = c .before .before .before .before .before .before .before .before .before .before .before .before .before .before .before .before .before .before .before .before .before .before .before .before .before .before .before .before .before .before .before .before .before .before .args in
+    let k = ready-by (g .depth) (c .before .before .before .before .before .before .before .before .before .before .before .before .before .before .before .before .before .before .before .before .before .sizes-fit .result) (g .root-record .now) (g .table .now) (sym (c .before .before .before .before .before .before .before .before .before .before .before .before .enum-told .given .1) ∙ c .before .before .before .before .before .before .before .before .before .before .before .before .before .before .before .before .before .before .admit-by .ensures .0) _ _ _ _ (c .before .before .before .before .before .before .before .before .before .before .before .before .before .before .before .before .before .before .before .before .before .before .before .before .before .before .before .before .before .before .before .before .before .before .pre .0) (c .before .before .before .before .before .before .before .before .before .before .before .before .before .before .before .before .before .before .admit-by .ensures .1) (c .before .before .before .before .before .before .before .before .before .before .before .before .before .before .before .before .before .before .admit-by .ensures .2) in
+    let a = admission-by (g .depth) (c .before .before .before .before .before .before .before .before .before .before .before .before .before .before .before .before .before .before .before .before .before .sizes-fit .result) (g .root-record .now) (g .table .now) (sym (sym (c .before .before .before .before .before .before .before .before .before .before .before .before .enum-told .given .1) ∙ c .before .before .before .before .before .before .before .before .before .before .before .before .before .before .before .before .before .before .admit-by .ensures .0)) in
+    let (r, t, m, o) = sizes (g .depth) (length (g .root-record .now)) (length (g .tree .now)) (length (g .marks .now)) (length (g .out .now)) (and-yes (depthFits (g .depth)) (repairSized (g .depth) (length (g .root-record .now)) (length (g .tree .now)) (length (g .marks .now)) (length (g .out .now))) (sym (c .before .before .before .before .before .before .before .before .before .before .before .before .before .before .before .before .before .before .before .before .before .sizes-fit .ensures) ∙ a .lengths) .1) in
+    (record { indexed = k .indexed; root-full = ap length (root-part (g .root-record .now)) ∙ root-length (g .root-record .now) r; tree-full = t; marks-full = m; out-full = o }, omega (arith, c .before .before .before .before .before .before .before .before .size .ensures, head-parts (g .depth) (g .root-record .now) (a .head) .3), c .before .before .before .before .before .before .before .before .before .before .before .before .before .before .before .before .before .before .before .before .before .before .before .before .before .before .before .before .before .before .before .before .before .before .pre .1 (a .taken .deep))
 
 same-length-3 : tie.Need-same-length-3
 same-length-3 c = search needs
@@ -82,16 +111,16 @@ same-length-12 c = search needs
 
 returns-2 : tie.Need-returns-2
 returns-2 c =
-    let g = c .before .before .before .before .before .before .before .before .before .before .before .before .before .before .before .before .before .before .before .before .before .before .before .before .before .before .before .before .before .before .before .before .before .before .before .before .before .before .before .before .before .before .before .before .before .before .before .before .before .args in
-    let k = ready (g .depth) (c .before .before .before .before .before .before .before .before .before .before .before .before .before .before .before .before .before .before .before .before .before .before .before .before .before .before .before .before .before .before .before .before .before .before .before .before .sizes-fit .result) (g .table .now) (sym (c .before .before .before .before .before .before .before .before .before .before .before .before .before .before .before .before .before .before .before .before .before .before .before .before .before .before .before .enum-told .given .1) ∙ c .before .before .before .before .before .before .before .before .before .before .before .before .before .before .before .before .before .before .before .before .before .before .before .before .before .before .before .before .before .before .before .before .before .admit .ensures .0) _ _ _ _ (c .before .before .before .before .before .before .before .before .before .before .before .before .before .before .before .before .before .before .before .before .before .before .before .before .before .before .before .before .before .before .before .before .before .before .before .before .before .before .before .before .before .before .before .before .before .before .before .before .before .pre .0) (c .before .before .before .before .before .before .before .before .before .before .before .before .before .before .before .before .before .before .before .before .before .before .before .before .before .before .before .before .before .before .before .before .before .admit .ensures .1) (c .before .before .before .before .before .before .before .before .before .before .before .before .before .before .before .before .before .before .before .before .before .before .before .before .before .before .before .before .before .before .before .before .before .admit .ensures .2) in
-    went-on (g .depth) (g .root .now) (g .table .now) (g .tree .now) (g .marks .now) (g .out .now) _ _ (k .words-there) (c .before .before .before .before .before .before .before .before .before .before .before .before .before .before .before .before .repair-with .ensures) (sym (c .before .before .before .before .before .before .before .before .before .before .before .before .before .before .before .before .before .before .before .before .before .before .before .before .before .before .before .enum-told .given .1) ∙ (c .before .before .before .before .before .before .before .before .before .before .before .before .before .before .before .before .before .before .before .before .before .before .before .before .before .before .before .before .before .before .before .before .before .admit .ensures .0 ∙ admitted-sized (g .depth) _ (repairSized (g .depth) (length (g .root .now)) (length (g .tree .now)) (length (g .marks .now)) (length (g .out .now))) (g .table .now) (c .before .before .before .before .before .before .before .before .before .before .before .before .before .before .before .before .before .before .before .before .before .before .before .before .before .before .before .before .before .before .before .before .before .before .before .before .sizes-fit .ensures)))
+    let g = c .before .before .before .before .before .before .before .before .before .before .before .before .before .before .before .before .before .before .before .before .before .before .before .before .before .before .before .before .before .before .before .before .before .before .before .before .before .before .before .before .before .before .before .before .before .before .before .before .before .before .before .args in
+    let k = ready-by (g .depth) (c .before .before .before .before .before .before .before .before .before .before .before .before .before .before .before .before .before .before .before .before .before .before .before .before .before .before .before .before .before .before .before .before .before .before .before .before .before .before .sizes-fit .result) (g .root-record .now) (g .table .now) (sym (c .before .before .before .before .before .before .before .before .before .before .before .before .before .before .before .before .before .before .before .before .before .before .before .before .before .before .before .before .before .enum-told .given .1) ∙ c .before .before .before .before .before .before .before .before .before .before .before .before .before .before .before .before .before .before .before .before .before .before .before .before .before .before .before .before .before .before .before .before .before .before .before .admit-by .ensures .0) _ _ _ _ (c .before .before .before .before .before .before .before .before .before .before .before .before .before .before .before .before .before .before .before .before .before .before .before .before .before .before .before .before .before .before .before .before .before .before .before .before .before .before .before .before .before .before .before .before .before .before .before .before .before .before .before .pre .0) (c .before .before .before .before .before .before .before .before .before .before .before .before .before .before .before .before .before .before .before .before .before .before .before .before .before .before .before .before .before .before .before .before .before .before .before .admit-by .ensures .1) (c .before .before .before .before .before .before .before .before .before .before .before .before .before .before .before .before .before .before .before .before .before .before .before .before .before .before .before .before .before .before .before .before .before .before .before .admit-by .ensures .2) in
+    went-on (g .depth) (g .root-record .now) (g .table .now) (g .tree .now) (g .marks .now) (g .out .now) _ _ _ _ (root-part (g .root-record .now)) (c .before .before .before .before .before .before .before .before .before .before .before .before .before .before .before .before .before .before .before .before .before .before .before .before .before .size .ensures) (k .words-there) (c .before .before .before .before .before .before .before .before .before .before .before .before .before .before .before .before .repair-with .ensures) (sym (c .before .before .before .before .before .before .before .before .before .before .before .before .before .before .before .before .before .before .before .before .before .before .before .before .before .before .before .before .before .enum-told .given .1) ∙ (c .before .before .before .before .before .before .before .before .before .before .before .before .before .before .before .before .before .before .before .before .before .before .before .before .before .before .before .before .before .before .before .before .before .before .before .admit-by .ensures .0 ∙ admitted-by-sized (g .depth) _ (repairSized (g .depth) (length (g .root-record .now)) (length (g .tree .now)) (length (g .marks .now)) (length (g .out .now))) (g .root-record .now) (g .table .now) (c .before .before .before .before .before .before .before .before .before .before .before .before .before .before .before .before .before .before .before .before .before .before .before .before .before .before .before .before .before .before .before .before .before .before .before .before .before .before .sizes-fit .ensures)))
 
 pub repair-in-spec : {M : Type 1} → statement M
 repair-in-spec =
     tie.close
     (tie.spec
     sizes-fit-requires
-    admit-requires
+    admit-by-requires
     enum-known-s
     same-length
     same-length-2
@@ -99,6 +128,10 @@ repair-in-spec =
     enum-told
     slice-reshare-prefix-repair-with
     slice-aggregate-repair-with
+    sub-repair-with
+    part-repair-with-start
+    part-repair-with-end
+    size-requires
     repair-with-requires
     same-length-3
     same-length-4

@@ -2,6 +2,7 @@
 use mathlib.Core.Path.{sym, _∙_}
 use borrow.Author.Needs.{needs}
 use Rattle.parity_table.specs.Parse.{tableOf}
+use Rattle.parity_table.proofs.Accepts.{accepted-depth}
 use Rattle.fault_calls.proofs.RepairingLaws.{marks-refuse, repairs}
 use Rattle.fault_calls.proofs.repairing.repair_with.Statement.{statement}
 use Rattle.fault_calls.proofs.repairing.repair_with.Tie as tie
@@ -18,13 +19,19 @@ same-length c = search needs
 returns : tie.Need-returns
 returns c =
     let g = c .before .before .before .before .before .before .before .before .before .before .before .before .before .before .before .before .args in
-    marks-refuse (g .root .now) (tableOf (g .words .now)) (g .tree .now) (g .marks .now) (g .out .now) _ (sym (c .before .s .given .1) ∙ c .before .before .before .test-marks .ensures)
+    marks-refuse (g .root .now) (tableOf (g .words .now)) (g .depth) (g .n) (g .tree .now) (g .marks .now) (g .out .now) _ (sym (c .before .s .given .1) ∙ c .before .before .before .test-marks .ensures)
 
 enum-told : tie.Need-enum-told
 enum-told c = search needs
 
 repair-requires : tie.Need-repair-requires
-repair-requires c κs = c .before .before .before .before .before .before .before .before .before .before .before .before .before .before .before .before .before .before .before .before .before .before .before .pre
+repair-requires c κs = (c .before .before .before .before .before .before .before .before .before .before .before .before .before .before .before .before .before .before .before .before .before .before .before .pre .0, c .before .before .before .before .before .before .before .before .before .before .before .before .before .before .before .before .before .before .before .before .before .before .before .pre .2)
+
+ended-requires : tie.Need-ended-requires
+ended-requires c κs =
+    let g = c .before .before .before .before .before .before .before .before .before .before .before .before .before .before .before .before .before .before .before .before .before .before .before .before .before .before .before .before .before .before .before .before .before .before .before .before .before .before .before .before .before .args in
+    let k = accepted-depth (g .depth) (g .words .now) (c .before .before .before .before .before .before .before .before .before .before .before .before .before .before .before .before .before .before .before .before .before .before .before .before .before .before .before .before .before .before .before .before .before .before .before .before .before .before .before .before .before .pre .0 .indexed .accepted) in
+    (k .0, k .1, search (needs, c .before .before .before .before .before .before .before .before .before .before .before .before .before .before .before .before .before .before .before .before .before .before .before .before .before .before .before .before .before .before .before .before .before .before .before .before .before .before .before .before .before .pre .0 .tree-full), c .before .before .before .before .before .before .before .before .before .before .before .before .before .before .before .before .before .before .before .before .before .before .before .before .before .before .before .before .before .before .before .before .before .before .before .before .before .before .before .before .before .pre .1)
 
 same-length-2 : tie.Need-same-length-2
 same-length-2 c = search needs
@@ -52,8 +59,8 @@ same-length-9 c = search needs
 
 returns-2 : tie.Need-returns-2
 returns-2 c =
-    let g = c .before .before .before .before .before .before .before .before .before .before .before .before .before .before .before .before .before .before .before .before .before .before .before .before .before .before .before .before .before .before .before .before .before .before .before .before .before .before .before .before .args in
-    repairs (g .root .now) (tableOf (g .words .now)) (g .tree .now) (g .marks .now) (g .out .now) _ _ _ _ _ (c .before .before .before .before .before .before .before .before .before .before .before .before .before .before .before .before .repair .ensures .0) (sym (c .before .before .before .before .before .before .before .before .before .before .before .before .before .before .before .before .before .before .before .before .before .before .before .before .before .enum-told .given .1) ∙ c .before .before .before .before .before .before .before .before .before .before .before .before .before .before .before .before .before .before .before .before .before .before .before .before .before .before .before .test-marks .ensures)
+    let g = c .before .before .before .before .before .before .before .before .before .before .before .before .before .before .before .before .before .before .before .before .before .before .before .before .before .before .before .before .before .before .before .before .before .before .before .before .before .before .before .before .before .before .args in
+    repairs (g .root .now) (tableOf (g .words .now)) (g .depth) (g .n) (g .tree .now) (g .marks .now) (g .out .now) _ _ _ _ _ _ (c .before .before .before .before .before .before .before .before .before .before .before .before .before .before .before .before .before .before .repair .ensures .0) (sym (c .before .before .before .before .before .before .before .before .before .before .before .before .before .before .before .before .before .before .before .before .before .before .before .before .before .before .before .enum-told .given .1) ∙ c .before .before .before .before .before .before .before .before .before .before .before .before .before .before .before .before .before .before .before .before .before .before .before .before .before .before .before .before .before .test-marks .ensures) (c .ended .ensures)
 
 pub repair-with-spec : {M : Type 1} → statement M
 repair-with-spec =
@@ -65,6 +72,7 @@ repair-with-spec =
     returns
     enum-told
     repair-requires
+    ended-requires
     same-length-2
     same-length-3
     same-length-4

@@ -1,4 +1,4 @@
--- `sizes_fit` meets its contract: the depth, the root, then the sample.
+-- `sizes_fit` meets its contract: the depth, the record, then the sample.
 use mathlib.Core.Path.{sym, ap, ap₂, _∙_}
 use mathlib.Core.Bool.{Bool, _&&_}
 use native.Mathlib.Omega.{arith}
@@ -17,12 +17,12 @@ depth-fits-requires c κs = search needs
 returns : tie.Need-returns
 returns c =
     let g = c .before .before .args in
-    sym (ap (λ (b : Bool). b && checkSized (g .depth) (g .root) (g .sample)) (sym (c .before .depth-fits .ensures) ∙ not-yes _ (c .if1 .taken)))
+    sym (ap (λ (b : Bool). b && checkSized (g .depth) (g .record-len) (g .sample)) (sym (c .before .depth-fits .ensures) ∙ not-yes _ (c .if1 .taken)))
 
 returns-2 : tie.Need-returns-2
 returns-2 c =
     let g = c .before .before .before .args in
-    sym (ap₂ (λ (a b : Bool). a && (b && sampleSized (g .depth) (g .sample))) (sym (c .before .before .depth-fits .ensures) ∙ not-no _ (c .before .if1 .left)) (ne-eqb (g .root) 512 (c .if2 .taken)))
+    sym (ap₂ (λ (a b : Bool). a && (b && sampleSized (g .depth) (g .sample))) (sym (c .before .before .depth-fits .ensures) ∙ not-no _ (c .before .if1 .left)) (ne-eqb (g .record-len) 556 (c .if2 .taken)))
 
 mul-result : tie.Need-mul-result
 mul-result c =
@@ -39,7 +39,7 @@ mul-result-2 c =
 returns-3 : tie.Need-returns-3
 returns-3 c =
     let g = c .before .before .before .args in
-    sym (ap₂ (λ (a b : Bool). a && (b && sampleSized (g .depth) (g .sample))) (sym (c .before .before .depth-fits .ensures) ∙ not-no _ (c .before .if1 .left)) (eq-eqb (g .root) 512 (c .if2 .left)))
+    sym (ap₂ (λ (a b : Bool). a && (b && sampleSized (g .depth) (g .sample))) (sym (c .before .before .depth-fits .ensures) ∙ not-no _ (c .before .if1 .left)) (eq-eqb (g .record-len) 556 (c .if2 .left)))
 
 pub sizes-fit-spec : {M : Type 1} → statement M
 sizes-fit-spec =
