@@ -33,7 +33,7 @@ hashAnswer hashed.Length = Stopped Length
 
 -- what a call leaves, its answer as that number
 abbrev pub treeInC : TreeLeft Answer → TreeLeft ℕ
-treeInC w = writing.leaves (callResult (w .answer)) (w .tree) (w .marks) (w .root)
+treeInC w = writing.leaves (callResult (w .answer)) (w .tree) (w .marks) (w .root-record)
 
 abbrev pub blockInC : BlockLeft Answer → BlockLeft ℕ
 blockInC w = reading.leaves (callResult (w .answer)) (w .block)

@@ -6,6 +6,7 @@ use calls::numbers_of;
 use fault_calls::Ending;
 use fault_calls::Outcome;
 use fault_calls::ending_of;
+use fault_calls::misfilled;
 use sha256::Answer as Hashed;
 ghost use mathlib.Core.Path.{_≡_};
 ghost use mathlib.Core.Bool.{true};
@@ -67,6 +68,7 @@ fn repair_result(o: Outcome) -> u64
 {
     match o {
         Outcome::Ended(r) => end_result(ending_of(r)),
+        Outcome::Misfilled(stored) => end_result(misfilled(stored)),
         Outcome::Stopped(s) => call_result(Answer::Stopped(s)),
     }
 }
@@ -112,7 +114,7 @@ pub extern "C" fn cmt_house_table(depth: u64, table: &mut [u8]) -> u64
     call_result(calls::answer_of(house_table::write_bytes(table, depth as usize)))
 }
 
-// Writes the tree of a block, its marks and its root. 1: the depth; 2: a length; 3: the table's first wrong word; 10: its first
+// Writes the tree of a block, its marks and its record. 1: the depth; 2: a length; 3: the table's first wrong word; 10: its first
 // uncovered layer and symbol.
 #[no_mangle]
 pub extern "C" fn cmt_tree_write(
@@ -121,22 +123,30 @@ pub extern "C" fn cmt_tree_write(
     block: &[u8],
     tree: &mut [u8],
     marks: &mut [u8],
-    root: &mut [u8],
+    root_record: &mut [u8],
 ) -> u64
     ensures { λ r.
-        ⌜ writing.leaves r (now (tree .exit)) (now (marks .exit)) (now (root .exit))
-        ≡ treeInC (treeWritten depth (now (table .entry)) (now (block .entry)) (now (tree .entry)) (now (marks .entry)) (now (root .entry))) ⌝ }
+        ⌜ writing.leaves r (now (tree .exit)) (now (marks .exit)) (now (root_record .exit))
+        ≡ treeInC (treeWritten depth (now (table .entry)) (now (block .entry)) (now (tree .entry)) (now (marks .entry)) (now (root_record .entry))) ⌝ }
 {
-    call_result(volume_calls::write_tree(depth as usize, table, block, tree, marks, root))
+    call_result(volume_calls::write_tree(depth as usize, table, block, tree, marks, root_record))
 }
 
-// Copies the block out of a tree. 1: the depth; 2: a length; 4: the lowest bad mark; 9: the first absent data symbol of the base.
+// Copies the block out of a tree, as many bytes as the record says; the rest of the buffer stays. 1: the depth; 2: a length; 11: the record; 4: the
+// lowest bad mark; 9: the first absent data symbol of the base.
 #[no_mangle]
-pub extern "C" fn cmt_block_read(depth: u64, tree: &[u8], marks: &[u8], block: &mut [u8]) -> u64
+pub extern "C" fn cmt_block_read(
+    depth: u64,
+    root_record: &[u8],
+    tree: &[u8],
+    marks: &[u8],
+    block: &mut [u8],
+) -> u64
     ensures { λ r.
-        ⌜ reading.leaves r (now (block .exit)) ≡ blockInC (blockRead depth (now (tree .entry)) (now (marks .entry)) (now (block .entry))) ⌝ }
+        ⌜ reading.leaves r (now (block .exit))
+        ≡ blockInC (blockRead depth (now (root_record .entry)) (now (tree .entry)) (now (marks .entry)) (now (block .entry))) ⌝ }
 {
-    call_result(volume_calls::read_block(depth as usize, tree, marks, block))
+    call_result(volume_calls::read_block(depth as usize, root_record, tree, marks, block))
 }
 
 // Takes a sample of a base symbol. 1: the depth; 2: a length; 4: the lowest bad mark; 5: the number; 9: the first absent symbol of the sample.
@@ -155,29 +165,35 @@ pub extern "C" fn cmt_sample_take(
     call_result(sample_calls::take(depth as usize, number as usize, tree, marks, sample))
 }
 
-// Checks a sample of a base symbol against the root. 1: the depth; 2: a length; 5: the number; 7: the layer at which it breaks.
+// Checks a sample of a base symbol against the record. 1: the depth; 2: a length; 11: the record; 5: the number; 7: the layer at which it breaks.
 #[no_mangle]
-pub extern "C" fn cmt_sample_check(depth: u64, number: u64, root: &[u8], sample: &[u8]) -> u64
-    ensures { λ r. ⌜ r ≡ callResult (sampleChecked depth number (now (root .entry)) (now (sample .entry))) ⌝ }
+pub extern "C" fn cmt_sample_check(
+    depth: u64,
+    number: u64,
+    root_record: &[u8],
+    sample: &[u8],
+) -> u64
+    ensures { λ r. ⌜ r ≡ callResult (sampleChecked depth number (now (root_record .entry)) (now (sample .entry))) ⌝ }
 {
-    call_result(sample_calls::check(depth as usize, number as usize, root, sample))
+    call_result(sample_calls::check(depth as usize, number as usize, root_record, sample))
 }
 
-// Checks a fault proof against a root and a table. 0: a fault is shown; 1: the depth; 2: a length; 3: the table's first wrong word;
-// 10: its first uncovered layer and symbol; 6: the head; 7: the layer and the position at which it breaks; 8: the withheld hash fits.
+// Checks a fault proof against a record and a table. 0: a fault is shown; 1: the depth; 2: a length; 11: the record; 3: the table's first wrong
+// word; 10: its first uncovered layer and symbol; 12: it is another table than the record's; 6: the head; 7: the layer and the position at which it breaks; 8: the withheld hash fits.
 #[no_mangle]
-pub extern "C" fn cmt_proof_check(depth: u64, root: &[u8], table: &[u8], proof: &[u8]) -> u64
-    ensures { λ r. ⌜ r ≡ callResult (proofChecked depth (now (root .entry)) (now (table .entry)) (now (proof .entry))) ⌝ }
+pub extern "C" fn cmt_proof_check(depth: u64, root_record: &[u8], table: &[u8], proof: &[u8]) -> u64
+    ensures { λ r. ⌜ r ≡ callResult (proofChecked depth (now (root_record .entry)) (now (table .entry)) (now (proof .entry))) ⌝ }
 {
-    call_result(fault_calls::check(depth as usize, root, table, proof))
+    call_result(fault_calls::check(depth as usize, root_record, table, proof))
 }
 
-// Repairs a tree by its root and a table; the output is for a fault proof or twins. 1: the depth; 2: a length; 3: the table's first wrong word;
-// 10: its first uncovered layer and symbol; 4: the lowest bad mark. A repair that ended: 0, its end, the symbols stored, and the proof's length or the incomplete layer.
+// Repairs a tree by its record and a table; the output is for a fault proof or twins. 1: the depth; 2: a length; 11: the record; 3: the table's
+// first wrong word; 10: its first uncovered layer and symbol; 12: it is another table than the record's; 4: the lowest bad mark. A repair that
+// ended: 0, its end, the symbols stored, and the proof's length or the incomplete layer.
 #[no_mangle]
 pub extern "C" fn cmt_repair(
     depth: u64,
-    root: &[u8],
+    root_record: &[u8],
     table: &[u8],
     tree: &mut [u8],
     marks: &mut [u8],
@@ -185,7 +201,7 @@ pub extern "C" fn cmt_repair(
 ) -> u64
     ensures { λ r.
         ⌜ repairing.leaves r (now (tree .exit)) (now (marks .exit)) (now (output .exit))
-        ≡ repairInC (repaired depth (now (root .entry)) (now (table .entry)) (now (tree .entry)) (now (marks .entry)) (now (output .entry))) ⌝ }
+        ≡ repairInC (repaired depth (now (root_record .entry)) (now (table .entry)) (now (tree .entry)) (now (marks .entry)) (now (output .entry))) ⌝ }
 {
-    repair_result(fault_calls::repair_tree(depth as usize, root, table, tree, marks, output))
+    repair_result(fault_calls::repair_tree(depth as usize, root_record, table, tree, marks, output))
 }

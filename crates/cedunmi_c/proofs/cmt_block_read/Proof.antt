@@ -14,8 +14,8 @@ read-block-requires c κs = search needs
 
 call-result-requires : tie.Need-call-result-requires
 call-result-requires c κs =
-    let g = c .before .before .before .before .before .before .before .args in
-    subst Small (sym (ap (λ (w : BlockLeft Answer). w .answer) (c .before .before .read-block .ensures))) (small (g .depth) (g .tree .now) (g .marks .now) (g .block .now))
+    let g = c .before .before .before .before .before .before .before .before .args in
+    subst Small (sym (ap (λ (w : BlockLeft Answer). w .answer) (c .before .before .read-block .ensures))) (small (g .depth) (g .root-record .now) (g .tree .now) (g .marks .now) (g .block .now))
 
 same-length : tie.Need-same-length
 same-length c = search needs

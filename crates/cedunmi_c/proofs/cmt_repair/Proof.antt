@@ -13,7 +13,7 @@ repair-tree-requires c κs = search needs
 repair-result-requires : tie.Need-repair-result-requires
 repair-result-requires c κs =
     let g = c .before .before .before .before .before .before .before .before .before .before .before .before .before .before .before .args in
-    subst Fits (sym (ap (λ (w : RepairLeft Result). w .answer) (c .before .before .before .before .before .before .repair-tree .ensures))) (repair-fits (g .depth) (g .root .now) (g .table .now) (g .tree .now) (g .marks .now) (g .output .now))
+    subst Fits (sym (ap (λ (w : RepairLeft Result). w .answer) (c .before .before .before .before .before .before .repair-tree .ensures))) (repair-fits (g .depth) (g .root-record .now) (g .table .now) (g .tree .now) (g .marks .now) (g .output .now))
 
 same-length : tie.Need-same-length
 same-length c = search needs

@@ -15,7 +15,7 @@ write-tree-requires c κs = search needs
 call-result-requires : tie.Need-call-result-requires
 call-result-requires c κs =
     let g = c .before .before .before .before .before .before .before .before .before .before .before .before .before .before .before .args in
-    subst Small (sym (ap (λ (w : TreeLeft Answer). w .answer) (c .before .before .before .before .before .before .write-tree .ensures))) (small (g .depth) (g .table .now) (g .block .now) (g .tree .now) (g .marks .now) (g .root .now))
+    subst Small (sym (ap (λ (w : TreeLeft Answer). w .answer) (c .before .before .before .before .before .before .write-tree .ensures))) (small (g .depth) (g .table .now) (g .block .now) (g .tree .now) (g .marks .now) (g .root-record .now))
 
 same-length : tie.Need-same-length
 same-length c = search needs
