@@ -20,6 +20,7 @@ use Rattle.model.specs.Shape.{tree, place, places}
 use Rattle.model.specs.Symbols.{symbolIn, symAt}
 use Rattle.model.specs.Fault.{proofLength, proofLayer, proofEquation, proofMembers}
 use Rattle.model.proofs.Sound.{accepted-is}
+use Rattle.root_record.specs.Records.{rootIn}
 use Rattle.calls.proofs.AdmissionLaws.{table-laws-of}
 use Rattle.calls.proofs.Taken.{house-taken}
 use Rattle.fault_calls.proofs.CheckingLaws.{passed}
@@ -32,7 +33,7 @@ use Rattle.guarantees.proofs.Answers.{never, done-never}
 use Rattle.guarantees.proofs.Layouts.{symbol-at}
 use Rattle.guarantees.proofs.Demand1.{demand-1}
 use Rattle.guarantees.proofs.Demand2.{coding, written-when}
-use Rattle.guarantees.proofs.RepairCases.{listed, coded-is, two-turns, two-absent, eight-absent, all-absent}
+use Rattle.guarantees.proofs.RepairCases.{listed, coded-is, two-turns, two-absent, eight-absent, all-absent, two-misfilled}
 use Rattle.guarantees.proofs.LongestProof.{longest-accepted}
 
 -- ---- case 8
@@ -49,18 +50,18 @@ at-test {k} {number} {values} {right} {later} j l =
 
 depths : Depths 1 9
 depths d =
-    let r = demand-1 .refusals in
+    let k = demand-1 .refusals in
     record {
-      table-words = λ ws. at-test (r .table-words d ws) (never (λ e. omega arith) (never (λ e. omega arith) (done-never (λ e. omega arith))));
-      table-bytes = λ b. at-test (r .table-bytes d b) (never (λ e. omega arith) (never (λ e. omega arith) (never (λ e. omega arith) (done-never (λ e. omega arith)))));
-      house-words = λ n. at-test (r .house-words d n) (never (λ e. omega arith) (done-never (λ e. omega arith)));
-      house-bytes = λ n. at-test (r .house-bytes d n) (never (λ e. omega arith) (done-never (λ e. omega arith)));
-      tree-writer = λ table b t m root. at-test (r .tree-writer d table b t m root) (never (λ e. omega arith) (never (λ e. omega arith) (never (λ e. omega arith) (done-never (λ e. omega arith)))));
-      block-reader = λ t m b. at-test (r .block-reader d t m b) (never (λ e. omega arith) (never (λ e. omega arith) (never (λ e. omega arith) (done-never (λ e. omega arith)))));
-      sampler = λ i t m s. at-test (r .sampler d i t m s) (never (λ e. omega arith) (never (λ e. omega arith) (never (λ e. omega arith) (never (λ e. omega arith) (done-never (λ e. omega arith))))));
-      sample-checker = λ i root s. at-test (r .sample-checker d i root s) (never (λ e. omega arith) (never (λ e. omega arith) (never (λ e. omega arith) (done-never (λ e. omega arith)))));
-      proof-checker = λ root table b. at-test (demand-1 .proof-checker d root table b) (never (λ e. omega arith) (never (λ e. omega arith) (never (λ e. omega arith) (never (λ e. omega arith) (never (λ e. omega arith) (never (λ e. omega arith) (never (λ e. omega arith) (done-never (λ e. omega arith)))))))));
-      repairer = λ root table t m o. at-test (r .repairer d root table t m o) (never (λ e. omega arith) (never (λ e. omega arith) (never (λ e. omega arith) (never (λ e. omega arith) (done-never (λ e. omega arith))))));
+      table-words = λ ws. at-test (k .table-words d ws) (never (λ e. omega arith) (never (λ e. omega arith) (done-never (λ e. omega arith))));
+      table-bytes = λ b. at-test (k .table-bytes d b) (never (λ e. omega arith) (never (λ e. omega arith) (never (λ e. omega arith) (done-never (λ e. omega arith)))));
+      house-words = λ n. at-test (k .house-words d n) (never (λ e. omega arith) (done-never (λ e. omega arith)));
+      house-bytes = λ n. at-test (k .house-bytes d n) (never (λ e. omega arith) (done-never (λ e. omega arith)));
+      tree-writer = λ table b t m r. at-test (k .tree-writer d table b t m r) (never (λ e. omega arith) (never (λ e. omega arith) (never (λ e. omega arith) (done-never (λ e. omega arith)))));
+      block-reader = λ r t m b. at-test (k .block-reader d r t m b) (never (λ e. omega arith) (never (λ e. omega arith) (never (λ e. omega arith) (never (λ e. omega arith) (done-never (λ e. omega arith))))));
+      sampler = λ i t m s. at-test (k .sampler d i t m s) (never (λ e. omega arith) (never (λ e. omega arith) (never (λ e. omega arith) (never (λ e. omega arith) (done-never (λ e. omega arith))))));
+      sample-checker = λ i r s. at-test (k .sample-checker d i r s) (never (λ e. omega arith) (never (λ e. omega arith) (never (λ e. omega arith) (never (λ e. omega arith) (done-never (λ e. omega arith))))));
+      proof-checker = λ r table b. at-test (demand-1 .proof-checker d r table b) (never (λ e. omega arith) (never (λ e. omega arith) (never (λ e. omega arith) (never (λ e. omega arith) (never (λ e. omega arith) (never (λ e. omega arith) (never (λ e. omega arith) (never (λ e. omega arith) (never (λ e. omega arith) (done-never (λ e. omega arith)))))))))));
+      repairer = λ r table t m o. at-test (k .repairer d r table t m o) (never (λ e. omega arith) (never (λ e. omega arith) (never (λ e. omega arith) (never (λ e. omega arith) (never (λ e. omega arith) (never (λ e. omega arith) (done-never (λ e. omega arith))))))));
     }
 
 -- so every call stops at a depth that is none of these
@@ -72,12 +73,12 @@ stops d n =
       table-bytes = λ b. k .table-bytes b .1 n;
       house-words = λ m. k .house-words m .1 n;
       house-bytes = λ m. k .house-bytes m .1 n;
-      tree-writer = λ table b t m root. k .tree-writer table b t m root .1 n;
-      block-reader = λ t m b. k .block-reader t m b .1 n;
+      tree-writer = λ table b t m r. k .tree-writer table b t m r .1 n;
+      block-reader = λ r t m b. k .block-reader r t m b .1 n;
       sampler = λ i t m s. k .sampler i t m s .1 n;
-      sample-checker = λ i root s. k .sample-checker i root s .1 n;
-      proof-checker = λ root table b. k .proof-checker root table b .1 n;
-      repairer = λ root table t m o. k .repairer root table t m o .1 n;
+      sample-checker = λ i r s. k .sample-checker i r s .1 n;
+      proof-checker = λ r table b. k .proof-checker r table b .1 n;
+      repairer = λ r table t m o. k .repairer r table t m o .1 n;
     }
 
 pub has : (d n : ℕ) → depthFits d ≡ true → places tree d ≡ n → Has d n
@@ -85,15 +86,15 @@ unfolding kOf
 has d n f p =
     record {
       in-all = p;
-      writes = λ b t m root l. (
-        λ e. let c = coding d (bytesOf (houseWords d)) b t m root e in (c .tree-full ∙ ap (λ (x : ℕ). 256 * x) p, c .marks-full ∙ p, c .root-full),
+      writes = λ b t m r l. (
+        λ e. let c = coding d (bytesOf (houseWords d)) b t m r e in (c .tree-full ∙ ap (λ (x : ℕ). 256 * x) p, c .marks-full ∙ p, c .record-full),
         λ s.
-            written-when d (bytesOf (houseWords d)) b t m root (record {
+            written-when d (bytesOf (houseWords d)) b t m r (record {
               taken = house-taken d f;
-              block-full = l;
+              block-fits = l;
               tree-full = s .0 ∙ ap (λ (x : ℕ). 256 * x) (sym p);
               marks-full = s .1 ∙ sym p;
-              root-full = s .2;
+              record-full = s .2;
             }),
       );
     }
@@ -113,10 +114,10 @@ longest a some few =
       reached = let same : n - 1 ≡ suc a = omega arith in ap (λ (j : ℕ). proofLength j 8) same;
       none-longer = λ j m h k. longer (suc a) j m (omega arith) k;
       some-accepted = longest-accepted a some few;
-      none-accepted = λ root table b e.
-          let p = passed n root table b e in
+      none-accepted = λ r table b e.
+          let p = passed n r table b e in
           let tbl : List (List (List ℕ)) = equationsOf table in
-          let v = accepted-is tree (symbolHash Plain) root tbl b (p .accepts) in
+          let v = accepted-is tree (symbolHash Plain) (rootIn r) tbl b (p .accepts) in
           let j : ℕ = proofLayer b in
           let ms : List ℕ = equationOf tbl j (proofEquation b) in
           let deep : length tbl ≡ n = accepted-table n (wordsOf table) (p .admits .taken .accepted) .depth in
@@ -144,6 +145,6 @@ pub cases-hold : CasesHold
 unfolding houseTable houseLayers houseEquations houseEquation layerOf equationOf kOf nOf depthFits places place symAt symbolIn proofLength
 cases-hold =
     refl also refl also refl also table-size also symbol 5 also symbol 7 also symbol 9
-    also two-turns also two-absent also eight-absent also all-absent
+    also two-turns also two-absent also eight-absent also all-absent also two-misfilled
     also stops 0 (λ h. omega (arith, h .0)) also stops 10 (λ h. omega (arith, h .1)) also depths also has 5 _ refl refl also has 9 _ refl refl
     also longest 3 (omega arith) (omega arith) also longest 7 (omega arith) (omega arith) also stands also none

@@ -24,7 +24,7 @@ use Rattle.guarantees.specs.Tables.{TableRight, FirstWrongWord, AllInTwo
 use Rattle.guarantees.specs.Refusals.{takesWords}
 use Rattle.guarantees.specs.Change1.{Table, Change1}
 use Rattle.guarantees.proofs.Answers.{never, done-never}
-use Rattle.guarantees.proofs.Passing.{right-so, past-words, past-words-so, Front, depth-front, lengths-front, table-stable, both-stable}
+use Rattle.guarantees.proofs.Passing.{right-so, past-words, past-words-so, Front, depth-front, lengths-front, head-front, table-stable, both-stable}
 use Rattle.guarantees.proofs.Tables.{formed-right, covered-all}
 use Rattle.guarantees.proofs.Refusals.{depth-fits, done-only, lengths-own, own-lengths, repair-own, own-repair, refusals}
 use Rattle.guarantees.proofs.FaultProofs.{fault-proofs, lengths-own as proof-own, own-lengths as own-proof}
@@ -54,17 +54,17 @@ module _ {d : ℕ} {ws : List ℕ} {before : Type 0} {tests later : ℕ → ℕ 
   by-tests no-3 no-10 =
       record {
         stops-with-3 = λ i. (
-          λ h. let (b, l) = f .into (λ e. omega arith) (λ e. omega arith) (j .answers 3 (i, 0) .0 h) in (b, found-3 d ws (f .deep b) l no-3),
-          λ (b, w). j .answers 3 (i, 0) .1 (f .back (λ e. omega arith) (λ e. omega arith) b (so-3 d ws (f .deep b) i w)),
+          λ h. let (b, l) = f .into (λ e. omega arith) (λ e. omega arith) (λ e. omega arith) (j .answers 3 (i, 0) .0 h) in (b, found-3 d ws (f .deep b) l no-3),
+          λ (b, w). j .answers 3 (i, 0) .1 (f .back (λ e. omega arith) (λ e. omega arith) (λ e. omega arith) b (so-3 d ws (f .deep b) i w)),
         );
         stops-with-10 = λ l i. (
           λ h.
-              let (b, x) = f .into (λ e. omega arith) (λ e. omega arith) (j .answers 10 (l, i) .0 h) in
+              let (b, x) = f .into (λ e. omega arith) (λ e. omega arith) (λ e. omega arith) (j .answers 10 (l, i) .0 h) in
               let (w, y) = found-10 d ws (f .deep b) x no-10 in (b, w, y),
-          λ (b, w, y). j .answers 10 (l, i) .1 (f .back (λ e. omega arith) (λ e. omega arith) b (so-10 d ws (f .deep b) l i w y)),
+          λ (b, w, y). j .answers 10 (l, i) .1 (f .back (λ e. omega arith) (λ e. omega arith) (λ e. omega arith) b (so-10 d ws (f .deep b) l i w y)),
         );
         taken-only = λ e.
-            let (b, l) = f .into (λ e. omega arith) (λ e. omega arith) (j .answers 0 (0, 0) .0 (ap numberOf e, ap valuesOf e)) in let (w, c, m) = past-words d ws (f .deep b) (λ e. omega arith) (λ e. omega arith) l in (w, c);
+            let (b, l) = f .into (λ e. omega arith) (λ e. omega arith) (λ e. omega arith) (j .answers 0 (0, 0) .0 (ap numberOf e, ap valuesOf e)) in let (w, c, m) = past-words d ws (f .deep b) (λ e. omega arith) (λ e. omega arith) l in (w, c);
       }
 
 -- where none comes after 10, it is done just when these are passed
@@ -73,11 +73,11 @@ module _ {d : ℕ} {ws : List ℕ} {before : Type 0} {tests : ℕ → ℕ × ℕ
   alone = by-tests f j (done-never (λ e. omega arith)) (done-never (λ e. omega arith))
 
   passed : a ≡ Done → before
-  passed e = f .into (λ e. omega arith) (λ e. omega arith) (j .answers 0 (0, 0) .0 (ap numberOf e, ap valuesOf e)) .0
+  passed e = f .into (λ e. omega arith) (λ e. omega arith) (λ e. omega arith) (j .answers 0 (0, 0) .0 (ap numberOf e, ap valuesOf e)) .0
 
   takes : before → TableRight d ws → AllInTwo d (tableOf ws) → a ≡ Done
   takes b w c =
-      done-only a (j .answers 0 (0, 0) .1 (f .back (λ e. omega arith) (λ e. omega arith) b (past-words-so d ws (f .deep b) w c (refl, refl))) .0)
+      done-only a (j .answers 0 (0, 0) .1 (f .back (λ e. omega arith) (λ e. omega arith) (λ e. omega arith) b (past-words-so d ws (f .deep b) w c (refl, refl))) .0)
 
 -- ---- the calls
 
@@ -86,23 +86,23 @@ change-1 =
     record {
       words-check = λ d ws. alone (depth-front d) (refusals .table-words d ws);
       table-check = λ d table. alone (lengths-front d (table-stable table)) (refusals .table-bytes d table);
-      tree-writer = λ d table b t m root.
+      tree-writer = λ d table b t m r.
           alone
           (lengths-front d
-          (both-stable (writeSized d (length b) (length t) (length m) (length root)) table (lengths-own d table b t m root) (own-lengths d table b t m root)))
-          (refusals .tree-writer d table b t m root);
-      proof-checker = λ d root table b.
+          (both-stable (writeSized d (length b) (length t) (length m) (length r)) table (lengths-own d table b t m r) (own-lengths d table b t m r)))
+          (refusals .tree-writer d table b t m r);
+      proof-checker = λ d r table b.
           by-tests
-          (lengths-front d (both-stable (proofSized (length root) (length b)) table (proof-own d root table b) (own-proof d root table b)))
-          (fault-proofs .checker-answers d root table b)
-          (never (λ e. omega arith) (never (λ e. omega arith) (never (λ e. omega arith) (never (λ e. omega arith) (done-never (λ e. omega arith))))))
-          (never (λ e. omega arith) (never (λ e. omega arith) (never (λ e. omega arith) (never (λ e. omega arith) (done-never (λ e. omega arith))))));
-      repairer = λ d root table t m o.
+          (head-front d r (both-stable (proofSized (length r) (length b)) table (proof-own d r table b) (own-proof d r table b)))
+          (fault-proofs .checker-answers d r table b)
+          (never (λ e. omega arith) (never (λ e. omega arith) (never (λ e. omega arith) (never (λ e. omega arith) (never (λ e. omega arith) (done-never (λ e. omega arith)))))))
+          (never (λ e. omega arith) (never (λ e. omega arith) (never (λ e. omega arith) (never (λ e. omega arith) (never (λ e. omega arith) (done-never (λ e. omega arith)))))));
+      repairer = λ d r table t m o.
           by-tests
-          (lengths-front d
-          (both-stable (repairSized d (length root) (length t) (length m) (length o)) table (repair-own d root table t m o) (own-repair d root table t m o)))
-          (refusals .repairer d root table t m o)
-          (never (λ e. omega arith) (done-never (λ e. omega arith))) (never (λ e. omega arith) (done-never (λ e. omega arith)));
+          (head-front d r
+          (both-stable (repairSized d (length r) (length t) (length m) (length o)) table (repair-own d r table t m o) (own-repair d r table t m o)))
+          (refusals .repairer d r table t m o)
+          (never (λ e. omega arith) (never (λ e. omega arith) (done-never (λ e. omega arith)))) (never (λ e. omega arith) (never (λ e. omega arith) (done-never (λ e. omega arith))));
       words-taken = λ d ws. (
         λ e. let (w, c) = alone (depth-front d) (refusals .table-words d ws) .taken-only e in (passed (depth-front d) (refusals .table-words d ws) e, w, c),
         λ (r, w, c). takes (depth-front d) (refusals .table-words d ws) r w c,

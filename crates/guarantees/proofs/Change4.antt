@@ -24,10 +24,10 @@ use Rattle.calls.specs.Stops.{numberOf, valuesOf}
 use Rattle.sample_calls.specs.Checking.{checkSized}
 use Rattle.sample_calls.proofs.CheckingLaws.{sizes as check-sizes}
 use Rattle.fault_calls.specs.Checking.{proofSized, proofChecked}
-use Rattle.guarantees.specs.Layouts.{bytesFrom, allSymbols, upFrom}
+use Rattle.guarantees.specs.Layouts.{bytesFrom, allSymbols, upFrom, rootPart}
 use Rattle.guarantees.specs.Answers.{Answered, Answers, done, test, fails, holds, unless, one}
 use Rattle.guarantees.specs.Tables.{TableRight}
-use Rattle.guarantees.specs.Refusals.{DepthRight, RootLength, SampleLength, InBase, SampleBreaks, sampleTests}
+use Rattle.guarantees.specs.Refusals.{DepthRight, RecordLength, SampleLength, HeadRight, InBase, SampleBreaks, sampleTests}
 use Rattle.guarantees.specs.FaultProofs.{givenSymbol, withheldSymbol, Named, given, Exact, GivenFits, PathFits, AllLead, ProofBreaks, ProofLengths, ProofReady, proofTests, Holds}
 use Rattle.guarantees.specs.Trees.{members, AgreesWith, Twins}
 use Rattle.guarantees.specs.Demand3.{ProofCollides}
@@ -37,52 +37,57 @@ use Rattle.guarantees.specs.Change4.{WayPage, Change4}
 use Rattle.guarantees.proofs.Answers.{never, done-never, past, past-so, left}
 use Rattle.guarantees.proofs.Tables.{right-formed}
 use Rattle.guarantees.proofs.ProofHeads.{Fitting, named-fitting, length-named, named-ok, ok-named}
-use Rattle.guarantees.proofs.Passing.{decided, Stable, past-words, past-words-so, left-words, Front, depth-stable, lengths-front, both-stable}
+use Rattle.guarantees.proofs.Passing.{decided, Stable, past-words, past-words-so, left-words, Front, head-stable, names-stable, past-lengths, past-lengths-so, head-front, both-stable}
 use Rattle.guarantees.proofs.Refusals.{depth-fits, refusals}
 use Rattle.guarantees.proofs.Pages.{up-low, sample-fits, sample-alone, way-page}
 use Rattle.guarantees.proofs.FaultProofs.{from8, from7, leads-or-breaks, breaks-as, never-both, fault-proofs, lengths-own, own-lengths}
 
 -- ---- samples
 
-sizes-stable : (d : ℕ) (root s : List ℕ) → Stable (RootLength root × SampleLength d s)
-sizes-stable d root s =
-    decided (checkSized d (length root) (length s)) (check-sizes d (length root) (length s))
-    (λ (p, q). yes-and (eq-eqb (length root) 512 p) (eq-eqb (length s) (256 * sampleSize d) q))
+sizes-stable : (d : ℕ) (r s : List ℕ) → Stable (RecordLength r × SampleLength d s)
+sizes-stable d r s =
+    decided (checkSized d (length r) (length s)) (check-sizes d (length r) (length s))
+    (λ (p, q). yes-and (eq-eqb (length r) 556 p) (eq-eqb (length s) (256 * sampleSize d) q))
 
 base-stable : (d i : ℕ) → Stable (InBase d i)
 base-stable d i = decided (ltb i (allSymbols (d - 1))) (ltb-true i _) (lt-ltb i _)
 
-module _ (d i : ℕ) (root s : List ℕ) (l p : ℕ) where
-  sample-found : sampleTests d i root s 7 (l, p) → SampleReady d i root s × SampleBreaks d i root s l × (p ≡ 0)
+module _ (d i : ℕ) (r s : List ℕ) (l p : ℕ) where
+  abbrev broken : Type 0
+  broken = SampleBreaks d i (rootPart r) s l
+
+  sample-found : sampleTests d i r s 7 (l, p) → SampleReady d i r s × broken × (p ≡ 0)
   sample-found t =
-      let (dr, t₂) = past (λ e. omega arith) (depth-stable d) t in
-      let (lr, t₅) = past (λ e. omega arith) (sizes-stable d root s) t₂ in
+      let (dr, lr, t₁₁) = past-lengths d (λ e. omega arith) (λ e. omega arith) (sizes-stable d r s) t in
+      let (hr, t₅) = past (λ e. omega arith) (head-stable d r) t₁₁ in
       let (ib, t₇) = past (λ e. omega arith) (base-stable d i) t₅ in
       let (k, z) = at-7 t₇ in
-      (record { depth-right = dr; root-length = lr .0; sample-length = lr .1; in-base = ib }, k, z)
+      (record { depth-right = dr; record-length = lr .0; sample-length = lr .1; head-right = hr; in-base = ib }, k, z)
     where
-      at-7 : test 7 (one (SampleBreaks d i root s)) done 7 (l, p) → SampleBreaks d i root s l × (p ≡ 0)
+      at-7 : test 7 (one (SampleBreaks d i (rootPart r) s)) done 7 (l, p) → broken × (p ≡ 0)
       at-7 (fails e x) = (x .is, x .alone)
       at-7 (holds x y) = absurd (done-never (λ e. omega arith) (l, p) y)
 
-  found-sample : SampleReady d i root s → SampleBreaks d i root s l → p ≡ 0 → sampleTests d i root s 7 (l, p)
-  found-sample r k z =
-      past-so (λ e. omega arith) (r .depth-right)
-      (past-so (λ e. omega arith) (r .root-length, r .sample-length)
-      (past-so (λ e. omega arith) (r .in-base) (fails refl (record { is = k; alone = z }))))
+  found-sample : SampleReady d i r s → broken → p ≡ 0 → sampleTests d i r s 7 (l, p)
+  found-sample y k z =
+      past-lengths-so d (λ e. omega arith) (λ e. omega arith) (y .depth-right) (y .record-length, y .sample-length)
+      (past-so (λ e. omega arith) (y .head-right) (past-so (λ e. omega arith) (y .in-base) (fails refl (record { is = k; alone = z }))))
 
 -- ---- proofs
 
-module _ (d : ℕ) (root table b : List ℕ) where
+module _ (d : ℕ) (r table b : List ℕ) where
+  abbrev root : List ℕ
+  root = rootPart r
+
   abbrev tbl : List (List (List ℕ))
   tbl = equationsOf table
 
   -- the tests from 8 and from 7 on
   abbrev last : Answered
-  last = from8 d root table b
+  last = from8 d r table b
 
   abbrev hashes : Answered
-  hashes = from7 d root table b
+  hashes = from7 d r table b
 
   -- the length that the head demands
   abbrev demanded : ℕ
@@ -105,40 +110,46 @@ module _ (d : ℕ) (root table b : List ℕ) where
     exact-stable h =
         decided (eqb (length b) demanded) (λ t. (h, exact-of h (eqb-true (length b) demanded t))) (λ (z, e). eq-eqb (length b) demanded (of-exact z e))
 
-  front : {later : Answered} → Front d (DepthRight d × ProofLengths root table b) (test 1 (unless (DepthRight d)) (test 2 (unless (ProofLengths root table b)) later)) later
-  front = lengths-front d (both-stable (proofSized (length root) (length b)) table (lengths-own d root table b) (own-lengths d root table b))
+  front : {later : Answered}
+      → Front d (DepthRight d × ProofLengths r table b × HeadRight d r)
+      (test 1 (unless (DepthRight d)) (test 2 (unless (ProofLengths r table b)) (test 11 (unless (HeadRight d r)) later))) later
+  front = head-front d r (both-stable (proofSized (length r) (length b)) table (lengths-own d r table b) (own-lengths d r table b))
 
   -- ---- an answer that comes from 7 on
 
   -- by whichever reading of the head
-  as-named : ProofReady d root table b → (P : Named d tbl b → Type 0) → (h : Named d tbl b) → P h → (r : ProofReady d root table b) × P (r .named)
-  as-named r P h y = (
+  as-named : ProofReady d r table b → (P : Named d tbl b → Type 0) → (h : Named d tbl b) → P h → (y : ProofReady d r table b) × P (y .named)
+  as-named y P h x = (
     record {
-      depth-right = r .depth-right;
-      lengths-right = r .lengths-right;
-      table-right = r .table-right;
-      table-covered = r .table-covered;
+      depth-right = y .depth-right;
+      lengths-right = y .lengths-right;
+      head-right = y .head-right;
+      table-right = y .table-right;
+      table-covered = y .table-covered;
+      table-named = y .table-named;
       named = h;
-      exact = exact-of (r .depth-right) (r .table-right) h (of-exact (r .depth-right) (r .table-right) (r .named) (r .exact));
+      exact = exact-of (y .depth-right) (y .table-right) h (of-exact (y .depth-right) (y .table-right) (y .named) (y .exact));
     },
-    y,
+    x,
   )
 
   -- the number is none of the tests' before 7
-  module _ {n : ℕ} {v : ℕ × ℕ} (late : (k : ℕ) → 1 ≤ k → k ≤ 6 → k ≡ n → ⊥) (other : 10 ≡ n → ⊥) where
-    into : proofTests d root table b n v → ProofReady d root table b × hashes n v
+  module _ {n : ℕ} {v : ℕ × ℕ} (late : (k : ℕ) → 1 ≤ k → k ≤ 6 → k ≡ n → ⊥) (other : (k : ℕ) → 10 ≤ k → k ≡ n → ⊥) where
+    into : proofTests d r table b n v → ProofReady d r table b × hashes n v
     into t =
-        let ((dr, lr), t₃) = front .into (late 1 (omega arith) (omega arith)) (late 2 (omega arith) (omega arith)) t in
-        let (w, c, t₆) = past-words d (wordsOf table) (depth-fits d dr) (late 3 (omega arith) (omega arith)) other t₃ in
+        let ((dr, lr, hr), t₃) = front .into (late 1 (omega arith) (omega arith)) (late 2 (omega arith) (omega arith)) (other 11 (omega arith)) t in
+        let (w, c, t₁₂) = past-words d (wordsOf table) (depth-fits d dr) (late 3 (omega arith) (omega arith)) (other 10 (omega arith)) t₃ in
+        let (m, t₆) = past (other 12 (omega arith)) (names-stable r table) t₁₂ in
         let (h, t₂) = past (late 6 (omega arith) (omega arith)) (named-stable dr w) t₆ in
         let ((z, e), t₇) = past (late 2 (omega arith) (omega arith)) (exact-stable dr w h) t₂ in
-        (record { depth-right = dr; lengths-right = lr; table-right = w; table-covered = c; named = z; exact = e }, t₇)
+        (record { depth-right = dr; lengths-right = lr; head-right = hr; table-right = w; table-covered = c; table-named = m; named = z; exact = e }, t₇)
 
-    back : (r : ProofReady d root table b) → hashes n v → proofTests d root table b n v
-    back r t =
-        front .back (late 1 (omega arith) (omega arith)) (late 2 (omega arith) (omega arith)) (r .depth-right, r .lengths-right)
-        (past-words-so d (wordsOf table) (depth-fits d (r .depth-right)) (r .table-right) (r .table-covered)
-        (past-so (late 6 (omega arith) (omega arith)) (r .named) (past-so (late 2 (omega arith) (omega arith)) (r .named, r .exact) t)))
+    back : (y : ProofReady d r table b) → hashes n v → proofTests d r table b n v
+    back y t =
+        front .back (late 1 (omega arith) (omega arith)) (late 2 (omega arith) (omega arith)) (other 11 (omega arith)) (y .depth-right, y .lengths-right, y .head-right)
+        (past-words-so d (wordsOf table) (depth-fits d (y .depth-right)) (y .table-right) (y .table-covered)
+        (past-so (other 12 (omega arith)) (y .table-named)
+        (past-so (late 6 (omega arith) (omega arith)) (y .named) (past-so (late 2 (omega arith) (omega arith)) (y .named, y .exact) t))))
 
   -- 7, and what comes after it
   found-7 : {l p : ℕ} → hashes 7 (l, p) → (h : Named d tbl b) × ProofBreaks root h l p
@@ -160,53 +171,53 @@ module _ (d : ℕ) (root table b : List ℕ) where
   -- ---- the statements
 
   abbrev answer : Answer
-  answer = proofChecked d root table b
+  answer = proofChecked d r table b
 
-  tested : (n : ℕ) (v : ℕ × ℕ) → Answers answer n v ↔ proofTests d root table b n v
-  tested = fault-proofs .checker-answers d root table b .answers
+  tested : (n : ℕ) (v : ℕ × ℕ) → Answers answer n v ↔ proofTests d r table b n v
+  tested = fault-proofs .checker-answers d r table b .answers
 
-  stops : (l p : ℕ) → Answers answer 7 (l, p) ↔ ((r : ProofReady d root table b) × ProofBreaks root (r .named) l p)
+  stops : (l p : ℕ) → Answers answer 7 (l, p) ↔ ((y : ProofReady d r table b) × ProofBreaks root (y .named) l p)
   stops l p = (
-    λ e. let (r, t) = into (λ k a c e. omega arith) (λ e. omega arith) (tested 7 (l, p) .0 e) in let (h, k) = found-7 t in as-named r (λ z. ProofBreaks root z l p) h k,
-    λ (r, k). tested 7 (l, p) .1 (back (λ k a c e. omega arith) (λ e. omega arith) r (fails refl (record { are = (r .named, k) }))),
+    λ e. let (y, t) = into (λ k a c e. omega arith) (λ k a e. omega arith) (tested 7 (l, p) .0 e) in let (h, k) = found-7 t in as-named y (λ z. ProofBreaks root z l p) h k,
+    λ (y, k). tested 7 (l, p) .1 (back (λ k a c e. omega arith) (λ k a e. omega arith) y (fails refl (record { are = (y .named, k) }))),
   )
 
   -- an answer that comes after 7, and what comes where every way leads
-  later-leads : {n : ℕ} {v : ℕ × ℕ} → (7 ≡ n → ⊥) → (r : ProofReady d root table b) → hashes n v → AllLead root (r .named)
-  later-leads o r t =
-      ⊎-elim (λ a. a) (λ (l, p, k). absurd (later-7 o t l p (r .named) k))
-      (leads-or-breaks d tbl b (r .depth-right .1) (rules (r .depth-right) (r .table-right)) (r .named) root)
+  later-leads : {n : ℕ} {v : ℕ × ℕ} → (7 ≡ n → ⊥) → (y : ProofReady d r table b) → hashes n v → AllLead root (y .named)
+  later-leads o y t =
+      ⊎-elim (λ a. a) (λ (l, p, k). absurd (later-7 o t l p (y .named) k))
+      (leads-or-breaks d tbl b (y .depth-right .1) (rules (y .depth-right) (y .table-right)) (y .named) root)
 
-  leads-then : (r : ProofReady d root table b) → AllLead root (r .named) → (numberOf answer ≡ 0) ⊎ (numberOf answer ≡ 8)
-  leads-then r a =
-      let t = left (r .lengths-right) (left (r .depth-right) (tested (numberOf answer) (valuesOf answer) .0 (refl, refl))) in
-      let t₆ = left-words d (wordsOf table) (depth-fits d (r .depth-right)) (r .table-right) (r .table-covered) t in
-      from-7 (λ l p h k. never-both d tbl b (r .depth-right .1) (rules (r .depth-right) (r .table-right)) (r .named) h root l p a k)
-      (left (r .named, r .exact) (left (r .named) t₆))
+  leads-then : (y : ProofReady d r table b) → AllLead root (y .named) → (numberOf answer ≡ 0) ⊎ (numberOf answer ≡ 8)
+  leads-then y a =
+      let t = left (y .head-right) (left (y .lengths-right) (left (y .depth-right) (tested (numberOf answer) (valuesOf answer) .0 (refl, refl)))) in
+      let t₁₂ = left-words d (wordsOf table) (depth-fits d (y .depth-right)) (y .table-right) (y .table-covered) t in
+      from-7 (λ l p h k. never-both d tbl b (y .depth-right .1) (rules (y .depth-right) (y .table-right)) (y .named) h root l p a k)
+      (left (y .named, y .exact) (left (y .named) (left (y .table-named) t₁₂)))
 
-  after-7 : ((k : ℕ) → 1 ≤ k → k ≤ 6 → k ≡ numberOf answer → ⊥) → (10 ≡ numberOf answer → ⊥) → (7 ≡ numberOf answer → ⊥)
-      → (r : ProofReady d root table b) × AllLead root (r .named)
-  after-7 late other o = let (r, t) = into late other (tested (numberOf answer) (valuesOf answer) .0 (refl, refl)) in (r, later-leads o r t)
+  after-7 : ((k : ℕ) → 1 ≤ k → k ≤ 6 → k ≡ numberOf answer → ⊥) → ((k : ℕ) → 10 ≤ k → k ≡ numberOf answer → ⊥) → (7 ≡ numberOf answer → ⊥)
+      → (y : ProofReady d r table b) × AllLead root (y .named)
+  after-7 late other o = let (y, t) = into late other (tested (numberOf answer) (valuesOf answer) .0 (refl, refl)) in (y, later-leads o y t)
 
-  leads : ((numberOf answer ≡ 0) ⊎ (numberOf answer ≡ 8)) ↔ ((r : ProofReady d root table b) × AllLead root (r .named))
+  leads : ((numberOf answer ≡ 0) ⊎ (numberOf answer ≡ 8)) ↔ ((y : ProofReady d r table b) × AllLead root (y .named))
   leads = (
-    ⊎-elim (λ e. after-7 (λ k a c f. omega arith) (λ f. omega arith) (λ f. omega arith))
-        (λ e. after-7 (λ k a c f. omega arith) (λ f. omega arith) (λ f. omega arith)),
-    λ (r, a). leads-then r a,
+    ⊎-elim (λ e. after-7 (λ k a c f. omega arith) (λ k a f. omega arith) (λ f. omega arith))
+        (λ e. after-7 (λ k a c f. omega arith) (λ k a f. omega arith) (λ f. omega arith)),
+    λ (y, a). leads-then y a,
   )
 
   -- of a proof of layer 0
   top : (l p : ℕ) → Answers answer 7 (l, p) → (h : Named d tbl b) → h .layer ≡ 0 → (l ≡ 0) × (p < length (given h))
   top l p e h z =
-      let (r, k) = stops l p .0 e in
-      let k′ = breaks-as d tbl b (r .depth-right .1) (rules (r .depth-right) (r .table-right)) (r .named) h root l p k in
+      let (y, k) = stops l p .0 e in
+      let k′ = breaks-as d tbl b (y .depth-right .1) (rules (y .depth-right) (y .table-right)) (y .named) h root l p k in
       ⊎-elim (λ (q, w). (omega (arith, w .on-way), q)) (λ (q, a, w). absurd (omega arith)) (k′ .breaks)
 
   -- ---- which page to ask for again
 
-  module _ (r : ProofReady d root table b) (tb : List (List (List ℕ))) (f : ℕ → ℕ → List ℕ) (agr : AgreesWith d tb root f) where
+  module _ (ready : ProofReady d r table b) (tb : List (List (List ℕ))) (f : ℕ → ℕ → List ℕ) (agr : AgreesWith d tb root f) where
     abbrev h : Named d tbl b
-    h = r .named
+    h = ready .named
 
     abbrev j : ℕ
     j = h .layer
@@ -215,7 +226,7 @@ module _ (d : ℕ) (root table b : List ℕ) where
     g = length (given h)
 
     fitting : Fitting tbl j (h .equation) (h .withheld) (h .front) (h .back)
-    fitting = named-fitting d tbl b (r .depth-right .1) (rules (r .depth-right) (r .table-right)) h
+    fitting = named-fitting d tbl b (ready .depth-right .1) (rules (ready .depth-right) (ready .table-right)) h
 
     count : (length (members tbl j (h .equation)) - 1) * (j + 1) ≡ g * (j + 1)
     unfolding layerOf equationOf
@@ -232,7 +243,7 @@ module _ (d : ℕ) (root table b : List ℕ) where
         let below = every-below (nOf j) (given h) (subst (λ ys. every (λ y. ltb y (nOf j)) ys ≡ true) (fitting .given-are) (fitting .given-below)) p q in
         way-page d tb root f agr j y (givenSymbol b j p) (h .has-layer) l on
         (up-low j y l (j - l) (omega arith) (λ e. let z : j ≡ l = omega arith in subst (λ (n : ℕ). y < allSymbols n) z below))
-        (λ u c. length-part b (12 + 256 * (p * (j + 1) + (j - u))) 256 (omega (arith, r .exact, count, mul-le-mul-right {m = suc p} {n = g} (j + 1) q)))
+        (λ u c. length-part b (12 + 256 * (p * (j + 1) + (j - u))) 256 (omega (arith, ready .exact, count, mul-le-mul-right {m = suc p} {n = g} (j + 1) q)))
         (λ (u, c, low, twins). shown u (upFrom j y (j - u)) (givenSymbol b j p (j - u)) (inl (p, j - u, q, (omega arith, omega arith, refl), refl)) (omega (arith, h .has-layer)) low twins)
 
     withheld-page : (l : ℕ) → l < j
@@ -241,23 +252,23 @@ module _ (d : ℕ) (root table b : List ℕ) where
     withheld-page l on =
         let y : ℕ = h .withheld in
         way-page d tb root f agr j y (withheldSymbol b j g) (h .has-layer) l (omega arith) (up-low j y l (j - l) (omega arith) (λ e. absurd (omega arith)))
-        (λ u c. length-part b (12 + 256 * (g * (j + 1) + (j - u - 1))) 256 (omega (arith, r .exact, count)))
+        (λ u c. length-part b (12 + 256 * (g * (j + 1) + (j - u - 1))) 256 (omega (arith, ready .exact, count)))
         (λ (u, c, low, twins). shown u (upFrom j y (j - u)) (withheldSymbol b j g (j - u)) (inr (j - u, omega arith, (omega arith, omega arith, refl), refl)) (omega (arith, h .has-layer)) low twins)
 
 pub change-4 : Change4
 change-4 =
     record {
-      sample-stops = λ d i root s l p. (
-        λ e. sample-found d i root s l p (refusals .sample-checker d i root s .answers 7 (l, p) .0 e),
-        λ (r, k, z). refusals .sample-checker d i root s .answers 7 (l, p) .1 (found-sample d i root s l p r k z),
+      sample-stops = λ d i r s l p. (
+        λ e. sample-found d i r s l p (refusals .sample-checker d i r s .answers 7 (l, p) .0 e),
+        λ (y, k, z). refusals .sample-checker d i r s .answers 7 (l, p) .1 (found-sample d i r s l p y k z),
       );
       proof-stops = stops;
       proof-leads = leads;
       proof-of-top = top;
-      sample-page = λ d i root s r tbl f agr. record {
-        one-of-two = λ x h wrong t. wrong (sample-fits d tbl root f agr i s (r .depth-right .0) (r .in-base) x h t);
+      sample-page = λ d i r s y tbl f agr. record {
+        one-of-two = λ x h wrong t. wrong (sample-fits d tbl (rootPart r) f agr i s (y .depth-right .0) (y .in-base) x h t);
         topmost = λ x h wrong above.
-            sample-alone d tbl root f agr i s (r .depth-right .0) (r .in-base) x h (r .sample-length) wrong above;
+            sample-alone d tbl (rootPart r) f agr i s (y .depth-right .0) (y .in-base) x h (y .sample-length) wrong above;
       };
-      proof-page = λ d root table b r tb f agr. record { given-page = given-page d root table b r tb f agr; withheld-page = withheld-page d root table b r tb f agr };
+      proof-page = λ d r table b y tb f agr. record { given-page = given-page d r table b y tb f agr; withheld-page = withheld-page d r table b y tb f agr };
     }

@@ -38,7 +38,7 @@ use Rattle.guarantees.specs.Tables.{FirstWrongWord}
 use Rattle.guarantees.specs.Answers.{test, holds, unless, JustWhen}
 use Rattle.guarantees.specs.Refusals.{DepthRight, TableLength}
 use Rattle.guarantees.specs.Cases.{EveryCall}
-use Rattle.guarantees.specs.Before.{now, tableBy, callsBy, before}
+use Rattle.guarantees.specs.Before.{now, short, begun, callsBy, before}
 use Rattle.guarantees.specs.Change6.{DepthNine, Accepted, AsBefore, LengthAsBefore, LongerTable, Change6}
 use Rattle.guarantees.proofs.Answers.{never, done-never, left}
 use Rattle.guarantees.proofs.Layouts.{tree-symbols}
@@ -57,6 +57,7 @@ depth-nine =
       symbols = refl;
       proof = longest-proof 7 (omega arith) (omega arith);
       block = λ b. (λ e. e, λ e. e);
+      block-read = λ b. (λ e. e, λ e. e);
       tree = λ t m. (λ r. (r .tree-bytes, r .mark-bytes), λ (p, q). record { tree-bytes = p; mark-bytes = q });
       output = λ o. (λ e. e, λ e. e);
     }
@@ -134,12 +135,12 @@ as-before zero h =
       table-words = λ ws. refl;
       table-bytes = λ table l. refl;
       house = λ n m. refl;
-      tree-writer = λ table b t m root l. refl;
-      block-reader = λ t m b. refl;
+      tree-writer = λ table b t m r l. refl;
+      block-reader = λ r t m b. refl;
       sampler = λ i t m s. refl;
-      sample-checker = λ i root s. refl;
-      proof-checker = λ root table b l. refl;
-      repairer = λ root table t m o l. refl;
+      sample-checker = λ i r s. refl;
+      proof-checker = λ r table b l. refl;
+      repairer = λ r table t m o l. refl;
     }
 as-before (suc d) h =
     let five = le-leb (suc d) 5 h in
@@ -150,12 +151,12 @@ as-before (suc d) h =
       table-words = λ ws. rw (five, nine);
       table-bytes = λ table l. rw (five, nine, same table l);
       house = λ n m. rw (five, nine);
-      tree-writer = λ table b t m root l. rw (five, nine, same table l);
-      block-reader = λ t m b. rw (five, nine);
+      tree-writer = λ table b t m r l. rw (five, nine, same table l);
+      block-reader = λ r t m b. rw (five, nine);
       sampler = λ i t m s. rw (five, nine);
-      sample-checker = λ i root s. rw (five, nine);
-      proof-checker = λ root table b l. rw (five, nine, same table l);
-      repairer = λ root table t m o l. rw (five, nine, same table l);
+      sample-checker = λ i r s. rw (five, nine);
+      proof-checker = λ r table b l. rw (five, nine, same table l);
+      repairer = λ r table t m o l. rw (five, nine, same table l);
     }
 
 deeper-before : (d : ℕ) → 5 < d → EveryCall before d (λ number. number ≡ 1)
@@ -168,12 +169,12 @@ deeper-before d h =
       table-bytes = λ b. rw (some, deep);
       house-words = λ n. rw (some, deep);
       house-bytes = λ n. rw (some, deep);
-      tree-writer = λ table b t m root. rw (some, deep);
-      block-reader = λ t m b. rw (some, deep);
+      tree-writer = λ table b t m r. rw (some, deep);
+      block-reader = λ r t m b. rw (some, deep);
       sampler = λ i t m s. rw (some, deep);
-      sample-checker = λ i root s. rw (some, deep);
-      proof-checker = λ root table b. rw (some, deep);
-      repairer = λ root table t m o. rw (some, deep);
+      sample-checker = λ i r s. rw (some, deep);
+      proof-checker = λ r table b. rw (some, deep);
+      repairer = λ r table t m o. rw (some, deep);
     }
 
 -- ---- a longer table
@@ -189,23 +190,23 @@ no-and false b = refl
 
 module _ (d : ℕ) (table : List ℕ) (some : 1 ≤ d) (few : d ≤ 5) (l : TableLength table) (h : 16384 < length table) where
   -- every call that is lent it begins so
-  long-before : (sized : Bool) → tableBy 5 16384 d sized table ≡ Stopped Length
+  long-before : (sized : Bool) → begun 5 16384 d (sized && short 5 16384 table) ≡ Stopped Length
   unfolding testLengths pick
   long-before sized = rw (le-leb 1 d some, le-leb d 5 few, lt-leb (length table) 16384 h, no-and sized (eqb (length table % 4) 0))
 
   longer : LongerTable d table
   longer =
-      let r : DepthRight d = (some, omega arith) in
-      let (i, w) = wrong-word d (wordsOf table) r (omega (arith, wordsOf-length table, longest-grows d 5 some few, longest-five)) in
+      let dr : DepthRight d = (some, omega arith) in
+      let (i, w) = wrong-word d (wordsOf table) dr (omega (arith, wordsOf-length table, longest-grows d 5 some few, longest-five)) in
       record {
-        check-before = ap numberOf (long-before true);
-        check-now = change-1 .table-check d table .stops-with-3 i .1 ((r, l), w) .0;
-        writer-before = λ b t m root. ap numberOf (long-before (writeSized d (length b) (length t) (length m) (length root)));
-        writer-now = λ b t m root k. change-1 .tree-writer d table b t m root .stops-with-3 i .1 ((r, k), w) .0;
-        proof-before = λ root b. rw (long-before (proofSized (length root) (length b)));
-        proof-now = λ root b k. change-1 .proof-checker d root table b .stops-with-3 i .1 ((r, k), w) .0;
-        repair-before = λ root t m o. rw (long-before (repairSized d (length root) (length t) (length m) (length o)));
-        repair-now = λ root t m o k. change-1 .repairer d root table t m o .stops-with-3 i .1 ((r, k), w) .0;
+        check-before = rw (long-before true);
+        check-now = change-1 .table-check d table .stops-with-3 i .1 ((dr, l), w) .0;
+        writer-before = λ b t m r. rw (long-before (writeSized d (length b) (length t) (length m) (length r)));
+        writer-now = λ b t m r k. change-1 .tree-writer d table b t m r .stops-with-3 i .1 ((dr, k), w) .0;
+        proof-before = λ r b. rw (long-before (proofSized (length r) (length b)));
+        proof-now = λ r b k hr. change-1 .proof-checker d r table b .stops-with-3 i .1 ((dr, k, hr), w) .0;
+        repair-before = λ r t m o. rw (long-before (repairSized d (length r) (length t) (length m) (length o)));
+        repair-now = λ r t m o k hr. change-1 .repairer d r table t m o .stops-with-3 i .1 ((dr, k, hr), w) .0;
       }
 
 -- ---- all of it

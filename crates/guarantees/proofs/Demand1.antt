@@ -13,11 +13,10 @@ use Rattle.parity_table.specs.declared.Answer.{Answer as Read}
 use Rattle.parity_table.specs.declared.Answer.the-variants as read
 use Rattle.model.specs.Shape.{tree}
 use Rattle.model.specs.Symbols.{symAt}
-use Rattle.model.specs.Writer.{blockOf, writeTree, writtenMarks, writtenRoot}
+use Rattle.model.specs.Writer.{writtenMarks}
 use Rattle.model.specs.Repair.{St}
 use Rattle.model.specs.Sampling.{sampleBytes}
-use Rattle.symbol_hash.specs.SymbolHash.{symbolHash}
-use Rattle.symbol_hash.specs.declared.Kind.the-variants.{Plain}
+use Rattle.root_record.specs.Records.{sizeIn}
 use Rattle.calls.specs.declared.Stop.{Stop}
 use Rattle.calls.specs.declared.Answer.{Answer}
 use Rattle.calls.specs.declared.Answer.the-variants.{Done, Stopped}
@@ -25,11 +24,10 @@ use Rattle.calls.specs.Stops.{numberOf}
 use Rattle.calls.specs.Tests.{readAnswer}
 use Rattle.calls.proofs.TestLaws.{stopped-not}
 use Rattle.cedunmi_c.specs.Result.{hashAnswer}
-use Rattle.volume_calls.specs.Reading.{blockTested, readBy, blockRead}
-use Rattle.volume_calls.specs.Writing.{writtenBy, writeTested, treeWritten}
+use Rattle.volume_calls.specs.Reading.{blockTested, blockGiven, readBy, blockRead}
+use Rattle.volume_calls.specs.Writing.{writtenTree, writtenRecord, writtenBy, writeTested, treeWritten}
 use Rattle.sample_calls.specs.Taking.{takeTested, takenBy, sampleTaken}
 use Rattle.fault_calls.specs.Repairing.{repairTested, repairOf, repairedBy, repaired}
-use Rattle.guarantees.specs.Terms.{equationsOf}
 use Rattle.guarantees.specs.Demand1.{Condition, HouseWriter, TreeWriter, Repairer, Demand1}
 use Rattle.guarantees.proofs.Refusals.{refusals}
 use Rattle.guarantees.proofs.FaultProofs.{fault-proofs}
@@ -59,27 +57,25 @@ house new lent read.Length = record { described = λ e. absurd (omega (arith, ap
 house new lent (read.Wrong i) = record { described = λ e. absurd (omega (arith, ap (λ (r : Read). numberOf (readAnswer r)) e)); untouched = λ n. refl }
 house new lent read.Whole = record { described = λ e. refl; untouched = λ n. absurd (n refl) }
 
-tree-writer : (depth : ℕ) (table block t m root : List ℕ) (a : Answer)
-    → TreeWriter depth table block t m root (writtenBy a depth (equationsOf table) block t m root)
-tree-writer depth table block t m root Done =
-    let new : List ℕ = writeTree tree (symbolHash Plain) (equationsOf table) block t in
-    record { tree-bytes = made t new; mark-bytes = made m (writtenMarks tree depth); root-bytes = made root (writtenRoot tree (symbolHash Plain) new) }
-tree-writer depth table block t m root (Stopped s) = record { tree-bytes = kept s t _; mark-bytes = kept s m _; root-bytes = kept s root _ }
+tree-writer : (depth : ℕ) (table block t m r : List ℕ) (a : Answer) → TreeWriter depth table block t m r (writtenBy a depth table block t m r)
+tree-writer depth table block t m r Done =
+    record { tree-bytes = made t (writtenTree depth table block t); mark-bytes = made m (writtenMarks tree depth); record-bytes = made r (writtenRecord depth table block t) }
+tree-writer depth table block t m r (Stopped s) = record { tree-bytes = kept s t _; mark-bytes = kept s m _; record-bytes = kept s r _ }
 
-block-reader : (depth : ℕ) (t b : List ℕ) (a : Answer) → Condition (readBy a depth t b .answer ≡ Done) b (blockOf tree depth t) (readBy a depth t b .block)
-block-reader depth t b Done = made b (blockOf tree depth t)
-block-reader depth t b (Stopped s) = kept s b _
+block-reader : (depth : ℕ) (r t b : List ℕ) (a : Answer) → Condition (readBy a depth r t b .answer ≡ Done) b (blockGiven depth r t b) (readBy a depth r t b .block)
+block-reader depth r t b Done = made b (blockGiven depth r t b)
+block-reader depth r t b (Stopped s) = kept s b _
 
 sampler : (depth i : ℕ) (t s : List ℕ) (a : Answer)
     → Condition (takenBy a depth i t s .answer ≡ Done) s (sampleBytes tree (symAt tree t) depth i) (takenBy a depth i t s .sample)
 sampler depth i t s Done = made s (sampleBytes tree (symAt tree t) depth i)
 sampler depth i t s (Stopped w) = kept w s _
 
-repairer : (root table t m o : List ℕ) (a : Answer) → Repairer root table t m o a (repairedBy a (repairOf root table t m o) t m o)
-repairer root table t m o Done =
-    let st : St = repairOf root table t m o in
+repairer : (depth : ℕ) (r table t m o : List ℕ) (a : Answer) → Repairer r table t m o a (repairedBy a depth (sizeIn r) (repairOf r table t m o) t m o)
+repairer depth r table t m o Done =
+    let st : St = repairOf r table t m o in
     record { tree-bytes = made t (st .tree); mark-bytes = made m (st .marks); out-bytes = made o (st .out) }
-repairer root table t m o (Stopped s) = record { tree-bytes = kept s t _; mark-bytes = kept s m _; out-bytes = kept s o _ }
+repairer depth r table t m o (Stopped s) = record { tree-bytes = kept s t _; mark-bytes = kept s m _; out-bytes = kept s o _ }
 
 -- ---- the demand
 
@@ -92,8 +88,8 @@ demand-1 =
       hasher = hasher;
       house-words = λ depth lent. house _ lent _;
       house-bytes = λ depth lent. house _ lent _;
-      tree-writer = λ depth table block t m root. tree-writer depth table block t m root (writeTested depth table block t m root);
-      block-reader = λ depth t m b. block-reader depth t b (blockTested depth (length t) m (length b));
+      tree-writer = λ depth table block t m r. tree-writer depth table block t m r (writeTested depth table block t m r);
+      block-reader = λ depth r t m b. block-reader depth r t b (blockTested depth r (length t) m (length b));
       sampler = λ depth i t m s. sampler depth i t s (takeTested depth i (length t) m (length s));
-      repairer = λ depth root table t m o. repairer root table t m o (repairTested depth root table t m o);
+      repairer = λ depth r table t m o. repairer depth r table t m o (repairTested depth r table t m o);
     }

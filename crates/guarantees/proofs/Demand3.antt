@@ -1,4 +1,4 @@
--- Demand 3: the checker is sound, and every repair of well-formed input ends in one of four ways.
+-- Demand 3: the checker is sound, and every repair of well-formed input ends in one of four ways, or whole but misfilled.
 use mathlib.Core.Path.{_≡_, refl, sym, ap, ap₂, _∙_, subst}
 use mathlib.Core.Logic.{_⊎_, _↔_, _≢_, inl, inr, ⊎-elim}
 use mathlib.Core.Bool.{Bool, true, false, not, _&&_, _||_}
@@ -24,28 +24,32 @@ use Rattle.symbol_hash.specs.declared.Kind.the-variants.{Plain}
 use Rattle.model.specs.Shape.{tree, place, places}
 use Rattle.model.specs.Symbols.{bit, count, others, symbolIn, xorOf, zeros, committed, symAt}
 use Rattle.model.specs.Repair.{End, working, whole, fault, unavailable, twins, St, absentAt}
+use Rattle.model.specs.Writer.{blockOf, zeroFilled}
 use Rattle.model.specs.Ends as model
 use Rattle.model.specs.Ends.{Stopping, tally, gapAt, filledIn, filled, Passed, Peels, Taken, WholeEnd, FaultEnd, UnavailableEnd, TwinsEnd, EndOk, Ended}
-use Rattle.model.proofs.Bytes.{yes-same, no-same}
+use Rattle.octets.proofs.SameLaws.{yes-same, no-same}
 use Rattle.model.proofs.Members.{every-below}
 use Rattle.model.proofs.Counts.{isIt, firstOf-passes, every-others, ascending-once, none-absent, others-held, last-member, first-member, counted-member}
 use Rattle.model.proofs.Shapes.{place-lt}
 use Rattle.model.proofs.Flat.{symAt-length}
+use Rattle.model.proofs.Filling.{zero-is, not-zero}
+use Rattle.root_record.specs.Records.{sizeIn, rootIn}
 use Rattle.calls.specs.declared.Answer.{Answer}
-use Rattle.calls.specs.declared.Answer.the-variants.{Done}
-use Rattle.fault_calls.specs.Repairing.{repairSized, repairTested, repairOf, repairedBy, repaired}
+use Rattle.calls.specs.declared.Stop.{Stop}
+use Rattle.calls.specs.declared.Answer.the-variants.{Done, Stopped}
+use Rattle.fault_calls.specs.Repairing.{Result, ended, misfilled, stopped, repairSized, endNumber, endedBy, repairTested, repairOf, repairedBy, repaired}
 use Rattle.calls.specs.Marks.{lowestBad}
 use Rattle.fault_calls.proofs.Sound.{checker-sound}
-use Rattle.calls.specs.Tests.{testMarks, admitted}
+use Rattle.calls.specs.Tests.{testMarks, admittedBy}
 use Rattle.calls.proofs.TestLaws.{then-done, marks-passed}
 use Rattle.fault_calls.proofs.CheckingLaws.{passed}
-use Rattle.fault_calls.proofs.RepairingLaws.{formed}
+use Rattle.fault_calls.proofs.RepairingLaws.{misfills, ends-so, formed}
 use Rattle.fault_calls.proofs.Ends.{four-ways, fault-accepted}
-use Rattle.guarantees.specs.Layouts.{bytesFrom, symbolNo, dataSymbols, allSymbols, symbolAt, markAt, hashFor, XorOf}
+use Rattle.guarantees.specs.Layouts.{bytesFrom, symbolNo, dataSymbols, allSymbols, symbolAt, markAt, hashFor, XorOf, rootPart, blockRoom}
 use Rattle.guarantees.specs.Tables.{IsMember}
 use Rattle.guarantees.specs.Trees.{members, EquationHolds}
 use Rattle.guarantees.specs.Terms.{equationsOf}
-use Rattle.guarantees.specs.Demand3.{howMany, meets, inLayers, NotTaken, Peeled, none-stored, stores, Gap, Tells, Took, LastOfFailing, Checker, AsTheSteps, EveryEnd, EndsWhole, EndsFault, EndsUnavailable, EndsTwins, Repair, Demand3}
+use Rattle.guarantees.specs.Demand3.{howMany, meets, inLayers, NotTaken, Peeled, none-stored, stores, Gap, Tells, Took, LastOfFailing, Checker, AsTheSteps, EveryEnd, WholeTree, Filling, baseByte, EndsWhole, EndsMisfilled, EndsFault, EndsUnavailable, EndsTwins, Repair, StopsJustWhen, Demand3}
 use Rattle.guarantees.proofs.Layouts.{tree-symbols, symbol-at, mark-at, hash-for, xor-one, xor-of}
 use Rattle.calls.proofs.AdmissionLaws.{TableTaken}
 use Rattle.guarantees.proofs.Membership.{every-member-of, member-other, two-passing, member-apart, last-apart, others-apart}
@@ -54,19 +58,20 @@ use Rattle.guarantees.proofs.Tables.{ok-rules}
 use Rattle.guarantees.proofs.Trees.{symbols-are, agrees-with, with-agrees, twins-of}
 use Rattle.guarantees.proofs.Refusals.{absent-said, absent-seen}
 use Rattle.guarantees.proofs.FaultProofs.{fault-proofs}
-use Rattle.guarantees.proofs.Demand2.{rules}
+use Rattle.guarantees.proofs.Records.{block-size}
+use Rattle.guarantees.proofs.Demand2.{rules, base-byte}
 
 -- ---- the checker
 
 checker : Checker
-unfolding kOf nOf
-checker depth root table f agr b e =
+unfolding rootIn kOf nOf
+checker depth r table f agr b e =
     let tbl : List (List (List ℕ)) = equationsOf table in
-    let p = passed depth root table b e in
+    let p = passed depth r table b e in
     let ok = rules depth table (p .admits .taken) in
-    let x = checker-sound depth root table b e f (with-agrees depth tbl ok root f agr) in
+    let x = checker-sound depth r table b e f (with-agrees depth tbl ok (rootPart r) f agr) in
     let y = x .collision in
-    let n = fault-proofs .accepts-just-when depth root table b .0 e .ready .named in
+    let n = fault-proofs .accepts-just-when depth r table b .0 e .ready .named in
     let shallow = accepted-depth depth (wordsOf table) (p .admits .taken .accepted) .1 in
     let hj : y .layer < depth = omega (arith, y .inside .0, ok .depth) in
     record {
@@ -82,24 +87,23 @@ checker depth root table f agr b e =
 -- ---- well-formed input
 
 -- the marks of input that passed its tests
-marks-tested : (d : ℕ) (root table t m o : List ℕ) → repairTested d root table t m o ≡ Done → length m ≤ lowestBad m
+marks-tested : (d : ℕ) (r table t m o : List ℕ) → repairTested d r table t m o ≡ Done → length m ≤ lowestBad m
 unfolding repairTested
-marks-tested d root table t m o e =
-    marks-passed m (then-done (admitted d (repairSized d (length root) (length t) (length m) (length o)) table) (testMarks m) e .1)
+marks-tested d r table t m o e =
+    marks-passed m (then-done (admittedBy d (repairSized d (length r) (length t) (length m) (length o)) r table) (testMarks m) e .1)
 
 -- depth, lengths and table are right, and every mark is 0 or 1
-record RepairInput (depth : ℕ) (root table t m o : List ℕ) : Type 0 where
+record RepairInput (depth : ℕ) (table m : List ℕ) : Type 0 where
   taken : TableTaken depth table
   marks-right : (p : ℕ) → p < places tree depth → getD m p 0 ≤ 1
 
-module _ (d : ℕ) (root table t m o : List ℕ) where
-  input-of : repairTested d root table t m o ≡ Done → RepairInput d root table t m o
-  input-of e =
-      let k = formed d root table t m o e in
-      record {
-        taken = k .admits .taken;
-        marks-right = λ p h. all-right m (marks-tested d root table t m o e) p (omega (arith, k .marks-full));
-      }
+input-of : (d : ℕ) (r table t m o : List ℕ) → repairTested d r table t m o ≡ Done → RepairInput d table m
+input-of d r table t m o e =
+    let k = formed d r table t m o e in
+    record {
+      taken = k .admits .taken;
+      marks-right = λ p h. all-right m (marks-tested d r table t m o e) p (omega (arith, k .marks-full));
+    }
 
 -- ---- marks, gaps and counts
 
@@ -144,30 +148,107 @@ unfolding meets count
 meets-count p [] = refl
 meets-count p (x ∷ xs) = ap₂ (λ (a b : ℕ). a + b) (bit-pick (p x)) (meets-count p xs)
 
+-- ---- results
+
+-- 0 for an end, 1 for 13, and 2 where a repair stopped
+unfoldable pub wayOf : Result → ℕ
+wayOf (ended s z) = 0
+wayOf (misfilled s) = 1
+wayOf (stopped w) = 2
+
+-- the symbols stored after 13, and why a repair stopped, else w
+storedOf : Result → ℕ
+storedOf (ended s z) = s
+storedOf (misfilled s) = s
+storedOf (stopped w) = 0
+
+stopOf : Stop → Result → Stop
+stopOf w (ended s z) = w
+stopOf w (misfilled s) = w
+stopOf w (stopped v) = v
+
+-- no end is a stop
+ends-way : (blank : Bool) (s : ℕ) (z : End) → wayOf (endedBy blank s z) ≤ 1
+unfolding wayOf
+ends-way blank s working = omega arith
+ends-way blank s whole =
+    by-test blank (λ f. omega (arith, ap wayOf (ends-so blank s whole (λ n. f)))) (λ f. omega (arith, ap wayOf (misfills blank s whole refl f)))
+ends-way blank s (fault j x w n) = omega arith
+ends-way blank s (unavailable j) = omega arith
+ends-way blank s (twins j n) = omega arith
+
+stops-so : (a : Answer) (d n : ℕ) (st : St) (t m o : List ℕ) (s : Stop) → repairedBy a d n st t m o .answer ≡ stopped s → a ≡ Stopped s
+unfolding wayOf stopOf
+stops-so Done d n st t m o s e = absurd (omega (arith, ends-way (zeroFilled tree d n (st .tree)) (st .stored) (st .end), ap wayOf e))
+stops-so (Stopped w) d n st t m o s e = ap Stopped (ap (stopOf s) e)
+
+-- and 13 comes of input that passed the tests
+went-on : (a : Answer) (d n : ℕ) (st : St) (t m o : List ℕ) (s : ℕ) → repairedBy a d n st t m o .answer ≡ misfilled s → a ≡ Done
+unfolding wayOf
+went-on Done d n st t m o s e = refl
+went-on (Stopped w) d n st t m o s e = absurd (omega (arith, ap wayOf e))
+
+pub passed-13 : (d : ℕ) (r table t m o : List ℕ) (s : ℕ) → repaired d r table t m o .answer ≡ misfilled s → repairTested d r table t m o ≡ Done
+unfolding repaired
+passed-13 d r table t m o s e = went-on (repairTested d r table t m o) d (sizeIn r) (repairOf r table t m o) t m o s e
+
+stops-just-when : StopsJustWhen
+unfolding repaired
+stops-just-when depth r table t m o s = (
+  stops-so (repairTested depth r table t m o) depth (sizeIn r) (repairOf r table t m o) t m o s,
+  λ e. ap (λ (a : Answer). repairedBy a depth (sizeIn r) (repairOf r table t m o) t m o .answer) e,
+)
+
 -- ---- the four ways
 
-module _ (depth : ℕ) (root table t m o : List ℕ) (e : repairTested depth root table t m o ≡ Done) where
+module _ (depth : ℕ) (r table t m o : List ℕ) (e : repairTested depth r table t m o ≡ Done) where
   abbrev st : St
-  st = repairOf root table t m o
+  st = repairOf r table t m o
+
+  abbrev root : List ℕ
+  root = rootPart r
 
   abbrev tbl : List (List (List ℕ))
   tbl = equationsOf table
 
-  as-steps : AsTheSteps depth root table t m o
+  -- the end of the steps is reported, or 13 in place of whole
+  abbrev blank : Bool
+  blank = zeroFilled tree depth (sizeIn r) (st .tree)
+
+  answer-is : repaired depth r table t m o .answer ≡ endedBy blank (st .stored) (st .end)
+  unfolding repaired
+  answer-is = ap (λ (a : Answer). repairedBy a depth (sizeIn r) st t m o .answer) e
+
+  reported : (z : End) → st .end ≡ z → (endNumber z ≡ 0 → blank ≡ true) → repaired depth r table t m o .answer ≡ ended (st .stored) z
+  reported z q f = answer-is ∙ ap (endedBy blank (st .stored)) q ∙ sym (ends-so blank (st .stored) z f)
+
+  reported-13 : st .end ≡ whole → blank ≡ false → repaired depth r table t m o .answer ≡ misfilled (st .stored)
+  reported-13 q f = answer-is ∙ ap (endedBy blank (st .stored)) q ∙ sym (misfills blank (st .stored) whole refl f)
+
+  reports-so : (z : End) → st .end ≡ z
+      → (repaired depth r table t m o .answer ≡ ended (st .stored) z) ⊎ ((z ≡ whole) × (repaired depth r table t m o .answer ≡ misfilled (st .stored)))
+  reports-so working q = inl (reported working q (λ n. absurd (omega arith)))
+  reports-so whole q = by-test blank (λ f. inl (reported whole q (λ n. f))) (λ f. inr (refl, reported-13 q f))
+  reports-so (fault j x w n) q = inl (reported (fault j x w n) q (λ n. absurd (omega arith)))
+  reports-so (unavailable j) q = inl (reported (unavailable j) q (λ n. absurd (omega arith)))
+  reports-so (twins j n) q = inl (reported (twins j n) q (λ n. absurd (omega arith)))
+
+  as-steps : AsTheSteps depth r table t m o
   unfolding repaired
   as-steps =
       record {
-        reports = ap (λ (a : Answer). repairedBy a st t m o .answer) e;
-        tree-left = ap (λ (a : Answer). repairedBy a st t m o .tree) e;
-        marks-left = ap (λ (a : Answer). repairedBy a st t m o .marks) e;
-        out-left = ap (λ (a : Answer). repairedBy a st t m o .out) e;
+        reports = reports-so (st .end) refl;
+        tree-left = ap (λ (a : Answer). repairedBy a depth (sizeIn r) st t m o .tree) e;
+        marks-left = ap (λ (a : Answer). repairedBy a depth (sizeIn r) st t m o .marks) e;
+        out-left = ap (λ (a : Answer). repairedBy a depth (sizeIn r) st t m o .out) e;
       }
 
   so : Ended tree (symbolHash Plain) root tbl t m o st
-  so = four-ways depth root table t m o e
+  unfolding rootIn
+  so = four-ways depth r table t m o e
 
-  input : RepairInput depth root table t m o
-  input = input-of depth root table t m o e
+  input : RepairInput depth table m
+  input = input-of depth r table t m o e
 
   ok : TableOk depth tbl
   ok = rules depth table (input .taken)
@@ -194,7 +275,7 @@ module _ (depth : ℕ) (root table t m o : List ℕ) (e : repairTested depth roo
     lent-low : getD m (place tree j i) 0 ≤ 1
     lent-low = input .marks-right (place tree j i) (place-lt tree depth j i hj hi)
 
-    gap-is : gapAt tree (symbolHash Plain) root t m (st .tree) j i ≡ true → Gap depth root table t m o j i
+    gap-is : gapAt tree (symbolHash Plain) root t m (st .tree) j i ≡ true → Gap depth r table t m o j i
     unfolding gapAt symbolHash
     gap-is g =
         by-test (absentAt tree m j i) (λ a. inl (mark-at m j i ∙ absent-said m j i lent-low a))
@@ -204,14 +285,14 @@ module _ (depth : ℕ) (root table t m o : List ℕ) (e : repairTested depth roo
         (yes-same (ap sha256 (sym (symbol-at t j i)) ∙ q ∙ committed-is j i))
         (not-yes (same (sha256 (symAt tree t j i)) (committed tree root (symAt tree (st .tree)) j i)) (or-right (absentAt tree m j i) _ a g))))
 
-    is-gap : Gap depth root table t m o j i → gapAt tree (symbolHash Plain) root t m (st .tree) j i ≡ true
+    is-gap : Gap depth r table t m o j i → gapAt tree (symbolHash Plain) root t m (st .tree) j i ≡ true
     unfolding gapAt symbolHash
     is-gap (inl z) = or-first (absentAt tree m j i) _ (absent-seen m j i lent-low (sym (mark-at m j i) ∙ z))
     is-gap (inr n) =
         or-yes (absentAt tree m j i) _
         (ap not (no-same (λ q. n (ap sha256 (symbol-at t j i) ∙ q ∙ sym (committed-is j i)))))
 
-  gap-no : (j i : ℕ) → j < depth → i < nOf j → (Gap depth root table t m o j i → ⊥) → gapAt tree (symbolHash Plain) root t m (st .tree) j i ≡ false
+  gap-no : (j i : ℕ) → j < depth → i < nOf j → (Gap depth r table t m o j i → ⊥) → gapAt tree (symbolHash Plain) root t m (st .tree) j i ≡ false
   gap-no j i hj hi n = by-test (gapAt tree (symbolHash Plain) root t m (st .tree) j i) (λ g. absurd (n (gap-is j i hj hi g))) (λ g. g)
 
   -- ---- what holds at every end
@@ -256,7 +337,7 @@ module _ (depth : ℕ) (root table t m o : List ℕ) (e : repairTested depth roo
   not-taken j q hj hq a (inr two) = inr (two-passing a (members tbl j q) (ok .members j q hj hq .ascend) two)
 
   -- which symbols are absent
-  told : (j : ℕ) → j < st .entered → Tells depth root table t m o j (absent j)
+  told : (j : ℕ) → j < st .entered → Tells depth r table t m o j (absent j)
   unfolding kOf nOf
   told j hj i hi = (
     λ h. mark-at (st .marks) j i ∙ so .always .cleared j i hj hi h .0,
@@ -271,7 +352,7 @@ module _ (depth : ℕ) (root table t m o : List ℕ) (e : repairTested depth roo
   )
 
   peeled-so : (j : ℕ) → j < depth → {a : ℕ → Bool} → Peels tree tbl (st .tree) j (gapAt tree (symbolHash Plain) root t m (st .tree) j) a
-      → Peeled (allSymbols j) (3 * dataSymbols j) (Gap depth root table t m o j) (symbolAt (st .tree) j) (members tbl j) a
+      → Peeled (allSymbols j) (3 * dataSymbols j) (Gap depth r table t m o j) (symbolAt (st .tree) j) (members tbl j) a
   unfolding kOf nOf layerOf equationOf
   peeled-so j hj (model.none-stored h) =
       none-stored (λ x l. (λ p. gap-is j x hj l (sym (h x l) ∙ p), λ g. h x l ∙ is-gap j x hj l g))
@@ -283,7 +364,7 @@ module _ (depth : ℕ) (root table t m o : List ℕ) (e : repairTested depth roo
       (λ y my n. not-yes (a y) (every-member-of (λ v. not (a v)) (others x ms) (others-held a x ms c ex) y (member-other x y ms my n)))
       (holds-so j e hj le z) (λ q l. not-taken j q hj (omega arith) a (low q l)) (λ y l. one-less a b x y (eb y l))
 
-  every-end : EveryEnd depth root table t m o
+  every-end : EveryEnd depth r table t m o
   unfolding kOf nOf symbolHash zeros
   every-end =
       let a = so .always in
@@ -349,7 +430,7 @@ module _ (depth : ℕ) (root table t m o : List ℕ) (e : repairTested depth roo
         ⊎-elim (λ w. one-mark (others x ms) (others-held (absent j) x ms (w .0) (w .1)) y (member-other x y ms mem n))
         (λ w. one-mark ms (none-absent (absent j) ms (w .0)) y mem) (k .withheld)
 
-    took : Took depth root table t m o j q x
+    took : Took depth r table t m o j q x
     unfolding layerOf equationOf kOf
     took =
         record {
@@ -362,7 +443,7 @@ module _ (depth : ℕ) (root table t m o : List ℕ) (e : repairTested depth roo
           lowest = λ p h. not-taken j p hj (omega (arith, hq)) (absent j) (k .lower p h);
         }
 
-    failing : (count (absent j) ms ≡ 0) × (x ≡ lastOf ms 0) × (xorOf (symAt tree (st .tree) j) ms ≢ zeros) → LastOfFailing depth root table t m o j q x
+    failing : (count (absent j) ms ≡ 0) × (x ≡ lastOf ms 0) × (xorOf (symAt tree (st .tree) j) ms ≢ zeros) → LastOfFailing depth r table t m o j q x
     unfolding kOf
     failing w = (
       one-mark ms (none-absent (absent j) ms (w .0)) x is-member,
@@ -375,9 +456,9 @@ module _ (depth : ℕ) (root table t m o : List ℕ) (e : repairTested depth roo
   shallow : depth ≤ 9
   shallow = depth-is depth (input .taken .deep) .1
 
-  ends-whole : st .end ≡ whole → WholeEnd tree (symbolHash Plain) root tbl t m o st → EndsWhole depth root table t m o
+  whole-tree : st .end ≡ whole → WholeEnd tree (symbolHash Plain) root tbl t m o st → WholeTree depth r table t m o
   unfolding kOf nOf
-  ends-whole q x =
+  whole-tree q x =
       record {
         is-end = q;
         last = x .last ∙ ok .depth;
@@ -386,7 +467,33 @@ module _ (depth : ℕ) (root table t m o : List ℕ) (e : repairTested depth roo
         out-untouched = x .out-kept;
       }
 
-  ends-fault : (j q w n : ℕ) → st .end ≡ fault j q w n → FaultEnd tree (symbolHash Plain) root tbl o j q w n st → EndsFault depth root table t m o
+  -- the filling, by the test of it
+  base-is : (p : ℕ) → p < blockRoom depth → getD (blockOf tree depth (st .tree)) p 0 ≡ baseByte depth r table t m o p
+  unfolding kOf
+  base-is p h = base-byte depth p (st .tree) h
+
+  ends-whole : st .end ≡ whole → WholeTree depth r table t m o → blank ≡ true → EndsWhole depth r table t m o
+  unfolding kOf
+  ends-whole q x f =
+      record {
+        reported = reported whole q (λ n. f);
+        whole-tree = x;
+        filling-zero = λ p h. sym (base-is p (h .1)) ∙ zero-is tree depth (sizeIn r) (st .tree) .0 f p (omega (arith, h .0, block-size r)) (h .1);
+      }
+
+  ends-misfilled : st .end ≡ whole → WholeTree depth r table t m o → blank ≡ false → EndsMisfilled depth r table t m o
+  unfolding kOf
+  ends-misfilled q x f =
+      let (p, from, below, n) = not-zero tree depth (sizeIn r) (st .tree) f in
+      record {
+        reported = reported-13 q f;
+        whole-tree = x;
+        byte = p;
+        in-filling = (omega (arith, from, block-size r), below);
+        not-zero = λ z. n (base-is p below ∙ z);
+      }
+
+  ends-fault : (j q w n : ℕ) → st .end ≡ fault j q w n → FaultEnd tree (symbolHash Plain) root tbl o j q w n st → EndsFault depth r table t m o
   unfolding kOf nOf layerOf equationOf
   ends-fault j q w n z x =
       let k = x .taken in
@@ -397,20 +504,21 @@ module _ (depth : ℕ) (root table t m o : List ℕ) (e : repairTested depth roo
         withheld = w;
         size = n;
         is-end = z;
+        reported = reported (fault j q w n) z (λ y. absurd (omega arith));
         took = took j q w k (x .last);
         why = ⊎-elim
             (λ a.
             inl (zero-mark j q w k (x .last) q (hq j q w k (x .last)) w (is-member j q w k (x .last))
             (rw (a .1) (firstOf-passes (absent j) (equationOf tbl j q) (omega (arith, a .0))))))
             (λ a. inr (failing j q w k (x .last) a)) (k .withheld);
-        accepted = fault-accepted depth root table t m o e j q w n z;
+        accepted = fault-accepted depth r table t m o e j q w n z;
         proof = rw (x .proof, symbols-are (st .tree))
             (fault-proofs .writes-layout depth tbl shallow (ok-rules depth tbl ok) (symAt tree (st .tree)) full j q w front back (hj j q w k (x .last)) (hq j q w k (x .last)) s);
         exact = x .sized;
         out-rest = x .out-rest;
       }
 
-  ends-unavailable : (j : ℕ) → st .end ≡ unavailable j → UnavailableEnd tree (symbolHash Plain) root tbl t m o j st → EndsUnavailable depth root table t m o
+  ends-unavailable : (j : ℕ) → st .end ≡ unavailable j → UnavailableEnd tree (symbolHash Plain) root tbl t m o j st → EndsUnavailable depth r table t m o
   unfolding kOf nOf Stopping layerOf equationOf
   ends-unavailable j q x =
       let lj : j < depth = omega (arith, in-depth, x .last) in
@@ -422,43 +530,45 @@ module _ (depth : ℕ) (root table t m o : List ℕ) (e : repairTested depth roo
       record {
         layer = j;
         is-end = q;
+        reported = reported (unavailable j) q (λ y. absurd (omega arith));
         last = x .last;
         incomplete = let (i, h, b) = x .missing in (i, h, gone i h b);
         first = λ l i h hi. marked-1 (st .marks) l i (a .above l (omega (arith, x .last)) .full i hi);
         absent = absent j;
         tells = told j (omega (arith, x .last));
         within-gaps = λ i hi z. gap-is j i lj hi (x .largest .inside i hi (lost i z));
-        never-once = λ r hr c. x .largest .stopping r (in-table r hr) (sym (meets-count (absent j) (members tbl j r)) ∙ c);
+        never-once = λ v hv c. x .largest .stopping v (in-table v hv) (sym (meets-count (absent j) (members tbl j v)) ∙ c);
         largest = λ s w n i hi b.
             gone i hi
             (x .largest .contains s (λ y hy c. is-gap j y lj hy (w y hy c))
-            (λ r hr c. n r (omega (arith, ok .equations j lj)) (meets-count s (members tbl j r) ∙ c)) i hi b);
-        none-taken = λ r hr. not-taken j r lj hr (absent j) (x .passed r (in-table r hr));
+            (λ v hv c. n v (omega (arith, ok .equations j lj)) (meets-count s (members tbl j v) ∙ c)) i hi b);
+        none-taken = λ v hv. not-taken j v lj hv (absent j) (x .passed v (in-table v hv));
         out-untouched = x .out-kept;
       }
 
-  ends-twins : (j n : ℕ) → st .end ≡ twins j n → TwinsEnd tree (symbolHash Plain) root tbl o j n st → EndsTwins depth root table t m o
+  ends-twins : (j n : ℕ) → st .end ≡ twins j n → TwinsEnd tree (symbolHash Plain) root tbl o j n st → EndsTwins depth r table t m o
   unfolding symbolIn bytesFrom symbolHash layerOf equationOf
   ends-twins j n q x =
       let k = x .taken in
-      let r : ℕ = x .equation in
-      let lj = hj j r n k (x .last) in
-      let lr = hq j r n k (x .last) in
-      let es : List ℕ = members tbl j r in
+      let v : ℕ = x .equation in
+      let lj = hj j v n k (x .last) in
+      let lv = hq j v n k (x .last) in
+      let es : List ℕ = members tbl j v in
       let w = ⊎-elim (λ a. absurd (omega (arith, a .0, x .complete))) (λ a. a) (k .withheld) in
-      let (front, s) = last-apart es 0 (omega (arith, ok .members j r lj lr .some)) in
+      let (front, s) = last-apart es 0 (omega (arith, ok .members j v lj lv .some)) in
       let split : es ≡ front ++ (n ∷ []) = s ∙ ap (λ (z : ℕ). front ++ (z ∷ [])) (sym (w .1)) in
-      let once : count (isIt n) (front ++ (n ∷ [])) ≤ 1 = subst (λ (l : List ℕ). count (isIt n) l ≤ 1) split (ascending-once n es (ok .members j r lj lr .ascend)) in
+      let once : count (isIt n) (front ++ (n ∷ [])) ≤ 1 = subst (λ (l : List ℕ). count (isIt n) l ≤ 1) split (ascending-once n es (ok .members j v lj lv .ascend)) in
       let rest : others n es ≡ front = ap (others n) split ∙ others-apart n front [] once ∙ append-nil front in
       let low : every (λ y. ltb y (nOf j)) front ≡ true =
-      subst (λ (l : List ℕ). every (λ y. ltb y (nOf j)) l ≡ true) rest (every-others (λ y. ltb y (nOf j)) n es (members-below depth tbl ok j r lj lr)) in
+      subst (λ (l : List ℕ). every (λ y. ltb y (nOf j)) l ≡ true) rest (every-others (λ y. ltb y (nOf j)) n es (members-below depth tbl ok j v lj lv)) in
       record {
         layer = j;
-        equation-no = r;
+        equation-no = v;
         number = n;
         is-end = q;
-        took = took j r n k (x .last);
-        why = failing j r n k (x .last) w;
+        reported = reported (twins j n) q (λ y. absurd (omega arith));
+        took = took j v n k (x .last);
+        why = failing j v n k (x .last) w;
         shown = record { symbols = x .sized; differ = x .differ; equal = x .hash-first ∙ sym (x .hash-second) };
         first-is = x .first-is ∙ sym (symbol-at (st .tree) j n);
         front = front;
@@ -470,20 +580,65 @@ module _ (depth : ℕ) (root table t m o : List ℕ) (e : repairTested depth roo
         out-rest = x .out-rest;
       }
 
-  four : (z : End) → st .end ≡ z → EndOk tree (symbolHash Plain) root tbl t m o st z
-      → EndsWhole depth root table t m o ⊎ (EndsFault depth root table t m o ⊎ (EndsUnavailable depth root table t m o ⊎ EndsTwins depth root table t m o))
+  abbrev Others : Type 0
+  Others = EndsFault depth r table t m o ⊎ (EndsUnavailable depth r table t m o ⊎ EndsTwins depth r table t m o)
+
+  four : (z : End) → st .end ≡ z → EndOk tree (symbolHash Plain) root tbl t m o st z → WholeTree depth r table t m o ⊎ Others
   four working q x = absurd x
-  four whole q x = inl (ends-whole q x)
-  four (fault j r w n) q x = inr (inl (ends-fault j r w n q x))
+  four whole q x = inl (whole-tree q x)
+  four (fault j v w n) q x = inr (inl (ends-fault j v w n q x))
   four (unavailable j) q x = inr (inr (inl (ends-unavailable j q x)))
   four (twins j n) q x = inr (inr (inr (ends-twins j n q x)))
 
-  repair-so : Repair depth root table t m o
-  repair-so = record { as-the-steps = as-steps; one-of-four = four (st .end) refl (so .ends); every-end = every-end }
+  five : WholeTree depth r table t m o ⊎ Others → EndsWhole depth r table t m o ⊎ (EndsMisfilled depth r table t m o ⊎ Others)
+  five (inl w) = by-test blank (λ f. inl (ends-whole (w .is-end) w f)) (λ f. inr (inl (ends-misfilled (w .is-end) w f)))
+  five (inr z) = inr (inr z)
+
+  -- 13, and nothing else
+  not-13 : (s k : ℕ) (z : End) → repaired depth r table t m o .answer ≡ ended k z → repaired depth r table t m o .answer ≡ misfilled s → ⊥
+  unfolding wayOf
+  not-13 s k z q x = omega (arith, ap wayOf (sym q ∙ x))
+
+  abbrev Misfill : Type 0
+  Misfill = (p : ℕ) × Filling depth r table t m o p × (baseByte depth r table t m o p ≢ 0)
+
+  ends-13 : (s : ℕ) → repaired depth r table t m o .answer ≡ misfilled s → EndsWhole depth r table t m o ⊎ (EndsMisfilled depth r table t m o ⊎ Others)
+      → EndsMisfilled depth r table t m o
+  ends-13 s x (inl k) = absurd (not-13 s _ _ (k .reported) x)
+  ends-13 s x (inr (inl k)) = k
+  ends-13 s x (inr (inr (inl k))) = absurd (not-13 s _ _ (k .reported) x)
+  ends-13 s x (inr (inr (inr (inl k)))) = absurd (not-13 s _ _ (k .reported) x)
+  ends-13 s x (inr (inr (inr (inr k)))) = absurd (not-13 s _ _ (k .reported) x)
+
+  pub is-13 : (s : ℕ) → repaired depth r table t m o .answer ≡ misfilled s → EndsMisfilled depth r table t m o
+  is-13 s x = ends-13 s x (five (four (st .end) refl (so .ends)))
+
+  said-13 : (s : ℕ) → repaired depth r table t m o .answer ≡ misfilled s → (st .end ≡ whole) × (s ≡ st .stored) × Misfill
+  unfolding storedOf
+  said-13 s x = let k = is-13 s x in (k .whole-tree .is-end, ap storedOf (sym x ∙ k .reported), (k .byte, k .in-filling, k .not-zero))
+
+  so-13 : (s : ℕ) → st .end ≡ whole → s ≡ st .stored → Misfill → repaired depth r table t m o .answer ≡ misfilled s
+  unfolding kOf
+  so-13 s q n (p, h, k) =
+      by-test blank
+      (λ f. absurd (k (sym (base-is p (h .1)) ∙ zero-is tree depth (sizeIn r) (st .tree) .0 f p (omega (arith, h .0, block-size r)) (h .1))))
+      (λ f. reported-13 q f ∙ ap misfilled (sym n))
+
+  repair-so : Repair depth r table t m o
+  repair-so =
+      let ends = four (st .end) refl (so .ends) in
+      record {
+        as-the-steps = as-steps;
+        one-of-five = five ends;
+        one-of-four = ends;
+        every-end = every-end;
+        misfilled-just-when = λ s. (said-13 s, λ (q, n, k). so-13 s q n k);
+      }
 
 pub demand-3 : Demand3
 demand-3 =
     record {
       checker = checker;
       repairs = repair-so;
+      stops-just-when = stops-just-when;
     }

@@ -1,7 +1,7 @@
 -- Fault proofs by their bytes: what the checker answers, what a proof holds, and what is written.
 use mathlib.Core.Path.{_≡_, refl, sym, ap, ap₂, _∙_, subst}
 use mathlib.Core.Logic.{_⊎_, inl, inr, ⊎-elim}
-use mathlib.Core.Bool.{true, false, not}
+use mathlib.Core.Bool.{Bool, true, false, not}
 use mathlib.Core.List.{List, []}
 use Prim.Native.Nat.{ℕ, suc, _+_, _*_, _≤_}
 use native.Mathlib.Omega.{arith}
@@ -26,7 +26,7 @@ use Rattle.symbol_hash.specs.declared.Kind.the-variants.{Plain}
 use Rattle.model.specs.Shape.{tree}
 use Rattle.model.specs.Climb.{Ways, allLead, breakAt}
 use Rattle.model.specs.Fault.{proofLayer, proofMembers, proofLength, body, givenXor, afterGiven, headOk, Verdict, accepted, noFault, ruling, waysCheck, pathHash, proofCheck, withheldFits, verdict, InGiven, InPath, ProofHolds}
-use Rattle.model.proofs.Bytes.{same-yes, yes-same}
+use Rattle.octets.proofs.SameLaws.{same-yes, yes-same}
 use Rattle.model.proofs.Ways.{after-at}
 use Rattle.model.proofs.ProofWays.{FirstBreaks, WaysSay, ways-say, ways-are}
 use Rattle.calls.specs.declared.Stop.{Stop}
@@ -35,17 +35,20 @@ use Rattle.calls.specs.declared.Answer.{Answer}
 use Rattle.calls.specs.declared.Answer.the-variants.{Done, Stopped}
 use Rattle.calls.specs.Stops.{numberOf, valuesOf}
 use Rattle.fault_calls.specs.Checking.{proofSized, judged, proofChecked}
-use Rattle.calls.proofs.AdmissionLaws.{TableTaken, admits}
+use Rattle.root_record.specs.Records.{rootIn}
+use Rattle.calls.proofs.AdmissionLaws.{TableTaken}
+use Rattle.calls.proofs.RecordLaws.{admits-by}
 use Rattle.fault_calls.proofs.CheckingLaws.{sizes, judged-so, passed}
-use Rattle.guarantees.specs.Layouts.{bytesFrom, hashFor, XorOf}
-use Rattle.guarantees.specs.Refusals.{TableLength}
+use Rattle.guarantees.specs.Layouts.{bytesFrom, hashFor, XorOf, rootPart}
+use Rattle.guarantees.specs.Refusals.{TableLength, HeadRight, NamesTable}
 use Rattle.guarantees.specs.Answers.{Answered, done, test, unless, two, Just}
 use Rattle.guarantees.specs.Terms.{equationsOf}
 use Rattle.guarantees.specs.FaultProofs.{givenSymbol, Named, given, Exact, path, AllLead, ProofBreaks, Fits, ProofLengths, ProofRight, AcceptsProofJustWhen, proofTests, ProofCheckerAnswers, Holds, HoldsExactly, HoldsItsSymbols, FaultProofs}
 use Rattle.guarantees.proofs.Answers.{all-done, stops-unless, stops-two, passes-unless, passes-two}
 use Rattle.guarantees.specs.Tables.{AllInTwo}
 use Rattle.guarantees.proofs.Tables.{rules-ok, right-formed, formed-right, covered-all, all-covered}
-use Rattle.guarantees.proofs.Refusals.{depth-fits, table-long, long-table, by-admitted}
+use Rattle.guarantees.proofs.Refusals.{depth-fits, table-long, long-table, by-admitted-by}
+use Rattle.guarantees.proofs.Records.{head-right, right-head, names-table, table-named}
 use Rattle.guarantees.proofs.Layouts.{xor-one}
 use Rattle.guarantees.proofs.ProofPlaces.{fromMember, given-xor-of, given-held, held-given, way-leads, leads-way, way-broken, broken-way, way-held, held-way, path-leads, leads-path, path-broken, broken-path, path-hash, path-held, held-path}
 use Rattle.guarantees.proofs.ProofHeads.{named-fitting, as-named, as-read, length-named, named-ok, ok-named}
@@ -193,7 +196,10 @@ module _ (depth : ℕ) (tbl : List (List (List ℕ))) (b : List ℕ) (shallow : 
 
 -- ---- the checker
 
-module _ (depth : ℕ) (root table b : List ℕ) where
+module _ (depth : ℕ) (r table b : List ℕ) where
+  abbrev root : List ℕ
+  root = rootPart r
+
   abbrev ws : List ℕ
   ws = wordsOf table
 
@@ -216,7 +222,7 @@ module _ (depth : ℕ) (root table b : List ℕ) where
   -- an answer by these tests, which is Done of a right proof only
   record By (tests : Answered) (a : Answer) : Type 0 where
     just : Just a tests
-    only : a ≡ Done → ProofRight depth root table b
+    only : a ≡ Done → ProofRight depth r table b
 
   stop : (z : Stop) (k : ℕ) (right : Type 0) (later : Answered) → numberOf (Stopped z) ≡ suc k → valuesOf (Stopped z) ≡ (0, 0) → (right → ⊥)
       → By (test (suc k) (unless right) later) (Stopped z)
@@ -224,12 +230,12 @@ module _ (depth : ℕ) (root table b : List ℕ) where
       record { just = rw (n, v) (stops-unless x); only = λ e. absurd (omega (arith, ap numberOf e)) }
 
   pass : (a : Answer) (k : ℕ) (right : Type 0) (later : Answered) → right → By later a → By (test k (unless right) later) a
-  pass a k right later r y = record { just = passes-unless r (y .just); only = y .only }
+  pass a k right later x y = record { just = passes-unless x (y .just); only = y .only }
 
   abbrev Judged : Answered → Verdict → Type 0
   Judged tests v = By tests (judged v)
 
-  module _ (dr : (1 ≤ depth) × (depth ≤ 9)) (lr : ProofLengths root table b) (f : WellFormed depth ws) (covers : AllInTwo depth tbl) where
+  module _ (dr : (1 ≤ depth) × (depth ≤ 9)) (lr : ProofLengths r table b) (hr : HeadRight depth r) (f : WellFormed depth ws) (covers : AllInTwo depth tbl) (names : NamesTable r table) where
     rules : TableOk depth tbl
     rules = formed-rules depth ws f (dr .1)
 
@@ -248,7 +254,16 @@ module _ (depth : ℕ) (root table b : List ℕ) where
           (record {
             just = all-done;
             only = λ e. record {
-              ready = record { depth-right = dr; lengths-right = lr; table-right = formed-right depth ws f; table-covered = covers; named = h; exact = exact-of h };
+              ready = record {
+                depth-right = dr;
+                lengths-right = lr;
+                head-right = hr;
+                table-right = formed-right depth ws f;
+                table-covered = covers;
+                table-named = names;
+                named = h;
+                exact = exact-of h;
+              };
               all-lead = a;
               differs = n;
             };
@@ -288,60 +303,67 @@ module _ (depth : ℕ) (root table b : List ℕ) where
   abbrev ruled : Answer
   ruled = judged (verdict tree (symbolHash Plain) root tbl b)
 
-  -- the lengths of root, proof and table
-  pub lengths-own : proofSized (length root) (length b) ≡ true → TableLength table → ProofLengths root table b
+  -- the lengths of record, proof and table
+  abbrev own : Bool
+  own = proofSized (length r) (length b)
+
+  pub lengths-own : own ≡ true → TableLength table → ProofLengths r table b
   lengths-own l t =
-      let (r, s) = sizes (length root) (length b) l in
-      record { root-full = r; table-length = t; head-there = s }
+      let (v, w) = sizes (length r) (length b) l in
+      record { record-length = v; table-length = t; head-there = w }
 
-  pub own-lengths : ProofLengths root table b → (proofSized (length root) (length b) ≡ true) × TableLength table
-  own-lengths lr = (yes-and (eq-eqb (length root) 512 (lr .root-full)) (le-leb 12 (length b) (lr .head-there)), lr .table-length)
+  pub own-lengths : ProofLengths r table b → (own ≡ true) × TableLength table
+  own-lengths lr = (yes-and (eq-eqb (length r) 556 (lr .record-length)) (le-leb 12 (length b) (lr .head-there)), lr .table-length)
 
-  checked : Just (proofChecked depth root table b) (proofTests depth root table b)
-  unfolding proofChecked
+  checked : Just (proofChecked depth r table b) (proofTests depth r table b)
+  unfolding proofChecked rootIn
   checked =
-      by-admitted depth (ProofLengths root table b) (proofSized (length root) (length b)) table ruled lengths-own own-lengths
-      (λ f lr w c. at-6 (depth-is depth f) lr (right-formed depth ws w) c .just)
+      by-admitted-by depth (ProofLengths r table b) own r table ruled lengths-own own-lengths
+      (λ f lr hr w c n. at-6 (depth-is depth f) lr hr (right-formed depth ws w) c n .just)
 
-  accepted-right : proofChecked depth root table b ≡ Done → ProofRight depth root table b
+  accepted-right : proofChecked depth r table b ≡ Done → ProofRight depth r table b
+  unfolding rootIn
   accepted-right e =
-      let p = passed depth root table b e in
+      let p = passed depth r table b e in
       let k = p .admits in
       let t = k .taken in
-      at-6 (depth-is depth (t .deep)) (lengths-own (k .lengths) (table-long table (t .length-fits))) (accepted-formed depth ws (t .accepted) .1)
-      (covered-all depth tbl (found-covered depth tbl (accepted-table depth ws (t .accepted)) (t .covered))) .only
+      at-6 (depth-is depth (t .deep)) (lengths-own (k .lengths) (table-long table (t .length-fits))) (head-right depth r (k .head))
+      (accepted-formed depth ws (t .accepted) .1)
+      (covered-all depth tbl (found-covered depth tbl (accepted-table depth ws (t .accepted)) (t .covered))) (names-table r table (k .named)) .only
       (ap judged (p .accepts))
 
   -- a right proof is accepted
-  right-done : ProofRight depth root table b → proofChecked depth root table b ≡ Done
-  unfolding verdict ruling
+  right-done : ProofRight depth r table b → proofChecked depth r table b ≡ Done
+  unfolding verdict ruling rootIn
   right-done x =
-      let r = x .ready in
-      let t : depthFits depth ≡ true = depth-fits depth (r .depth-right) in
-      let lr = r .lengths-right in
-      let whole : readOf depth ws ≡ Whole = formed-accepted depth ws t (right-formed depth ws (r .table-right)) in
-      let o : TableOk depth tbl = formed-rules depth ws (right-formed depth ws (r .table-right)) (r .depth-right .1) in
-      let h = r .named in
+      let y = x .ready in
+      let t : depthFits depth ≡ true = depth-fits depth (y .depth-right) in
+      let lr = y .lengths-right in
+      let whole : readOf depth ws ≡ Whole = formed-accepted depth ws t (right-formed depth ws (y .table-right)) in
+      let o : TableOk depth tbl = formed-rules depth ws (right-formed depth ws (y .table-right)) (y .depth-right .1) in
+      let h = y .named in
       let unfit : withheldFits tree (symbolHash Plain) root tbl b ≡ false =
-      by-test (withheldFits tree (symbolHash Plain) root tbl b) (λ u. absurd (x .differs (fits-named depth tbl b (r .depth-right .1) o h root (r .exact) u))) (λ u. u) in
+      by-test (withheldFits tree (symbolHash Plain) root tbl b) (λ u. absurd (x .differs (fits-named depth tbl b (y .depth-right .1) o h root (y .exact) u))) (λ u. u) in
       let k : TableTaken depth table = record {
         deep = t;
         length-fits = long-table table (lr .table-length);
         accepted = whole;
-        covered = covered-found depth tbl o (all-covered depth tbl (r .table-covered));
+        covered = covered-found depth tbl o (all-covered depth tbl (y .table-covered));
       } in
-      sym (judged-so depth root table b (admits depth (proofSized (length root) (length b)) table k (own-lengths lr .0)))
+      sym (judged-so depth r table b
+      (admits-by depth own r table
+      (record { lengths = own-lengths lr .0; head = right-head depth r (y .head-right); taken = k; named = table-named r table (y .table-named) })))
       ∙ ap judged
-      (pick-no _ _ _ (ap not (named-ok depth tbl b (r .depth-right .1) o h))
-      ∙ pick-no _ _ _ (ap not (eq-eqb (length b) _ (r .exact ∙ sym (length-named depth tbl b (r .depth-right .1) o h))))
-      ∙ ap₂ ruling (named-lead depth tbl b (r .depth-right .1) o h root (x .all-lead)) unfit
+      (pick-no _ _ _ (ap not (named-ok depth tbl b (y .depth-right .1) o h))
+      ∙ pick-no _ _ _ (ap not (eq-eqb (length b) _ (y .exact ∙ sym (length-named depth tbl b (y .depth-right .1) o h))))
+      ∙ ap₂ ruling (named-lead depth tbl b (y .depth-right .1) o h root (x .all-lead)) unfit
       ∙ pick-no false _ _ refl)
 
 accepts-just-when : AcceptsProofJustWhen
-accepts-just-when depth root table b = (accepted-right depth root table b, right-done depth root table b)
+accepts-just-when depth r table b = (accepted-right depth r table b, right-done depth r table b)
 
 checker-answers : ProofCheckerAnswers
-checker-answers depth root table b = checked depth root table b
+checker-answers depth r table b = checked depth r table b
 
 -- ---- what a proof holds
 

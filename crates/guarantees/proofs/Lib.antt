@@ -5,6 +5,7 @@ pub mod Tables
 pub mod Trees
 pub mod Membership
 pub mod Marks
+pub mod Records
 pub mod Refusals
 pub mod ProofPlaces
 pub mod ProofHeads
@@ -22,4 +23,5 @@ pub mod Cases
 pub mod Change1
 pub mod Pages
 pub mod Change4
+pub mod Change5
 pub mod Change6

@@ -31,6 +31,7 @@ use Rattle.house_table.proofs.HouseCovered.{house-mentions}
 use Rattle.table_bytes.proofs.RoundTrip.{every-append, table-bytes-say}
 use Rattle.symbol_hash.specs.SymbolHash.{symbolHash}
 use Rattle.symbol_hash.specs.declared.Kind.the-variants.{Plain}
+use Rattle.heads.specs.Heads.{head}
 use Rattle.model.specs.Shape.{tree}
 use Rattle.model.specs.Symbols.{joined, zeros, xorOf, others, slot, committed}
 use Rattle.model.specs.Fault.{reached, wayBytes, givenBytes, pathBytes, proofBytes, proofLength, proofMembers, verdict}
@@ -42,12 +43,15 @@ use Rattle.model.proofs.FaultWriter.{GoodProof, proof-good}
 use Rattle.model.proofs.Sound.{accepted-is}
 use Rattle.calls.specs.declared.Answer.the-variants.{Done}
 use Rattle.fault_calls.specs.Checking.{proofSized, judged, proofChecked}
-use Rattle.calls.proofs.AdmissionLaws.{TableTaken, admits}
+use Rattle.root_record.specs.Records.{recordOf, rootIn, headRight, namesTable}
+use Rattle.root_record.proofs.RecordLaws.{record-length, record-root, record-right, record-names}
+use Rattle.calls.proofs.AdmissionLaws.{TableTaken}
+use Rattle.calls.proofs.RecordLaws.{admits-by}
 use Rattle.calls.proofs.Taken.{taken-table}
 use Rattle.fault_calls.proofs.CheckingLaws.{judged-so}
 use Rattle.guarantees.specs.Terms.{equationsOf}
 use Rattle.guarantees.specs.Cases.{AreBytes, AcceptedOf}
-use Rattle.guarantees.proofs.Refusals.{depth-fits}
+use Rattle.guarantees.proofs.Refusals.{depth-fits, table-long}
 use Rattle.guarantees.proofs.ProofHeads.{Fitting, fitting}
 
 -- ---- a table with another equation e of layer j
@@ -377,13 +381,41 @@ module _ (a : ℕ) (some : 1 ≤ a) (few : a ≤ 7) where
       let ms : proofMembers wide proof ≡ eight = ap₂ (equationOf wide) (g .layer-is) (g .equation-is) ∙ wide-eight in
       accepted-is tree (symbolHash Plain) root wide proof (g .accepts) .exact ∙ ap₂ (λ (j : ℕ) (l : List ℕ). proofLength j (length l)) (g .layer-is) ms
 
-  checked : proofChecked depth root table proof ≡ Done
+  -- the record of this root and table; the length of the block doesn't matter
+  root-record : List ℕ
+  root-record = recordOf depth 0 table root
+
+  record-full : length root-record ≡ 556
+  unfolding root-record
+  record-full = record-length depth 0 table root root-length
+
+  root-is : rootIn root-record ≡ root
+  unfolding root-record
+  root-is = record-root depth 0 table root
+
+  count-small : length table / 4 < 2 ^ 30
+  count-small = omega (arith, table-long table (taken .length-fits) .not-over)
+
+  head-so : headRight depth root-record ≡ true
+  unfolding root-record
+  head-so = record-right depth 0 table root deep (omega arith) count-small
+
+  named-so : namesTable root-record table ≡ true
+  unfolding root-record
+  named-so = record-names depth 0 table root deep (omega arith) count-small
+
+  checked : proofChecked depth root-record table proof ≡ Done
   unfolding proofLength
   checked =
-      sym (judged-so depth root table proof
-      (admits depth (proofSized (length root) (length proof)) table taken
-      (yes-and (eq-eqb (length root) 512 root-length) (le-leb 12 (length proof) (omega (arith, proof-length))))))
-      ∙ ap (λ (tbl : List (List (List ℕ))). judged (verdict tree (symbolHash Plain) root tbl proof)) says
+      sym (judged-so depth root-record table proof
+      (admits-by depth (proofSized (length root-record) (length proof)) root-record table
+      (record {
+        lengths = yes-and (eq-eqb (length root-record) 556 record-full) (le-leb 12 (length proof) (omega (arith, proof-length)));
+        head = head-so;
+        taken = taken;
+        named = named-so;
+      })))
+      ∙ ap₂ (λ (x : List ℕ) (tbl : List (List (List ℕ))). judged (verdict tree (symbolHash Plain) x tbl proof)) root-is says
       ∙ ap judged (good .accepts)
 
   bytes-way : (j i : ℕ) → AreBytes (wayBytes tree symbol j i)
@@ -396,21 +428,27 @@ module _ (a : ℕ) (some : 1 ≤ a) (few : a ≤ 7) where
   bytes-given (y ∷ ys) = bytes-append (wayBytes tree symbol base y) (givenBytes tree symbol base ys) (bytes-way base y) (bytes-given ys)
 
   bytes-proof : AreBytes proof
-  unfolding proof proofBytes pathBytes
+  unfolding proof proofBytes head pathBytes
   bytes-proof =
-      bytes-append _ _ (bytes-be 4 (word 1 base)) (bytes-append _ _ (bytes-be 4 (word 2 0)) (bytes-append _ _ (bytes-be 4 (word 3 last))
-      (bytes-append _ _ (bytes-given (others last (equationOf wide base 0))) (bytes-way a (last % kOf a)))))
+      bytes-append _ _ (bytes-append _ _ (bytes-be 4 (word 1 base)) (bytes-append _ _ (bytes-be 4 (word 2 0)) (bytes-be 4 (word 3 last))))
+      (bytes-append _ _ (bytes-given (others last (equationOf wide base 0))) (bytes-way a (last % kOf a)))
 
   -- ---- the case
 
+  bytes-record : AreBytes root-record
+  unfolding root-record recordOf head root
+  bytes-record =
+      bytes-append _ _ (bytes-append _ _ (bytes-be 4 (word 1 depth)) (bytes-append _ _ (bytes-be 4 (word 2 0)) (bytes-be 4 (word 3 (length table / 4)))))
+      (bytes-append _ _ (bytes-digest table) (bytes-joined (hashIn base) (bytes-hash base) 16 0))
+
   pub longest-accepted : AcceptedOf depth (proofLength base 8)
-  unfolding root table
+  unfolding table
   longest-accepted =
       record {
-        root = root;
+        root-record = root-record;
         table = table;
         proof = proof;
-        are-bytes = (bytes-joined (hashIn base) (bytes-hash base) 16 0, bytes-words (tableWords wide), bytes-proof);
+        are-bytes = (bytes-record, bytes-words (tableWords wide), bytes-proof);
         accepts = checked;
         sized = proof-length;
       }

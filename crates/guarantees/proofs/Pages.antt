@@ -15,7 +15,7 @@ use Rattle.parity_table.specs.Shape.{kOf, nOf}
 use Rattle.model.specs.Shape.{tree}
 use Rattle.model.specs.Sampling.{sampleNumber, dataNo}
 use Rattle.model.proofs.Shapes.{tree-ok}
-use Rattle.model.proofs.Bytes.{same-yes, yes-same}
+use Rattle.octets.proofs.SameLaws.{same-yes, yes-same}
 use Rattle.model.proofs.Samples.{data-layer, data-number, data-under, places-are}
 use Rattle.guarantees.specs.Layouts.{bytesFrom, symbolNo, dataSymbols, allSymbols, spread, hashFor, sampledLayer, sampledNumber, upFrom}
 use Rattle.guarantees.specs.Trees.{AgreesWith, Twins}

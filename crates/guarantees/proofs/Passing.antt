@@ -1,4 +1,4 @@
--- What a call has passed that stops at a later test, or at none: tests 1 and 2, and those of a table.
+-- What a call has passed that stops at a later test, or at none: tests 1, 2 and 11, and those of a table.
 use mathlib.Core.Path.{_≡_, refl, sym, _∙_}
 use mathlib.Core.Bool.{Bool, true, true≢false, _&&_}
 use mathlib.Core.List.{List}
@@ -9,10 +9,12 @@ use Rattle.parity_table.specs.Shape.{depthFits}
 use Rattle.parity_table.specs.Parse.{tableOf}
 use Rattle.parity_table.proofs.Parse.{formed-rules}
 use Rattle.table_bytes.specs.Bytes.{lengthFits}
+use Rattle.root_record.specs.Records.{headRight, namesTable}
 use Rattle.guarantees.specs.Answers.{test, fails, holds, unless}
 use Rattle.guarantees.specs.Tables.{TableRight, FirstWrongWord, AllInTwo, FirstNotInTwo}
-use Rattle.guarantees.specs.Refusals.{DepthRight, TableLength, takesWords}
+use Rattle.guarantees.specs.Refusals.{DepthRight, TableLength, HeadRight, NamesTable, takesWords}
 use Rattle.guarantees.proofs.Answers.{past, past-so}
+use Rattle.guarantees.proofs.Records.{head-right, right-head, names-table, table-named}
 use Rattle.guarantees.proofs.Tables.{right-formed}
 use Rattle.guarantees.proofs.Refusals.{depth-right, depth-fits, words-cases, cover-cases, table-long, long-table}
 
@@ -55,27 +57,46 @@ module _ (d : ℕ) (ws : List ℕ) (f : depthFits d ≡ true) where
     left-words w c (holds x (fails e y)) = absurd (not-thin c (v .0) (v .1) (y .are))
     left-words w c (holds x (holds y l)) = l
 
--- ---- the tests before these: a call that stops with another number has passed them, by what they ask
-
-pub record Front (d : ℕ) (before : Type 0) (tests later : ℕ → ℕ × ℕ → Type 0) : Type 0 where
-  pub deep : before → depthFits d ≡ true
-  pub into : {n : ℕ} {v : ℕ × ℕ} → (1 ≡ n → ⊥) → (2 ≡ n → ⊥) → tests n v → before × later n v
-  pub back : {n : ℕ} {v : ℕ × ℕ} → (1 ≡ n → ⊥) → (2 ≡ n → ⊥) → before → later n v → tests n v
+-- ---- the tests before these, 1, 2 and 11: a call that stops with another number has passed them, by what they ask
 
 pub depth-stable : (d : ℕ) → Stable (DepthRight d)
 depth-stable d = decided (depthFits d) (depth-right d) (depth-fits d)
 
-pub depth-front : (d : ℕ) {later : ℕ → ℕ × ℕ → Type 0} → Front d (DepthRight d) (test 1 (unless (DepthRight d)) later) later
-depth-front d = record { deep = depth-fits d; into = λ o q t. past o (depth-stable d) t; back = λ o q r l. past-so o r l }
+pub head-stable : (d : ℕ) (r : List ℕ) → Stable (HeadRight d r)
+head-stable d r = decided (headRight d r) (head-right d r) (right-head d r)
 
--- and the lengths
+module _ (d : ℕ) {R : Type 0} {later : ℕ → ℕ × ℕ → Type 0} {n : ℕ} {v : ℕ × ℕ} (o : 1 ≡ n → ⊥) (q : 2 ≡ n → ⊥) where
+  pub past-lengths : Stable R → test 1 (unless (DepthRight d)) (test 2 (unless R) later) n v → DepthRight d × R × later n v
+  past-lengths so t = let (r, l) = past o (depth-stable d) t in let (s, m) = past q so l in (r, s, m)
+
+  pub past-lengths-so : DepthRight d → R → later n v → test 1 (unless (DepthRight d)) (test 2 (unless R) later) n v
+  past-lengths-so r s l = past-so o r (past-so q s l)
+
+pub record Front (d : ℕ) (before : Type 0) (tests later : ℕ → ℕ × ℕ → Type 0) : Type 0 where
+  pub deep : before → depthFits d ≡ true
+  pub into : {n : ℕ} {v : ℕ × ℕ} → (1 ≡ n → ⊥) → (2 ≡ n → ⊥) → (11 ≡ n → ⊥) → tests n v → before × later n v
+  pub back : {n : ℕ} {v : ℕ × ℕ} → (1 ≡ n → ⊥) → (2 ≡ n → ⊥) → (11 ≡ n → ⊥) → before → later n v → tests n v
+
+-- 1 alone; 1 and 2; 1, 2 and 11
+pub depth-front : (d : ℕ) {later : ℕ → ℕ × ℕ → Type 0} → Front d (DepthRight d) (test 1 (unless (DepthRight d)) later) later
+depth-front d = record { deep = depth-fits d; into = λ o q z t. past o (depth-stable d) t; back = λ o q z r l. past-so o r l }
+
 pub lengths-front : (d : ℕ) {R : Type 0} {later : ℕ → ℕ × ℕ → Type 0} → Stable R
     → Front d (DepthRight d × R) (test 1 (unless (DepthRight d)) (test 2 (unless R) later)) later
 lengths-front d so =
     record {
-      deep = λ r. depth-fits d (r .0);
-      into = λ o q t. let (r, l) = past o (depth-stable d) t in let (s, m) = past q so l in ((r, s), m);
-      back = λ o q r l. past-so o (r .0) (past-so q (r .1) l);
+      deep = λ b. depth-fits d (b .0);
+      into = λ o q z t. let (r, s, l) = past-lengths d o q so t in ((r, s), l);
+      back = λ o q z b l. past-lengths-so d o q (b .0) (b .1) l;
+    }
+
+pub head-front : (d : ℕ) (r : List ℕ) {R : Type 0} {later : ℕ → ℕ × ℕ → Type 0} → Stable R
+    → Front d (DepthRight d × R × HeadRight d r) (test 1 (unless (DepthRight d)) (test 2 (unless R) (test 11 (unless (HeadRight d r)) later))) later
+head-front d r so =
+    record {
+      deep = λ b. depth-fits d (b .0);
+      into = λ o q z t. let (k, s, l) = past-lengths d o q so t in let (h, m) = past z (head-stable d r) l in ((k, s, h), m);
+      back = λ o q z b l. past-lengths-so d o q (b .0) (b .1) (past-so z (b .2) l);
     }
 
 pub table-stable : (table : List ℕ) → Stable (TableLength table)
@@ -87,3 +108,8 @@ both-stable sized table said seen =
     decided (sized && lengthFits (length table))
     (λ t. let (p, q) = and-yes sized (lengthFits (length table)) t in said p (table-long table q))
     (λ r. let (p, q) = seen r in yes-and p (long-table table q))
+
+-- ---- test 12
+
+pub names-stable : (r table : List ℕ) → Stable (NamesTable r table)
+names-stable r table = decided (namesTable r table) (names-table r table) (table-named r table)

@@ -2,20 +2,20 @@
 use mathlib.Core.Path.{_≡_, sym, ap, ap₂, _∙_, subst}
 use mathlib.Core.Bool.{true, _&&_}
 use mathlib.Core.List.{List, _∷_, _++_}
-use Prim.Native.Nat.{ℕ, suc, _+_, _-_, _*_, _/_, _%_, _^_, _≤_, _<_}
-use native.Mathlib.Nat.{div-add-mod'}
+use Prim.Native.Nat.{ℕ, suc, _+_, _-_, _*_, _^_, _≤_, _<_}
 use native.Mathlib.Omega.{arith}
 use lib.ListN.{length, length-append}
 use lib.Dec.{leb, ltb, eqb}
 use borrow.Author.Tests.{ltb-true, eqb-true, lt-ltb, le-leb, eq-eqb}
-use Rattle.octets.specs.BigEndian.{wordAt}
 use Rattle.octets.proofs.Choice.{and-yes, yes-and}
 use Rattle.parity_table.specs.Shape.{nOf}
 use Rattle.parity_table.specs.Members.{every}
 use Rattle.parity_table.specs.Table.{layerOf, equationOf, TableOk}
+use Rattle.heads.specs.Heads.{kindAt, valueAt}
+use Rattle.heads.proofs.HeadLaws.{read-kind, read-value, word-read}
 use Rattle.model.specs.Shape.{tree}
 use Rattle.model.specs.Symbols.{others, count}
-use Rattle.model.specs.Fault.{kindAt, valueAt, proofLayer, proofEquation, proofWithheld, proofLength, proofMembers, proofGiven, layerOk, equationOk, memberOk, headOk}
+use Rattle.model.specs.Fault.{proofLayer, proofEquation, proofWithheld, proofLength, proofMembers, proofGiven, layerOk, equationOk, memberOk, headOk}
 use Rattle.model.proofs.Counts.{isIt, ascending-once, every-member, every-others, counted-member}
 use Rattle.model.proofs.Tables.{TableLaws, table-laws}
 use Rattle.model.proofs.Sound.{head-names}
@@ -28,18 +28,14 @@ use Rattle.guarantees.proofs.Membership.{member-apart, count-apart, oth
 -- ---- words of the head
 
 module _ (b : List ℕ) (i kind v : ℕ) (e : wordNo b i ≡ kindValue kind v) (small : v < 2 ^ 30) where
-  read-kind : kindAt b i ≡ kind
-  unfolding kindAt
-  read-kind = ap (λ (w : ℕ). w / 2 ^ 30) (sym (word-at b i) ∙ e) ∙ omega arith
+  kind-is : kindAt b i ≡ kind
+  kind-is = read-kind b i kind v (sym (word-at b i) ∙ e) small
 
-  read-value : valueAt b i ≡ v
-  unfolding valueAt
-  read-value = ap (λ (w : ℕ). w % 2 ^ 30) (sym (word-at b i) ∙ e) ∙ omega arith
+  value-is : valueAt b i ≡ v
+  value-is = read-value b i kind v (sym (word-at b i) ∙ e) small
 
-word-read : (b : List ℕ) (i kind : ℕ) → kindAt b i ≡ kind → wordNo b i ≡ kindValue kind (valueAt b i)
-unfolding kindAt valueAt
-word-read b i kind e =
-    word-at b i ∙ sym (div-add-mod' (wordAt b (4 * i)) (2 ^ 30)) ∙ ap (λ (k : ℕ). k * 2 ^ 30 + wordAt b (4 * i) % 2 ^ 30) e
+word-is : (b : List ℕ) (i kind : ℕ) → kindAt b i ≡ kind → wordNo b i ≡ kindValue kind (valueAt b i)
+word-is b i kind e = word-at b i ∙ word-read b i kind e
 
 -- ---- an equation and a member of it, which a table has
 
@@ -93,15 +89,15 @@ module _ (depth : ℕ) (tbl : List (List (List ℕ))) (b : List ℕ) (shallow : 
 
     pub is-layer : proofLayer b ≡ h .layer
     unfolding proofLayer
-    is-layer = read-value b 0 1 (h .layer) (h .head .layer-word) (named-fitting .small-layer)
+    is-layer = value-is b 0 1 (h .layer) (h .head .layer-word) (named-fitting .small-layer)
 
     pub is-equation : proofEquation b ≡ h .equation
     unfolding proofEquation
-    is-equation = read-value b 1 2 (h .equation) (h .head .equation-word) (named-fitting .small-equation)
+    is-equation = value-is b 1 2 (h .equation) (h .head .equation-word) (named-fitting .small-equation)
 
     pub is-withheld : proofWithheld b ≡ h .withheld
     unfolding proofWithheld
-    is-withheld = read-value b 2 3 (h .withheld) (h .head .withheld-word) (named-fitting .small-member)
+    is-withheld = value-is b 2 3 (h .withheld) (h .head .withheld-word) (named-fitting .small-member)
 
     pub is-members : proofMembers tbl b ≡ ms
     unfolding proofMembers layerOf equationOf
@@ -133,11 +129,11 @@ module _ (depth : ℕ) (tbl : List (List (List ℕ))) (b : List ℕ) (shallow : 
     unfolding headOk layerOk equationOk memberOk layerOf equationOf
     named-ok =
         yes-and
-        (yes-and (eq-eqb _ 1 (read-kind b 0 1 (h .layer) (h .head .layer-word) (named-fitting .small-layer))) (lt-ltb _ (length tbl) (omega (arith, is-layer, named-fitting .in-table))))
+        (yes-and (eq-eqb _ 1 (kind-is b 0 1 (h .layer) (h .head .layer-word) (named-fitting .small-layer))) (lt-ltb _ (length tbl) (omega (arith, is-layer, named-fitting .in-table))))
         (yes-and
-        (yes-and (eq-eqb _ 2 (read-kind b 1 2 (h .equation) (h .head .equation-word) (named-fitting .small-equation)))
+        (yes-and (eq-eqb _ 2 (kind-is b 1 2 (h .equation) (h .head .equation-word) (named-fitting .small-equation)))
         (ap₂ (λ (e j : ℕ). ltb e (length (layerOf tbl j))) is-equation is-layer ∙ lt-ltb (h .equation) _ (named-fitting .in-layer)))
-        (yes-and (eq-eqb _ 3 (read-kind b 2 3 (h .withheld) (h .head .withheld-word) (named-fitting .small-member)))
+        (yes-and (eq-eqb _ 3 (kind-is b 2 3 (h .withheld) (h .head .withheld-word) (named-fitting .small-member)))
         (ap₂ (λ (x : ℕ) (l : List ℕ). leb 1 (count (isIt x) l)) is-withheld is-members ∙ le-leb 1 _ (named-fitting .member))))
 
   -- ---- a head that passes names them
@@ -158,9 +154,9 @@ module _ (depth : ℕ) (tbl : List (List (List ℕ))) (b : List ℕ) (shallow : 
         front = front;
         back = back;
         head = record {
-          layer-word = word-read b 0 1 (eqb-true (kindAt b 0) 1 (and-yes (eqb (kindAt b 0) 1) _ t₁ .0));
-          equation-word = word-read b 1 2 (eqb-true (kindAt b 1) 2 (and-yes (eqb (kindAt b 1) 2) _ t₂ .0));
-          withheld-word = word-read b 2 3 (eqb-true (kindAt b 2) 3 (and-yes (eqb (kindAt b 2) 3) _ t₃ .0));
+          layer-word = word-is b 0 1 (eqb-true (kindAt b 0) 1 (and-yes (eqb (kindAt b 0) 1) _ t₁ .0));
+          equation-word = word-is b 1 2 (eqb-true (kindAt b 1) 2 (and-yes (eqb (kindAt b 1) 2) _ t₂ .0));
+          withheld-word = word-is b 2 3 (eqb-true (kindAt b 2) 3 (and-yes (eqb (kindAt b 2) 3) _ t₃ .0));
         };
         has-layer = in-depth;
         has-equation = omega (arith, n .equation-ok, o .equations (proofLayer b) in-depth, data-symbols (proofLayer b));

@@ -6,19 +6,21 @@ use Prim.Native.Nat.{ℕ, zero, suc, _+_, _-_, _*_, _%_, _≤_, _<_}
 use native.Mathlib.Omega.{arith}
 use lib.ListN.{length, getD, drop, length-append}
 use lib.Seq.{drop-drop}
-use lib.Dec.{ltb, lit<}
+use lib.Dec.{ltb}
 use borrow.Author.Tests.{ltb-true}
-use Rattle.octets.specs.BigEndian.{be, wordAt}
+use Rattle.octets.specs.BigEndian.{wordAt}
 use Rattle.octets.proofs.Choice.{and-yes}
 use Rattle.parity_table.specs.Shape.{nOf}
 use Rattle.parity_table.specs.Members.{every}
-use Rattle.parity_table.specs.Table.{layerOf, word, equationOf}
+use Rattle.parity_table.specs.Table.{layerOf, equationOf}
+use Rattle.heads.specs.Heads.{head}
+use Rattle.heads.proofs.HeadLaws.{length-head, head-words, after-head}
 use Rattle.model.specs.Shape.{tree}
 use Rattle.model.specs.Symbols.{symbolIn, others}
 use Rattle.model.specs.Fault.{reached, wayBytes, givenBytes, pathBytes, proofBytes, next, afterGiven}
 use Rattle.model.proofs.Shapes.{tree-ok, up-lt}
 use Rattle.model.proofs.Ways.{reached-past, after-at}
-use Rattle.model.proofs.FaultWriter.{word-0, way-symbol, path-length, given-split, given-next, given-length, given-after}
+use Rattle.model.proofs.FaultWriter.{way-symbol, path-length, given-split, given-next, given-length, given-after}
 use Rattle.guarantees.specs.Layouts.{upFrom, kindValue}
 use Rattle.guarantees.specs.FaultProofs.{givenSymbol, withheldSymbol, WritesLayout}
 use Rattle.guarantees.proofs.Tables.{rules-ok}
@@ -80,31 +82,34 @@ module _ (f : ℕ → ℕ → List ℕ) (j : ℕ) (sized : (l i : ℕ) → l ≤
     abbrev rest : List ℕ
     rest = givenBytes tree f j ys ++ pathBytes tree f j x
 
-    after-head : drop 12 bytes ≡ rest
-    unfolding proofBytes be
-    after-head = refl
+    past-head : drop 12 bytes ≡ rest
+    unfolding proofBytes
+    past-head = after-head j e x rest
+
+    words : (wordAt bytes 0 ≡ kindValue 1 j) × (wordAt bytes 4 ≡ kindValue 2 e) × (wordAt bytes 8 ≡ kindValue 3 x)
+    unfolding proofBytes
+    words = head-words j e x rest (fit .small-layer) (fit .small-equation) (fit .small-member)
 
     pub word-layer : wordAt bytes 0 ≡ kindValue 1 j
-    unfolding proofBytes
-    word-layer = word-0 1 j _ (lit< tt) (fit .small-layer)
+    word-layer = words .0
 
     pub word-equation : wordAt bytes 4 ≡ kindValue 2 e
-    unfolding proofBytes wordAt be
-    word-equation = word-0 2 e (be 4 (word 3 x) ++ rest) (lit< tt) (fit .small-equation)
+    word-equation = words .1
 
     pub word-withheld : wordAt bytes 8 ≡ kindValue 3 x
-    unfolding proofBytes wordAt be
-    word-withheld = word-0 3 x rest (lit< tt) (fit .small-member)
+    word-withheld = words .2
 
     count : length ms - 1 ≡ length ys
     count = fit .given-count ∙ ap length (sym (fit .given-are))
 
     pub bytes-length : length bytes ≡ 12 + 256 * ((length ms - 1) * (j + 1) + j)
-    unfolding proofBytes be
+    unfolding proofBytes
     bytes-length =
         omega (
           arith,
           ap (λ (n : ℕ). n * (j + 1)) count,
+          length-append (head j e x) rest,
+          length-head j e x,
           length-append (givenBytes tree f j ys) (pathBytes tree f j x),
           given-length tree (tree-ok .shape) f j sized inLayer below ys (fit .given-below),
           path-length tree (tree-ok .shape) f j sized j x (omega arith),
@@ -114,7 +119,7 @@ module _ (f : ℕ → ℕ → List ℕ) (j : ℕ) (sized : (l i : ℕ) → l ≤
     written-given p u h k =
         let n : length ys ≡ length (front ++ back) = ap length (fit .given-are) in
         sym (given-symbol bytes j p u)
-        ∙ ap (λ (c : List ℕ). symbolIn c u) (sym (drop-drop (256 * (p * suc j)) 12 bytes) ∙ ap (drop (256 * (p * suc j))) after-head)
+        ∙ ap (λ (c : List ℕ). symbolIn c u) (sym (drop-drop (256 * (p * suc j)) 12 bytes) ∙ ap (drop (256 * (p * suc j))) past-head)
         ∙ given-at ys (pathBytes tree f j x) (fit .given-below) p u (omega arith) k
         ∙ ap (λ (l : List ℕ). f (j - u) (reached tree j (getD l p 0) u)) (fit .given-are)
         ∙ ap (f (j - u)) (sym (up-from j (getD (front ++ back) p 0) u k))
@@ -125,7 +130,7 @@ module _ (f : ℕ → ℕ → List ℕ) (j : ℕ) (sized : (l i : ℕ) → l ≤
         ap (λ (l : List ℕ). withheldSymbol bytes j (length l) (suc u)) (sym (fit .given-are))
         ∙ sym (withheld-symbol bytes j (length ys) u)
         ∙ ap (λ (c : List ℕ). symbolIn c u)
-        (sym (after-at bytes j ys 12) ∙ ap (afterGiven j ys) after-head
+        (sym (after-at bytes j ys 12) ∙ ap (afterGiven j ys) past-head
         ∙ given-after tree (tree-ok .shape) f j sized inLayer below ys (pathBytes tree f j x) (fit .given-below))
         ∙ path-at j x u (omega arith) k
         ∙ ap (f (j - suc u)) (sym (up-from j x (suc u) k))

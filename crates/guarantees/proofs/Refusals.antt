@@ -46,14 +46,15 @@ use Rattle.sampling.specs.declared.Found.the-variants.{At, Nothing}
 use Rattle.sampling.specs.Absent.{absent, foundBelow, firstAbsent}
 use Rattle.sampling.specs.Lent.{BaseSymbol}
 use Rattle.sampling.proofs.SymbolLaws.{sample-place-lt}
+use Rattle.root_record.specs.Records.{rootIn, headRight, namesTable}
 use Rattle.calls.specs.declared.Stop.{Stop}
-use Rattle.calls.specs.declared.Stop.the-variants.{Depth, Length, Table, Mark, Number, Head, Hash, NoFault, Absent, Uncovered}
+use Rattle.calls.specs.declared.Stop.the-variants.{Depth, Length, Table, Mark, Number, Head, Hash, NoFault, Absent, Uncovered, Record, OtherTable}
 use Rattle.calls.specs.declared.Answer.{Answer}
 use Rattle.calls.specs.declared.Answer.the-variants.{Done, Stopped}
 use Rattle.calls.specs.Stops.{numberOf, valuesOf}
 use Rattle.calls.specs.Marks.{isBad}
-use Rattle.calls.specs.Lengths.{treeSized, blockSized, rootSized, sampleSized}
-use Rattle.calls.specs.Tests.{_then_, testDepth, testLengths, readAnswer, coverAnswer, testMarks, testNumber, opened, wordsTested, admitted}
+use Rattle.calls.specs.Lengths.{treeSized, blockFits, blockSized, recordSized, sampleSized}
+use Rattle.calls.specs.Tests.{_then_, testDepth, testLengths, testHead, readAnswer, coverAnswer, testNamed, testMarks, testNumber, opened, headed, wordsTested, admitted, admittedBy}
 use Rattle.volume_calls.specs.Reading.{readSized, testBase, blockRead}
 use Rattle.volume_calls.specs.Writing.{writeSized, treeWritten}
 use Rattle.sample_calls.specs.Checking.{checkSized, led, sampleChecked}
@@ -64,14 +65,15 @@ use Rattle.volume_calls.proofs.ReadingLaws.{answer-is as block-answer}
 use Rattle.sample_calls.proofs.CheckingLaws.{sizes as check-sizes}
 use Rattle.sample_calls.proofs.TakingLaws.{answer-is as sample-answer}
 use Rattle.cedunmi_c.specs.Result.{hashAnswer}
-use Rattle.guarantees.specs.Layouts.{bytesFrom, dataSymbols, treeSymbols, markAt, hashFor, sampledLayer, sampledNumber}
+use Rattle.guarantees.specs.Layouts.{bytesFrom, dataSymbols, treeSymbols, markAt, hashFor, sampledLayer, sampledNumber, rootPart}
 use Rattle.guarantees.specs.Tables.{TableRight, FirstWrongWord, AllInTwo, FirstNotInTwo}
 use Rattle.guarantees.specs.Answers.{done, test, unless, one, two, Just}
 use Rattle.guarantees.specs.Terms.{equationsOf}
-use Rattle.guarantees.specs.Refusals.{LowestOf, DepthRight, TableLength, TreeLengths, BlockLength, RootLength, SampleLength, BadMark, AbsentSampled, InBase, dataOfSample, AllHashesLead, SampleFits, SampleBreaks, hashTests, takesWords, takesTable, wordsTests, tableTests, houseTests, WriterLengths, writerTests, blockTests, samplerTests, sampleTests, RepairLengths, repairTests, Refusals}
+use Rattle.guarantees.specs.Refusals.{LowestOf, DepthRight, TableLength, TreeLengths, BlockLength, RecordLength, SampleLength, HeadRight, NamesTable, BadMark, AbsentSampled, InBase, dataOfSample, AllHashesLead, SampleFits, SampleBreaks, hashTests, takesWords, takesTable, takesNamed, wordsTests, tableTests, houseTests, WriterLengths, writerTests, blockTests, samplerTests, sampleTests, RepairLengths, repairTests, Refusals}
 use Rattle.guarantees.proofs.Answers.{all-done, stops-unless, stops-one, stops-two, passes-unless, passes-one, passes-two}
 use Rattle.guarantees.proofs.Layouts.{tree-symbols, mark-at, hash-for}
 use Rattle.guarantees.proofs.Marks.{all-right}
+use Rattle.guarantees.proofs.Records.{head-right, right-head, names-table, table-named}
 use Rattle.guarantees.proofs.Tables.{first-wrong, wrong-first, right-formed, formed-right, covered-all, all-covered, first-not, not-first}
 
 -- ---- depth and table
@@ -111,6 +113,20 @@ by-opened d {later} R sized a said seen j =
     subst (λ (z : Answer). Just z (test 1 (unless (DepthRight d)) (test 2 (unless R) later))) (sym (then-assoc (testDepth d) (testLengths sized) a))
     (by-right 1 (DepthRight d) (depthFits d) Depth (testLengths sized then a) refl refl (depth-right d) (depth-fits d)
     (λ r. by-right 2 R sized Length a refl refl said seen (j (depth-fits d r))))
+
+-- test 11, and tests 1, 2 and 11
+by-head : (d : ℕ) (r : List ℕ) {later : ℕ → ℕ × ℕ → Type 0} (a : Answer) → (HeadRight d r → Just a later)
+    → Just (testHead d r then a) (test 11 (unless (HeadRight d r)) later)
+unfolding testHead
+by-head d r a j = by-right 11 (HeadRight d r) (headRight d r) Record a refl refl (head-right d r) (right-head d r) j
+
+by-headed : (d : ℕ) (r : List ℕ) {later : ℕ → ℕ × ℕ → Type 0} (R : Type 0) (sized : Bool) (a : Answer) → (sized ≡ true → R) → (R → sized ≡ true)
+    → (depthFits d ≡ true → R → HeadRight d r → Just a later)
+    → Just (headed d sized r then a) (test 1 (unless (DepthRight d)) (test 2 (unless R) (test 11 (unless (HeadRight d r)) later)))
+by-headed d r {later} R sized a said seen j =
+    subst (λ (z : Answer). Just z (test 1 (unless (DepthRight d)) (test 2 (unless R) (test 11 (unless (HeadRight d r)) later))))
+    (sym (then-assoc (opened d sized) (testHead d r) a))
+    (by-opened d R sized (testHead d r then a) said seen (λ f k. by-head d r a (j f k)))
 
 -- the words of a table, at a depth that fits
 module _ (d : ℕ) (f : depthFits d ≡ true) where
@@ -179,6 +195,28 @@ by-admitted d {later} R sized table a said seen j =
     (λ l. let (p, q) = and-yes sized (lengthFits (length table)) l in said p (table-long table q))
     (λ r. let (p, q) = seen r in yes-and p (long-table table q))
     (λ f r. by-words d (wordsOf table) f a (j f r)))
+
+-- test 12
+by-named : (r table : List ℕ) {later : ℕ → ℕ × ℕ → Type 0} (a : Answer) → (NamesTable r table → Just a later)
+    → Just (testNamed r table then a) (test 12 (unless (NamesTable r table)) later)
+unfolding testNamed
+by-named r table a j = by-right 12 (NamesTable r table) (namesTable r table) OtherTable a refl refl (names-table r table) (table-named r table) j
+
+-- .. of a call that is lent a table and a record: tests 1, 2, 11, 3, 10 and 12
+pub by-admitted-by : (d : ℕ) {later : ℕ → ℕ × ℕ → Type 0} (R : Type 0) (sized : Bool) (r table : List ℕ) (a : Answer)
+    → (sized ≡ true → TableLength table → R) → (R → (sized ≡ true) × TableLength table)
+    → (depthFits d ≡ true → R → HeadRight d r → TableRight d (wordsOf table) → AllInTwo d (equationsOf table) → NamesTable r table → Just a later)
+    → Just (admittedBy d sized r table then a) (test 1 (unless (DepthRight d)) (test 2 (unless R) (takesNamed d r table later)))
+by-admitted-by d {later} R sized r table a said seen j =
+    let long : Bool = lengthFits (length table) in
+    let tests : Answer = wordsTested d (wordsOf table) in
+    let named : Answer = testNamed r table in
+    subst (λ (z : Answer). Just z (test 1 (unless (DepthRight d)) (test 2 (unless R) (takesNamed d r table later))))
+    (sym (then-assoc (headed d (sized && long) r) (tests then named) a ∙ ap (λ (z : Answer). headed d (sized && long) r then z) (then-assoc tests named a)))
+    (by-headed d r R (sized && long) (tests then (named then a))
+    (λ l. let (p, q) = and-yes sized long l in said p (table-long table q))
+    (λ k. let (p, q) = seen k in yes-and p (long-table table q))
+    (λ f k h. by-words d (wordsOf table) f (named then a) (λ w c. by-named r table a (j f k h w c))))
 
 -- ---- the lowest number that a search finds
 
@@ -323,47 +361,49 @@ module _ (d : ℕ) (m : List ℕ) (low : (p : ℕ) → p < treeSymbols d → get
   mark-seen : markAt m j i ≡ 0 → absentAt tree m j i ≡ true
   mark-seen e = absent-seen m j i low-mark (sym (mark-at m j i) ∙ e)
 
-module _ (d : ℕ) (table b t m root : List ℕ) where
+module _ (d : ℕ) (table b t m r : List ℕ) where
   abbrev own : Bool
-  own = writeSized d (length b) (length t) (length m) (length root)
+  own = writeSized d (length b) (length t) (length m) (length r)
 
-  pub lengths-own : own ≡ true → TableLength table → WriterLengths d table b t m root
+  pub lengths-own : own ≡ true → TableLength table → WriterLengths d table b t m r
   unfolding kOf
   lengths-own h l =
-      let (u, q) = and-yes (treeSized d (length t) (length m)) (blockSized d (length b) && rootSized (length root)) h in
-      let (p, r) = and-yes (blockSized d (length b)) (rootSized (length root)) q in
+      let (u, q) = and-yes (treeSized d (length t) (length m)) (blockFits d (length b) && recordSized (length r)) h in
+      let (p, w) = and-yes (blockFits d (length b)) (recordSized (length r)) q in
       record {
         table-length = l;
-        block-length = eqb-true (length b) (256 * kOf (d - 1)) p;
+        block-fits = leb-true (length b) (256 * kOf (d - 1)) p;
         tree-lengths = sized d t m u;
-        root-length = eqb-true (length root) 512 r;
+        record-length = eqb-true (length r) 556 w;
       }
 
-  pub own-lengths : WriterLengths d table b t m root → (own ≡ true) × TableLength table
+  pub own-lengths : WriterLengths d table b t m r → (own ≡ true) × TableLength table
   unfolding kOf
-  own-lengths r = (
-    yes-and (size-tests d t m (r .tree-lengths))
-        (yes-and (eq-eqb (length b) (256 * kOf (d - 1)) (r .block-length)) (eq-eqb (length root) 512 (r .root-length))),
-    r .table-length,
+  own-lengths k = (
+    yes-and (size-tests d t m (k .tree-lengths))
+        (yes-and (le-leb (length b) (256 * kOf (d - 1)) (k .block-fits)) (eq-eqb (length r) 556 (k .record-length))),
+    k .table-length,
   )
 
-  tree-writer : Just (treeWritten d table b t m root .answer) (writerTests d table b t m root)
+  tree-writer : Just (treeWritten d table b t m r .answer) (writerTests d table b t m r)
   tree-writer =
-      subst (λ (z : Answer). Just z (writerTests d table b t m root)) (then-none (admitted d own table) ∙ sym (written-answer d table b t m root))
-      (by-admitted d (WriterLengths d table b t m root) own table Done lengths-own own-lengths (λ f r w c. all-done))
+      subst (λ (z : Answer). Just z (writerTests d table b t m r)) (then-none (admitted d own table) ∙ sym (written-answer d table b t m r))
+      (by-admitted d (WriterLengths d table b t m r) own table Done lengths-own own-lengths (λ f k w c. all-done))
 
-module _ (d : ℕ) (t m b : List ℕ) where
-  block-reader : Just (blockRead d t m b .answer) (blockTests d t m b)
+module _ (d : ℕ) (r t m b : List ℕ) where
+  block-reader : Just (blockRead d r t m b .answer) (blockTests d r t m b)
   unfolding testBase kOf nOf
   block-reader =
-      subst (λ (z : Answer). Just z (blockTests d t m b)) (sym (block-answer d t m b))
-      (by-opened d (TreeLengths d t m × BlockLength d b) (readSized d (length t) (length m) (length b)) (testMarks m then testBase d m)
+      subst (λ (z : Answer). Just z (blockTests d r t m b)) (sym (block-answer d r t m b))
+      (by-headed d r (RecordLength r × TreeLengths d t m × BlockLength d b) (readSized d (length r) (length t) (length m) (length b))
+      (testMarks m then testBase d m)
       (λ h.
-      let (p, q) = and-yes (treeSized d (length t) (length m)) (blockSized d (length b)) h in
-      (sized d t m p, eqb-true (length b) (256 * kOf (d - 1)) q))
-      (λ r. yes-and (size-tests d t m (r .0)) (eq-eqb (length b) (256 * kOf (d - 1)) (r .1)))
-      (λ f r.
-      by-marks d m (r .0 .mark-bytes) (testBase d m)
+      let (p, q) = and-yes (treeSized d (length t) (length m)) (recordSized (length r) && blockSized d (length b)) h in
+      let (v, w) = and-yes (recordSized (length r)) (blockSized d (length b)) q in
+      (eqb-true (length r) 556 v, sized d t m p, eqb-true (length b) (256 * kOf (d - 1)) w))
+      (λ k. yes-and (size-tests d t m (k .1)) (yes-and (eq-eqb (length r) 556 (k .0)) (eq-eqb (length b) (256 * kOf (d - 1)) (k .2))))
+      (λ f k h.
+      by-marks d m (k .1 .mark-bytes) (testBase d m)
       (λ low.
       let some = depth-right d f .0 in
       subst (λ (z : Answer). Just z (test 9 (one (LowestOf (λ i. markAt m (d - 1) i ≡ 0) (kOf (d - 1)))) done)) (then-none (testBase d m))
@@ -484,52 +524,52 @@ module _ (d i : ℕ) (root s : List ℕ) where
       let not-above : l < v → ⊥ = λ h. a .breaks (c .lead-below (a .index) (a .inside) (omega (arith, a .at-layer))) in
       omega arith
 
-  sample-checker : Just (sampleChecked d i root s) (sampleTests d i root s)
-  unfolding sampleChecked kOf nOf
-  sample-checker =
-      let last : Answer = led (sampleCheck tree (symbolHash Plain) root d i s) in
-      subst (λ (z : Answer). Just z (sampleTests d i root s)) (sym (then-assoc (opened d (checkSized d (length root) (length s))) (testNumber d i) last))
-      (by-opened d (RootLength root × SampleLength d s) (checkSized d (length root) (length s)) (testNumber d i then last)
-      (check-sizes d (length root) (length s))
-      (λ r. yes-and (eq-eqb (length root) 512 (r .0)) (eq-eqb (length s) (256 * sampleSize d) (r .1)))
-      (λ f r. by-number d i last (λ h. by-climb (depth-right d f .0) (sampleCheck tree (symbolHash Plain) root d i s) refl)))
-    where
-      by-climb : 1 ≤ d → (c : Climb) → sampleCheck tree (symbolHash Plain) root d i s ≡ c
-          → Just (led c) (test 7 (one (SampleBreaks d i root s)) done)
-      by-climb some leads e =
-          passes-one (λ v k. k .breaks (hash-said some (k .index) (all-fit tree (symbolHash Plain) root d i some s e (k .index) (k .inside)))) all-done
-      by-climb some (breaks l) e =
-          let k = breaks-so some l (sample-breaks tree (symbolHash Plain) root d i some s l e) in stops-one l k (λ v z. breaks-one v l z k)
+  by-climb : 1 ≤ d → (c : Climb) → sampleCheck tree (symbolHash Plain) root d i s ≡ c → Just (led c) (test 7 (one (SampleBreaks d i root s)) done)
+  by-climb some leads e =
+      passes-one (λ v k. k .breaks (hash-said some (k .index) (all-fit tree (symbolHash Plain) root d i some s e (k .index) (k .inside)))) all-done
+  by-climb some (breaks l) e =
+      let k = breaks-so some l (sample-breaks tree (symbolHash Plain) root d i some s l e) in stops-one l k (λ v z. breaks-one v l z k)
+
+sample-checker : (d i : ℕ) (r s : List ℕ) → Just (sampleChecked d i r s) (sampleTests d i r s)
+unfolding sampleChecked rootIn kOf nOf
+sample-checker d i r s =
+    let last : Answer = led (sampleCheck tree (symbolHash Plain) (rootPart r) d i s) in
+    let fits : Bool = checkSized d (length r) (length s) in
+    subst (λ (z : Answer). Just z (sampleTests d i r s)) (sym (then-assoc (headed d fits r) (testNumber d i) last))
+    (by-headed d r (RecordLength r × SampleLength d s) fits (testNumber d i then last)
+    (check-sizes d (length r) (length s))
+    (λ k. yes-and (eq-eqb (length r) 556 (k .0)) (eq-eqb (length s) (256 * sampleSize d) (k .1)))
+    (λ f k h. by-number d i last (λ b. by-climb d i (rootPart r) s (depth-right d f .0) (sampleCheck tree (symbolHash Plain) (rootPart r) d i s) refl)))
 
 -- ---- repair
 
-module _ (d : ℕ) (root table t m o : List ℕ) where
+module _ (d : ℕ) (r table t m o : List ℕ) where
   abbrev lent : Bool
-  lent = repairSized d (length root) (length t) (length m) (length o)
+  lent = repairSized d (length r) (length t) (length m) (length o)
 
-  pub repair-own : lent ≡ true → TableLength table → RepairLengths d root table t m o
+  pub repair-own : lent ≡ true → TableLength table → RepairLengths d r table t m o
   repair-own h l =
-      let (u, q) = and-yes (treeSized d (length t) (length m)) (rootSized (length root) && eqb (length o) (12 + 256 * (8 * d - 1))) h in
-      let (r, w) = and-yes (rootSized (length root)) (eqb (length o) (12 + 256 * (8 * d - 1))) q in
+      let (u, q) = and-yes (treeSized d (length t) (length m)) (recordSized (length r) && eqb (length o) (12 + 256 * (8 * d - 1))) h in
+      let (v, w) = and-yes (recordSized (length r)) (eqb (length o) (12 + 256 * (8 * d - 1))) q in
       record {
-        root-length = eqb-true (length root) 512 r;
+        record-length = eqb-true (length r) 556 v;
         table-length = l;
         tree-lengths = sized d t m u;
         output-length = eqb-true (length o) (12 + 256 * (8 * d - 1)) w;
       }
 
-  pub own-repair : RepairLengths d root table t m o → (lent ≡ true) × TableLength table
-  own-repair r = (
-    yes-and (size-tests d t m (r .tree-lengths))
-        (yes-and (eq-eqb (length root) 512 (r .root-length)) (eq-eqb (length o) (12 + 256 * (8 * d - 1)) (r .output-length))),
-    r .table-length,
+  pub own-repair : RepairLengths d r table t m o → (lent ≡ true) × TableLength table
+  own-repair k = (
+    yes-and (size-tests d t m (k .tree-lengths))
+        (yes-and (eq-eqb (length r) 556 (k .record-length)) (eq-eqb (length o) (12 + 256 * (8 * d - 1)) (k .output-length))),
+    k .table-length,
   )
 
-  repairer : Just (repairTested d root table t m o) (repairTests d root table t m o)
+  repairer : Just (repairTested d r table t m o) (repairTests d r table t m o)
   unfolding repairTested
   repairer =
-      by-admitted d (RepairLengths d root table t m o) lent table (testMarks m) repair-own own-repair
-      (λ f k w c.
+      by-admitted-by d (RepairLengths d r table t m o) lent r table (testMarks m) repair-own own-repair
+      (λ f k h w c n.
       subst (λ (z : Answer). Just z (test 4 (one (BadMark d m)) done)) (then-none (testMarks m))
       (by-marks d m (k .tree-lengths .mark-bytes) Done (λ low. all-done)))
 
@@ -547,6 +587,8 @@ done-only (Stopped (Hash l p)) e = absurd (omega arith)
 done-only (Stopped NoFault) e = absurd (omega arith)
 done-only (Stopped (Absent x)) e = absurd (omega arith)
 done-only (Stopped (Uncovered j i)) e = absurd (omega arith)
+done-only (Stopped Record) e = absurd (omega arith)
+done-only (Stopped OtherTable) e = absurd (omega arith)
 
 whole-only : (a : Read) → numberOf (readAnswer a) ≡ 0 → a ≡ read.Whole
 whole-only read.Depth e = absurd (omega arith)

@@ -1,9 +1,9 @@
--- Cases 4, 5 and 6 of 01. Hashing is not computed: where a symbol's bytes are those that were coded, its hash is the committed one, whatever
+-- Cases 4, 5 and 6 of 01, and case 4 ending with 13. Hashing is not computed: where a symbol's bytes are those that were coded, its hash is the committed one, whatever
 -- the hash; so the repair of layer 0 runs with a test that compares bytes first.
 use mathlib.Core.Path.{_≡_, refl, sym, ap, _∙_, subst, fun-ext, ap₂}
 use mathlib.Core.Bool.{Bool, true, false, not, _&&_}
 use mathlib.Core.List.{List, [], _∷_, _++_}
-use Prim.Native.Nat.{ℕ, zero, suc, _+_, _-_, _*_}
+use Prim.Native.Nat.{ℕ, zero, suc, _+_, _-_, _*_, _/_, _^_, _≤_, _<_}
 use native.Mathlib.Omega.{arith}
 use lib.ListN.{length, getD, set, replicate, length-set}
 use lib.Dec.{ltb, eqb}
@@ -13,7 +13,7 @@ use Rattle.octets.specs.Choice.{pick}
 use Rattle.octets.specs.ByteLists.{same, xors}
 use Rattle.octets.proofs.Choice.{and-yes, yes-and}
 use Rattle.parity_table.specs.Shape.{depthFits, kOf, nOf}
-use Rattle.parity_table.specs.Members.{lastOf}
+use Rattle.parity_table.specs.Members.{every, lastOf}
 use Rattle.parity_table.specs.Table.{layerOf, equationOf, equationsWords, layersWords, tableWords}
 use Rattle.table_bytes.specs.Bytes.{wordsOf}
 use Rattle.parity_table.specs.Parse.{addWord, partsOf, tableOf}
@@ -24,29 +24,38 @@ use Rattle.symbol_hash.proofs.Laws.{length-symbolHash}
 use Rattle.model.specs.Shape.{tree, place, places}
 use Rattle.model.specs.Symbols.{symbolIn, zeros, xorOf, others, count, firstOf, lowest, slot, committed, symAt, putAt}
 use Rattle.model.specs.Coded.{Agrees}
-use Rattle.model.specs.Writer.{parities, code, writeTree}
+use Rattle.model.specs.Writer.{parities, code, blockOf, zeroFilled, writeTree}
 use Rattle.model.specs.Fault.{proofBytes}
 use Rattle.model.specs.Repair.{End, working, whole, unavailable, going, St, useEq, writeFault, writeTwins, fresh, endAs, finish, absentAt, storeSym, eraseSym, restOf, gapsLeft, settle, fitsAt, sweepAt, sweep, form, refute, act, takeable, lowestEq, step, peel, enter, layer, layers, repair}
-use Rattle.model.proofs.Bytes.{same-yes, yes-same}
+use Rattle.octets.proofs.SameLaws.{same-yes, yes-same}
 use Rattle.model.proofs.Shapes.{tree-ok}
 use Rattle.model.proofs.Binding.{hashes}
+use Rattle.model.proofs.Filling.{filled-whole, full-filled}
+use Rattle.sha256.specs.Hash.{sha256}
+use Rattle.heads.specs.Heads.{head}
+use Rattle.root_record.specs.Records.{recordOf, sizeIn, rootIn, headRight, namesTable}
+use Rattle.root_record.proofs.RecordLaws.{record-length, record-root, record-size, record-right as of-right, record-names as of-names}
 use Rattle.calls.specs.declared.Answer.{Answer}
 use Rattle.calls.specs.declared.Answer.the-variants.{Done}
 use Rattle.calls.specs.Marks.{isBad, lowestBad}
-use Rattle.volume_calls.specs.Writing.{TreeLeft, writeSized, treeWritten}
-use Rattle.fault_calls.specs.Repairing.{repairSized, repairTested, repairOf, repairedBy, repaired, ended}
+use Rattle.volume_calls.specs.Writing.{writeSized, treeWritten}
+use Rattle.fault_calls.specs.Repairing.{Result, ended, misfilled, RepairLeft, leaves, repairSized, endedBy, repairTested, repairOf, repairedBy, repaired}
 use Rattle.calls.specs.Tests.{_then_}
 use Rattle.calls.proofs.TestLaws.{marks-right}
 use Rattle.calls.proofs.AdmissionLaws.{TableTaken, admits}
 use Rattle.calls.proofs.Taken.{house-taken}
-use Rattle.volume_calls.proofs.WritingLaws.{answer-is, when-done}
+use Rattle.calls.proofs.RecordLaws.{admits-by}
+use Rattle.volume_calls.proofs.WritingLaws.{answer-is}
+use Rattle.fault_calls.proofs.RepairingLaws.{misfills, ends-so}
 use Rattle.guarantees.specs.Terms.{equationsOf}
+use Rattle.guarantees.specs.Layouts.{rootPart}
 use Rattle.guarantees.specs.Trees.{AgreesWith}
 use Rattle.guarantees.specs.Demand2.{Exactly}
-use Rattle.guarantees.specs.Cases.{block, houseBytes, coded, codedRoot, marksBut, treeBut, left, entered, turn, Gives, Turns, Leaves}
+use Rattle.guarantees.specs.Cases.{block, houseBytes, coded, codedRecord, marksBut, treeBut, left, entered, turn, Gives, Turns, Leaves, recordSaying, Misfills}
+use Rattle.guarantees.proofs.Records.{root-in, head-bytes}
 use Rattle.guarantees.proofs.Tables.{rules-ok}
 use Rattle.guarantees.proofs.Trees.{symbols-are, with-agrees}
-use Rattle.guarantees.proofs.Demand2.{demand-2}
+use Rattle.guarantees.proofs.Demand2.{tree-left, after-full, after-right, after-names, after-size, demand-2}
 
 -- ---- the coded tree
 
@@ -76,14 +85,19 @@ taken = house-taken 1 refl
 abbrev lent : ℕ → List ℕ
 lent n = replicate n 0
 
-written-done : treeWritten 1 houseBytes block (lent 4096) (lent 16) (lent 512) .answer ≡ Done
+written-done : treeWritten 1 houseBytes block (lent 4096) (lent 16) (lent 556) .answer ≡ Done
 unfolding depthFits block kOf nOf places
 written-done =
-    answer-is 1 houseBytes block (lent 4096) (lent 16) (lent 512)
-    ∙ sym (admits 1 (writeSized 1 (length block) (length (lent 4096)) (length (lent 16)) (length (lent 512))) houseBytes taken refl)
+    answer-is 1 houseBytes block (lent 4096) (lent 16) (lent 556)
+    ∙ sym (admits 1 (writeSized 1 (length block) (length (lent 4096)) (length (lent 16)) (length (lent 556))) houseBytes taken refl)
 
-abbrev exact : Exactly 1 houseBytes block (lent 4096) (lent 16) (lent 512)
-exact = demand-2 .writes-exactly 1 houseBytes block (lent 4096) (lent 16) (lent 512) written-done
+abbrev exact : Exactly 1 houseBytes block (lent 4096) (lent 16) (lent 556)
+exact = demand-2 .writes-exactly 1 houseBytes block (lent 4096) (lent 16) (lent 556) written-done
+
+-- the block fills the base
+block-whole : length block ≡ 256 * kOf 0
+unfolding block kOf
+block-whole = refl
 
 written-listed : writeTree tree (symbolHash Plain) (houseTable 1) block (lent 4096) ≡ listed
 unfolding block writeTree code parities putAt symAt symbolIn place places xorOf xors zeros others pick houseTable houseLayers houseEquations houseEquation layerOf kOf nOf
@@ -92,13 +106,36 @@ written-listed = refl
 pub coded-is : coded ≡ listed
 unfolding coded
 coded-is =
-    ap (λ (w : TreeLeft Answer). w .tree) (when-done 1 houseBytes block (lent 4096) (lent 16) (lent 512) written-done)
-    ∙ ap (λ (tbl : List (List (List ℕ))). writeTree tree (symbolHash Plain) tbl block (lent 4096)) said
+    tree-left 1 houseBytes block (lent 4096) (lent 16) (lent 556) written-done
+    ∙ ap₂ (λ (tbl : List (List (List ℕ))) (b : List ℕ). writeTree tree (symbolHash Plain) tbl b (lent 4096)) said (filled-whole tree 1 block block-whole)
     ∙ written-listed
+
+-- the record's parts
+abbrev codedRoot : List ℕ
+codedRoot = rootPart codedRecord
+
+record-full : length codedRecord ≡ 556
+unfolding codedRecord
+record-full = after-full 1 houseBytes block (lent 4096) (lent 16) (lent 556) written-done
+
+record-right : headRight 1 codedRecord ≡ true
+unfolding codedRecord
+record-right = after-right 1 houseBytes block (lent 4096) (lent 16) (lent 556) written-done
+
+record-names : namesTable codedRecord houseBytes ≡ true
+unfolding codedRecord
+record-names = after-names 1 houseBytes block (lent 4096) (lent 16) (lent 556) written-done
+
+-- there is no filling
+no-filling : (t : List ℕ) → zeroFilled tree 1 (sizeIn codedRecord) t ≡ true
+unfolding codedRecord
+no-filling t =
+    ap (λ (n : ℕ). zeroFilled tree 1 n t) (after-size 1 houseBytes block (lent 4096) (lent 16) (lent 556) written-done ∙ block-whole)
+    ∙ full-filled tree 1 t
 
 -- the coded tree agrees with its root
 coded-agrees : Agrees tree (symbolHash Plain) (houseTable 1) codedRoot (symAt tree coded)
-unfolding coded codedRoot
+unfolding coded codedRecord
 coded-agrees =
     let tbl : List (List (List ℕ)) = equationsOf houseBytes in
     subst (λ (l : List (List (List ℕ))). Agrees tree (symbolHash Plain) l codedRoot (symAt tree coded)) said
@@ -285,42 +322,96 @@ unfolding marksBut
 marks-length [] = refl
 marks-length (x ∷ xs) = length-set (marksBut xs) x 0 ∙ marks-length xs
 
-module _ (absent : List ℕ) (o : List ℕ) (room : length o ≡ 12 + 256 * (8 * 1 - 1)) (marks : lowestBad (marksBut absent) ≡ 16) where
-  abbrev steps : St
-  steps = repairOf codedRoot houseBytes coded (marksBut absent) o
+-- a record with the coded tree's root, which the calls take with the house table
+record Serves (r : List ℕ) : Type 0 where
+  full : length r ≡ 556
+  right : headRight 1 r ≡ true
+  names : namesTable r houseBytes ≡ true
+  root-is : rootIn r ≡ codedRoot
 
+module _ (r : List ℕ) (k : Serves r) (absent : List ℕ) (o : List ℕ) (room : length o ≡ 12 + 256 * (8 * 1 - 1)) (marks : lowestBad (marksBut absent) ≡ 16) where
   -- the call is done
-  tested-so : repairTested 1 codedRoot houseBytes coded (marksBut absent) o ≡ Done
-  unfolding repairTested coded codedRoot depthFits places kOf nOf
+  tested-so : repairTested 1 r houseBytes coded (marksBut absent) o ≡ Done
+  unfolding repairTested coded depthFits places kOf nOf
   tested-so =
-      let sized : repairSized 1 (length codedRoot) (length coded) (length (marksBut absent)) (length o) ≡ true =
+      let own : Bool = repairSized 1 (length r) (length coded) (length (marksBut absent)) (length o) in
+      let sized : own ≡ true =
       yes-and (yes-and (eq-eqb _ _ (exact .lengths .tree-bytes)) (eq-eqb _ _ (marks-length absent)))
-      (yes-and (eq-eqb _ _ (exact .agrees .root-of .full)) (eq-eqb _ _ room)) in
+      (yes-and (eq-eqb _ _ (k .full)) (eq-eqb _ _ room)) in
       sym (ap₂ (λ (x y : Answer). x then y)
-      (admits 1 (repairSized 1 (length codedRoot) (length coded) (length (marksBut absent)) (length o)) houseBytes taken sized)
+      (admits-by 1 own r houseBytes (record { lengths = sized; head = k .right; taken = taken; named = k .names }))
       (marks-right (marksBut absent) (omega (arith, marks, marks-length absent))))
 
   module _ (missing us : List ℕ) (n : ℕ) (z : End) (comes : repairBy fitsRoot (start listed (marksBut absent) o) ≡ at missing us n z o) where
-    steps-are : steps ≡ at missing us n z o
+    steps-are : repairOf r houseBytes coded (marksBut absent) o ≡ at missing us n z o
     unfolding repairOf
     steps-are =
-        ap (λ (tbl : List (List (List ℕ))). repair tree (symbolHash Plain) codedRoot tbl coded (marksBut absent) o) said
+        ap₂ (λ (root : List ℕ) (tbl : List (List (List ℕ))). repair tree (symbolHash Plain) root tbl coded (marksBut absent) o) (k .root-is) said
         ∙ ap (λ (t : List ℕ). repair tree (symbolHash Plain) codedRoot (houseTable 1) t (marksBut absent) o) coded-is
         ∙ repair-by listed (marksBut absent) o
         ∙ comes
 
-    leaves : Leaves absent z missing n o
-    unfolding left repaired
-    leaves =
-        let m : List ℕ = marksBut absent in
-        let e = tested-so in
-        let q = steps-are in
-        record {
-          reports = ap (λ (a : Answer). repairedBy a steps coded m o .answer) e ∙ ap (λ (st : St). ended (st .stored) (st .end)) q;
-          marks-are = ap (λ (a : Answer). repairedBy a steps coded m o .marks) e ∙ ap (λ (st : St). st .marks) q;
-          tree-is = ap (λ (a : Answer). repairedBy a steps coded m o .tree) e ∙ ap (λ (st : St). st .tree) q ∙ but-is missing;
-          out-untouched = ap (λ (a : Answer). repairedBy a steps coded m o .out) e ∙ ap (λ (st : St). st .out) q;
-        }
+    left-so : (x : Result) → x ≡ endedBy (zeroFilled tree 1 (sizeIn r) (listedBut missing)) n z
+        → repaired 1 r houseBytes coded (marksBut absent) o ≡ leaves x (treeBut missing) (marksBut missing) o
+    unfolding repaired
+    left-so x e =
+        ap (λ (a : Answer). repairedBy a 1 (sizeIn r) (repairOf r houseBytes coded (marksBut absent) o) coded (marksBut absent) o) tested-so
+        ∙ ap (λ (st : St). leaves (endedBy (zeroFilled tree 1 (sizeIn r) (st .tree)) (st .stored) (st .end)) (st .tree) (st .marks) (st .out)) steps-are
+        ∙ ap₂ (λ (y : Result) (t : List ℕ). leaves y t (marksBut missing) o) (sym e) (but-is missing)
+
+-- by the record that was written
+coded-serves : Serves codedRecord
+coded-serves = record { full = record-full; right = record-right; names = record-names; root-is = sym (root-in codedRecord) }
+
+leaves-so : (absent o : List ℕ) → length o ≡ 12 + 256 * (8 * 1 - 1) → (missing us : List ℕ) (n : ℕ) (z : End) → Comes fitsRoot o absent (at missing us n z o)
+    → Leaves absent z missing n o
+unfolding left
+leaves-so absent o room missing us n z (comes, marks) =
+    let q = left-so codedRecord coded-serves absent o room marks missing us n z comes (ended n z)
+    (ends-so (zeroFilled tree 1 (sizeIn codedRecord) (listedBut missing)) n z (λ y. no-filling (listedBut missing))) in
+    record {
+      reports = ap (λ (x : RepairLeft Result). x .answer) q;
+      marks-are = ap (λ (x : RepairLeft Result). x .marks) q;
+      tree-is = ap (λ (x : RepairLeft Result). x .tree) q;
+      out-untouched = ap (λ (x : RepairLeft Result). x .out) q;
+    }
+
+-- ---- a record that says another length
+
+-- the house table has 61 words
+house-count : 61 ≡ length houseBytes / 4
+unfolding houseBytes houseWords tableWords layersWords equationsWords bytesOf be houseTable houseLayers houseEquations houseEquation kOf
+house-count = refl
+
+module _ (size : ℕ) (h : size ≤ 256 * kOf 0) where
+  abbrev other : List ℕ
+  other = recordOf 1 size houseBytes codedRoot
+
+  saying-is : recordSaying size ≡ other
+  unfolding recordSaying recordOf
+  saying-is = head-bytes 1 size 61 (sha256 houseBytes) codedRoot ∙ ap (λ (c : ℕ). head 1 size c ++ (sha256 houseBytes ++ codedRoot)) house-count
+
+  few : length houseBytes / 4 < 2 ^ 30
+  few = omega (arith, house-count)
+
+  saying-size : sizeIn (recordSaying size) ≡ size
+  saying-size = rw saying-is (record-size 1 size houseBytes codedRoot (taken .deep) h few)
+
+  saying-serves : Serves (recordSaying size)
+  unfolding codedRecord
+  saying-serves =
+      rw saying-is
+      (record {
+        full = record-length 1 size houseBytes codedRoot (exact .agrees .root-of .full);
+        right = of-right 1 size houseBytes codedRoot (taken .deep) h few;
+        names = of-names 1 size houseBytes codedRoot (taken .deep) h few;
+        root-is = record-root 1 size houseBytes codedRoot;
+      })
+
+-- byte 1,023 of the tree's block isn't zero
+not-blank : zeroFilled tree 1 1023 listed ≡ false
+unfolding zeroFilled blockOf every place places kOf nOf
+not-blank = refl
 
 -- ---- the turns
 
@@ -358,12 +449,27 @@ two-turns o =
     )
 
 pub two-absent : (o : List ℕ) → length o ≡ 12 + 256 * (8 * 1 - 1) → Leaves two whole [] 2 o
-two-absent o h = let (c, b) = computed-root o .two-absent in leaves two o h b [] (replicate 12 1) 2 whole c
+two-absent o h = leaves-so two o h [] (replicate 12 1) 2 whole (computed-root o .two-absent)
 
 pub eight-absent : (o : List ℕ) → length o ≡ 12 + 256 * (8 * 1 - 1) → Leaves eight (unavailable 0) seven 1 o
 eight-absent o h =
-    let (c, b) = computed-root o .eight-absent in
-    leaves eight o h b seven (0 ∷ 0 ∷ 0 ∷ 0 ∷ 0 ∷ 0 ∷ 0 ∷ 1 ∷ 0 ∷ 0 ∷ 1 ∷ 1 ∷ []) 1 (unavailable 0) c
+    leaves-so eight o h seven (0 ∷ 0 ∷ 0 ∷ 0 ∷ 0 ∷ 0 ∷ 0 ∷ 1 ∷ 0 ∷ 0 ∷ 1 ∷ 1 ∷ []) 1 (unavailable 0) (computed-root o .eight-absent)
 
 pub all-absent : (o : List ℕ) → length o ≡ 12 + 256 * (8 * 1 - 1) → Leaves sixteen (unavailable 0) sixteen 0 o
-all-absent o h = let (c, b) = computed-root o .all-absent in leaves sixteen o h b sixteen (replicate 12 0) 0 (unavailable 0) c
+all-absent o h = leaves-so sixteen o h sixteen (replicate 12 0) 0 (unavailable 0) (computed-root o .all-absent)
+
+pub two-misfilled : (o : List ℕ) → length o ≡ 12 + 256 * (8 * 1 - 1) → Misfills two 1023 2 o
+unfolding treeBut kOf
+two-misfilled o h =
+    let (comes, marks) = computed-root o .two-absent in
+    let low : 1023 ≤ 256 * kOf 0 = omega arith in
+    let r : List ℕ = recordSaying 1023 in
+    let blank : zeroFilled tree 1 (sizeIn r) listed ≡ false = ap (λ (n : ℕ). zeroFilled tree 1 n listed) (saying-size 1023 low) ∙ not-blank in
+    let q = left-so r (saying-serves 1023 low) two o h marks [] (replicate 12 1) 2 whole comes (misfilled 2)
+    (misfills (zeroFilled tree 1 (sizeIn r) listed) 2 whole refl blank) in
+    record {
+      reports = ap (λ (x : RepairLeft Result). x .answer) q;
+      marks-are = ap (λ (x : RepairLeft Result). x .marks) q;
+      tree-is = ap (λ (x : RepairLeft Result). x .tree) q;
+      out-untouched = ap (λ (x : RepairLeft Result). x .out) q;
+    }

@@ -1,5 +1,5 @@
--- Every call that is lent a depth: those of now, and those of before 02's CR 6. A call's tests are the same but for two numbers, the largest depth and the
--- most bytes of a table from C; what they are made from, the definitions of other crates, is what it was. Definitions only.
+-- Every call that is lent a depth: those of now, and those that there would be without 02's CR 6. A call's tests are the same but for two numbers, the
+-- largest depth and the most bytes of a table from C; what they are made from, the definitions of other crates, is what it was. Definitions only.
 use mathlib.Core.Bool.{Bool, true, _&&_}
 use mathlib.Core.List.{List}
 use Prim.Native.Nat.{ℕ, _%_}
@@ -19,10 +19,11 @@ use Rattle.model.specs.Shape.{tree}
 use Rattle.model.specs.Fault.{verdict}
 use Rattle.model.specs.SampleCheck.{sampleCheck}
 use Rattle.sampling.specs.Absent.{firstAbsent}
+use Rattle.root_record.specs.Records.{sizeIn, rootIn}
 use Rattle.calls.specs.declared.Stop.the-variants.{Depth}
 use Rattle.calls.specs.declared.Answer.{Answer}
 use Rattle.calls.specs.declared.Answer.the-variants.{Done, Stopped}
-use Rattle.calls.specs.Tests.{_then_, testLengths, readAnswer, coverAnswer, testMarks, testNumber, wordsTested, admitted}
+use Rattle.calls.specs.Tests.{_then_, testLengths, testHead, readAnswer, coverAnswer, testNamed, testMarks, testNumber, wordsTested, admitted}
 use Rattle.volume_calls.specs.Reading.{BlockLeft, readSized, testBase, readBy, blockRead}
 use Rattle.volume_calls.specs.Writing.{TreeLeft, writeSized, writtenBy, treeWritten}
 use Rattle.sample_calls.specs.Checking.{checkSized, led, sampleChecked}
@@ -35,13 +36,13 @@ pub record Calls : Type 0 where
   pub table-words : (d : ℕ) (ws : List ℕ) → Answer
   pub table-bytes : (d : ℕ) (table : List ℕ) → Answer
   pub house : (d n m : ℕ) → Read
-  pub tree-writer : (d : ℕ) (table b t m root : List ℕ) → TreeLeft Answer
-  pub block-reader : (d : ℕ) (t m b : List ℕ) → BlockLeft Answer
+  pub tree-writer : (d : ℕ) (table b t m r : List ℕ) → TreeLeft Answer
+  pub block-reader : (d : ℕ) (r t m b : List ℕ) → BlockLeft Answer
   pub sampler : (d i : ℕ) (t m s : List ℕ) → SampleLeft Answer
-  pub sample-checker : (d i : ℕ) (root s : List ℕ) → Answer
-  pub proof-checker : (d : ℕ) (root table b : List ℕ) → Answer
-  pub repair-tests : (d : ℕ) (root table t m o : List ℕ) → Answer
-  pub repairer : (d : ℕ) (root table t m o : List ℕ) → RepairLeft Result
+  pub sample-checker : (d i : ℕ) (r s : List ℕ) → Answer
+  pub proof-checker : (d : ℕ) (r table b : List ℕ) → Answer
+  pub repair-tests : (d : ℕ) (r table t m o : List ℕ) → Answer
+  pub repairer : (d : ℕ) (r table t m o : List ℕ) → RepairLeft Result
 
 -- those of now
 abbrev pub now : Calls
@@ -73,15 +74,22 @@ module _ (largest most : ℕ) where
   abbrev pub begun : ℕ → Bool → Answer
   begun d sized = pick (deep d) Done (Stopped Depth) then testLengths sized
 
-  -- of a table as words, and as bytes from C: 1, 3, 10; 1, 2, 3, 10
+  -- .. and 11
+  abbrev pub headBy : ℕ → Bool → List ℕ → Answer
+  headBy d sized r = begun d sized then testHead d r
+
+  -- of a table as words, as bytes from C, and by a record: 1, 3, 10; 1, 2, 3, 10; 1, 2, 11, 3, 10, 12
   abbrev pub wordsBy : ℕ → List ℕ → Answer
   wordsBy d ws = readAnswer (pick (deep d) (run d 0 (layered d 0) ws) read.Depth) then coverAnswer (coverageOf d (tableOf ws))
 
   abbrev pub tableBy : ℕ → Bool → List ℕ → Answer
   tableBy d sized table = begun d (sized && short table) then wordsBy d (wordsOf table)
 
+  abbrev pub namedBy : ℕ → Bool → List ℕ → List ℕ → Answer
+  namedBy d sized r table = headBy d (sized && short table) r then wordsBy d (wordsOf table) then testNamed r table
+
   abbrev pub repairBy : ℕ → List ℕ → List ℕ → List ℕ → List ℕ → List ℕ → Answer
-  repairBy d root table t m o = tableBy d (repairSized d (length root) (length t) (length m) (length o)) table then testMarks m
+  repairBy d r table t m o = namedBy d (repairSized d (length r) (length t) (length m) (length o)) r table then testMarks m
 
   abbrev pub callsBy : Calls
   callsBy =
@@ -89,17 +97,16 @@ module _ (largest most : ℕ) where
         table-words = wordsBy;
         table-bytes = λ d table. tableBy d true table;
         house = λ d n m. pick (deep d) (pick (eqb n m) read.Whole read.Length) read.Depth;
-        tree-writer = λ d table b t m root.
-            writtenBy (tableBy d (writeSized d (length b) (length t) (length m) (length root)) table) d (tableOf (wordsOf table)) b t m root;
-        block-reader = λ d t m b. readBy (begun d (readSized d (length t) (length m) (length b)) then testMarks m then testBase d m) d t b;
+        tree-writer = λ d table b t m r. writtenBy (tableBy d (writeSized d (length b) (length t) (length m) (length r)) table) d table b t m r;
+        block-reader = λ d r t m b. readBy (headBy d (readSized d (length r) (length t) (length m) (length b)) r then testMarks m then testBase d m) d r t b;
         sampler = λ d i t m s.
             takenBy (begun d (takeSized d (length t) (length m) (length s)) then testMarks m then testNumber d i then needed (firstAbsent d i m)) d i t s;
-        sample-checker = λ d i root s.
-            (begun d (checkSized d (length root) (length s)) then testNumber d i) then led (sampleCheck tree (symbolHash Plain) root d i s);
-        proof-checker = λ d root table b.
-            tableBy d (proofSized (length root) (length b)) table then judged (verdict tree (symbolHash Plain) root (tableOf (wordsOf table)) b);
+        sample-checker = λ d i r s.
+            (headBy d (checkSized d (length r) (length s)) r then testNumber d i) then led (sampleCheck tree (symbolHash Plain) (rootIn r) d i s);
+        proof-checker = λ d r table b.
+            namedBy d (proofSized (length r) (length b)) r table then judged (verdict tree (symbolHash Plain) (rootIn r) (tableOf (wordsOf table)) b);
         repair-tests = repairBy;
-        repairer = λ d root table t m o. repairedBy (repairBy d root table t m o) (repairOf root table t m o) t m o;
+        repairer = λ d r table t m o. repairedBy (repairBy d r table t m o) d (sizeIn r) (repairOf r table t m o) t m o;
       }
 
 -- those of before: "depth not 1 to 5"; "a length over 16,384"

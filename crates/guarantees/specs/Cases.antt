@@ -23,11 +23,11 @@ use Rattle.calls.specs.Stops.{numberOf}
 use Rattle.calls.specs.Tests.{readAnswer}
 use Rattle.volume_calls.specs.Writing.{treeWritten}
 use Rattle.fault_calls.specs.Checking.{proofChecked}
-use Rattle.fault_calls.specs.Repairing.{Result, ended, RepairLeft, repaired}
-use Rattle.guarantees.specs.Layouts.{dataSymbols, symbolAt, kindValue}
+use Rattle.fault_calls.specs.Repairing.{Result, ended, misfilled, RepairLeft, repaired}
+use Rattle.guarantees.specs.Layouts.{dataSymbols, symbolAt, kindValue, recordBytes, rootPart}
 use Rattle.guarantees.specs.Trees.{CorrectlyCoded}
 use Rattle.guarantees.specs.Terms.{equationsOf}
-use Rattle.guarantees.specs.Demand2.{treeAfter, rootAfter}
+use Rattle.guarantees.specs.Demand2.{treeAfter, recordAfter}
 use Rattle.guarantees.specs.Before.{Calls, now}
 
 -- ---- the tree of the cases
@@ -40,12 +40,12 @@ block = replicate 256 0x01 ++ replicate 256 0x02 ++ replicate 256 0x04 ++ replic
 unfoldable pub houseBytes : List ℕ
 houseBytes = bytesOf (houseWords 1)
 
--- the tree and the root that the call of the writer leaves, in buffers that held zeros
+-- the tree and the record that the call of the writer leaves, in buffers that held zeros
 unfoldable pub coded : List ℕ
-coded = treeAfter 1 houseBytes block (replicate 4096 0) (replicate 16 0) (replicate 512 0)
+coded = treeAfter 1 houseBytes block (replicate 4096 0) (replicate 16 0) (replicate 556 0)
 
-unfoldable pub codedRoot : List ℕ
-codedRoot = rootAfter 1 houseBytes block (replicate 4096 0) (replicate 16 0) (replicate 512 0)
+unfoldable pub codedRecord : List ℕ
+codedRecord = recordAfter 1 houseBytes block (replicate 4096 0) (replicate 16 0) (replicate 556 0)
 
 -- the marks of all sixteen symbols but these, and the tree with zeros for these
 unfoldable pub marksBut : List ℕ → List ℕ
@@ -60,17 +60,17 @@ treeBut (x ∷ xs) = putAt tree (treeBut xs) 0 x zeros
 
 -- what the call answers and leaves
 unfoldable pub left : List ℕ → List ℕ → RepairLeft Result
-left absent o = repaired 1 codedRoot houseBytes coded (marksBut absent) o
+left absent o = repaired 1 codedRecord houseBytes coded (marksBut absent) o
 
 -- layer 0 once it is entered: (a) is done
 unfoldable pub entered : List ℕ → List ℕ → St
 entered absent o =
-    enter tree (symbolHash Plain) codedRoot (equationsOf houseBytes) 0
+    enter tree (symbolHash Plain) (rootPart codedRecord) (equationsOf houseBytes) 0
     (record { tree = coded; marks = marksBut absent; out = o; used = []; stored = 0; entered = 0; end = working })
 
 -- a turn of (b)
 unfoldable pub turn : St → St
-turn st = step tree (symbolHash Plain) codedRoot (equationsOf houseBytes) 0 st
+turn st = step tree (symbolHash Plain) (rootPart codedRecord) (equationsOf houseBytes) 0 st
 
 -- the turn takes equation e, which gives symbol x
 pub record Gives (e x : ℕ) (st : St) : Type 0 where
@@ -92,6 +92,19 @@ pub record Leaves (absent : List ℕ) (end : End) (missing : List ℕ) (stored :
   pub tree-is : left absent o .tree ≡ treeBut missing
   pub out-untouched : left absent o .out ≡ o
 
+-- ---- a repair of it by a record that says another length
+
+-- the record of the same table and root that says so many bytes
+unfoldable pub recordSaying : ℕ → List ℕ
+recordSaying size = recordBytes 1 size 61 (sha256 houseBytes) (rootPart codedRecord)
+
+-- the call by it reports 13 and this number stored, and leaves every symbol held
+pub record Misfills (absent : List ℕ) (size stored : ℕ) (o : List ℕ) : Type 0 where
+  pub reports : repaired 1 (recordSaying size) houseBytes coded (marksBut absent) o .answer ≡ misfilled stored
+  pub marks-are : repaired 1 (recordSaying size) houseBytes coded (marksBut absent) o .marks ≡ marksBut []
+  pub tree-is : repaired 1 (recordSaying size) houseBytes coded (marksBut absent) o .tree ≡ coded
+  pub out-untouched : repaired 1 (recordSaying size) houseBytes coded (marksBut absent) o .out ≡ o
+
 -- ---- other claims
 
 -- what holds of the number that every one of these calls gives at this depth, whatever else it is lent
@@ -100,34 +113,34 @@ pub record EveryCall (calls : Calls) (depth : ℕ) (P : ℕ → Type 0) : Type 0
   pub table-bytes : (b : List ℕ) → P (numberOf (calls .table-bytes depth b))
   pub house-words : (n : ℕ) → P (numberOf (readAnswer (calls .house depth n (length (houseWords depth)))))
   pub house-bytes : (n : ℕ) → P (numberOf (readAnswer (calls .house depth n (length (houseWords depth) * 4))))
-  pub tree-writer : (table b t m root : List ℕ) → P (numberOf (calls .tree-writer depth table b t m root .answer))
-  pub block-reader : (t m b : List ℕ) → P (numberOf (calls .block-reader depth t m b .answer))
+  pub tree-writer : (table b t m r : List ℕ) → P (numberOf (calls .tree-writer depth table b t m r .answer))
+  pub block-reader : (r t m b : List ℕ) → P (numberOf (calls .block-reader depth r t m b .answer))
   pub sampler : (i : ℕ) (t m s : List ℕ) → P (numberOf (calls .sampler depth i t m s .answer))
-  pub sample-checker : (i : ℕ) (root s : List ℕ) → P (numberOf (calls .sample-checker depth i root s))
-  pub proof-checker : (root table b : List ℕ) → P (numberOf (calls .proof-checker depth root table b))
-  pub repairer : (root table t m o : List ℕ) → P (numberOf (calls .repair-tests depth root table t m o))
+  pub sample-checker : (i : ℕ) (r s : List ℕ) → P (numberOf (calls .sample-checker depth i r s))
+  pub proof-checker : (r table b : List ℕ) → P (numberOf (calls .proof-checker depth r table b))
+  pub repairer : (r table t m o : List ℕ) → P (numberOf (calls .repair-tests depth r table t m o))
 
 -- it is 1 just when the depth isn't `least` to `most`
 abbrev pub Depths : ℕ → ℕ → Type 0
 Depths least most = (depth : ℕ) → EveryCall now depth (λ number. (number ≡ 1) ↔ (((least ≤ depth) × (depth ≤ most)) → ⊥))
 
--- With the house table and a block of its length, the writer is done just when it is lent a tree of so many symbols, a mark for each, and a root.
+-- With the house table and a block that fits, the writer is done just when it is lent a tree of so many symbols, a mark for each, and a record.
 pub record Has (depth symbols : ℕ) : Type 0 where
   pub in-all : places tree depth ≡ symbols
-  pub writes : (b t m root : List ℕ) → length b ≡ 256 * dataSymbols (depth - 1)
-      → (treeWritten depth (bytesOf (houseWords depth)) b t m root .answer ≡ Done) ↔ ((length t ≡ 256 * symbols) × (length m ≡ symbols) × (length root ≡ 512))
+  pub writes : (b t m r : List ℕ) → length b ≤ 256 * dataSymbols (depth - 1)
+      → (treeWritten depth (bytesOf (houseWords depth)) b t m r .answer ≡ Done) ↔ ((length t ≡ 256 * symbols) × (length m ≡ symbols) × (length r ≡ 556))
 
 -- each of these is a byte
 abbrev pub AreBytes : List ℕ → Type 0
 AreBytes b = every (λ x. ltb x 256) b ≡ true
 
--- a proof of this many bytes that is accepted, of a root and a table
+-- a proof of this many bytes that is accepted, of a record and a table
 pub record AcceptedOf (depth bytes : ℕ) : Type 0 where
-  pub root : List ℕ
+  pub root-record : List ℕ
   pub table : List ℕ
   pub proof : List ℕ
-  pub are-bytes : AreBytes root × AreBytes table × AreBytes proof
-  pub accepts : proofChecked depth root table proof ≡ Done
+  pub are-bytes : AreBytes root-record × AreBytes table × AreBytes proof
+  pub accepts : proofChecked depth root-record table proof ≡ Done
   pub sized : length proof ≡ bytes
 
 -- the longest proof: of an equation of the base with 8 members; none of any layer and of at most 8 members is longer; one of that length is
@@ -136,7 +149,7 @@ pub record Longest (depth bytes : ℕ) : Type 0 where
   pub reached : proofLength (depth - 1) 8 ≡ bytes
   pub none-longer : (j d : ℕ) → j < depth → d ≤ 8 → proofLength j d ≤ bytes
   pub some-accepted : AcceptedOf depth bytes
-  pub none-accepted : (root table b : List ℕ) → proofChecked depth root table b ≡ Done → length b ≤ bytes
+  pub none-accepted : (r table b : List ℕ) → proofChecked depth r table b ≡ Done → length b ≤ bytes
 
 -- In every correctly coded tree of this depth the hash of base symbol i stands in data symbol s of the layer above, in these bytes.
 pub record Stands (depth i s from upto : ℕ) : Type 0 where
@@ -152,6 +165,7 @@ pub data Case : Type 0 where
   symbolIs : (i byte : ℕ) → Case
   repairGives : (absent : List ℕ) (gives : List (ℕ × ℕ)) → Case
   repairLeaves : (absent : List ℕ) (end : End) (missing : List ℕ) (stored : ℕ) → Case
+  repairMisfills : (absent : List ℕ) (size stored : ℕ) → Case
   depthStops : (depth : ℕ) → Case
   depthsAre : (least most : ℕ) → Case
   depthHas : (depth symbols : ℕ) → Case
@@ -165,6 +179,7 @@ Holds (tableHas n v) = (length (houseWords 1) ≡ n) × (lastOf (houseWords 1) 0
 Holds (symbolIs i b) = symbolAt coded 0 i ≡ replicate 256 b
 Holds (repairGives absent gs) = (o : List ℕ) → Turns gs (entered absent o)
 Holds (repairLeaves absent z missing n) = (o : List ℕ) → length o ≡ 12 + 256 * (8 * 1 - 1) → Leaves absent z missing n o
+Holds (repairMisfills absent size n) = (o : List ℕ) → length o ≡ 12 + 256 * (8 * 1 - 1) → Misfills absent size n o
 Holds (depthStops d) = EveryCall now d (λ number. number ≡ 1)
 Holds (depthsAre a b) = Depths a b
 Holds (depthHas d n) = Has d n
@@ -191,6 +206,9 @@ cases =
     -- 6. "All absent: unavailable, all sixteen, stored 0."
     ∷ repairLeaves (0 ∷ 1 ∷ 2 ∷ 3 ∷ 4 ∷ 5 ∷ 6 ∷ 7 ∷ 8 ∷ 9 ∷ 10 ∷ 11 ∷ 12 ∷ 13 ∷ 14 ∷ 15 ∷ []) (unavailable 0)
     (0 ∷ 1 ∷ 2 ∷ 3 ∷ 4 ∷ 5 ∷ 6 ∷ 7 ∷ 8 ∷ 9 ∷ 10 ∷ 11 ∷ 12 ∷ 13 ∷ 14 ∷ 15 ∷ []) 0
+    -- 02, CR 5: "a tree repaired whole whose filling isn't zero ends with 13 in place of whole, the tree filled and correctly coded as for whole". Case 4 by a
+    -- record that says 1,023 bytes: byte 1,023 of the block is 08.
+    ∷ repairMisfills (0 ∷ 1 ∷ []) 1023 2
     -- 8. "Depth 0 and depth 6: 1. Depth 5 has 496 symbols." "Depth D is 1 to 5." 02, CR 6: "Depth up to 9. [..] That makes 8,176 symbols [..] Depth 10 stops
     -- with 1; case 8's depth 6 is accepted."
     ∷ depthStops 0

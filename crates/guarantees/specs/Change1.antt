@@ -19,7 +19,7 @@ use Rattle.fault_calls.specs.Checking.{proofChecked}
 use Rattle.fault_calls.specs.Repairing.{repairTested}
 use Rattle.guarantees.specs.Answers.{Answers}
 use Rattle.guarantees.specs.Tables.{TableRight, FirstWrongWord, AllInTwo, FirstNotInTwo}
-use Rattle.guarantees.specs.Refusals.{DepthRight, TableLength, WriterLengths, RepairLengths}
+use Rattle.guarantees.specs.Refusals.{DepthRight, TableLength, HeadRight, WriterLengths, RepairLengths}
 use Rattle.guarantees.specs.FaultProofs.{ProofLengths}
 use Rattle.guarantees.specs.Terms.{equationsOf}
 
@@ -48,12 +48,12 @@ module _ (d : ℕ) (ws : List ℕ) (before : Type 0) (a : Answer) where
 pub record Change1 : Type 0 where
   pub words-check : (d : ℕ) (ws : List ℕ) → Table d ws (DepthRight d) (wordsTested d ws)
   pub table-check : (d : ℕ) (table : List ℕ) → Table d (wordsOf table) (DepthRight d × TableLength table) (admitted d true table)
-  pub tree-writer : (d : ℕ) (table b t m root : List ℕ)
-      → Table d (wordsOf table) (DepthRight d × WriterLengths d table b t m root) (treeWritten d table b t m root .answer)
-  pub proof-checker : (d : ℕ) (root table b : List ℕ)
-      → Table d (wordsOf table) (DepthRight d × ProofLengths root table b) (proofChecked d root table b)
-  pub repairer : (d : ℕ) (root table t m o : List ℕ)
-      → Table d (wordsOf table) (DepthRight d × RepairLengths d root table t m o) (repairTested d root table t m o)
+  pub tree-writer : (d : ℕ) (table b t m r : List ℕ)
+      → Table d (wordsOf table) (DepthRight d × WriterLengths d table b t m r) (treeWritten d table b t m r .answer)
+  pub proof-checker : (d : ℕ) (r table b : List ℕ)
+      → Table d (wordsOf table) (DepthRight d × ProofLengths r table b × HeadRight d r) (proofChecked d r table b)
+  pub repairer : (d : ℕ) (r table t m o : List ℕ)
+      → Table d (wordsOf table) (DepthRight d × RepairLengths d r table t m o × HeadRight d r) (repairTested d r table t m o)
   -- and a table is taken just when it is so
   pub words-taken : (d : ℕ) (ws : List ℕ) → (wordsTested d ws ≡ Done) ↔ (DepthRight d × TableRight d ws × AllInTwo d (tableOf ws))
   pub table-taken : (d : ℕ) (table : List ℕ)

@@ -9,7 +9,7 @@ use lib.ListN.{length, getD}
 use Rattle.calls.specs.Stops.{numberOf}
 use Rattle.sample_calls.specs.Checking.{sampleChecked}
 use Rattle.fault_calls.specs.Checking.{proofChecked}
-use Rattle.guarantees.specs.Layouts.{symbolNo, dataSymbols, sampledLayer, sampledNumber, upFrom}
+use Rattle.guarantees.specs.Layouts.{symbolNo, dataSymbols, sampledLayer, sampledNumber, upFrom, rootPart}
 use Rattle.guarantees.specs.Trees.{AgreesWith}
 use Rattle.guarantees.specs.Refusals.{SampleFits, SampleBreaks}
 use Rattle.guarantees.specs.FaultProofs.{givenSymbol, withheldSymbol, Named, given, GivenFits, PathFits, AllLead, ProofBreaks, ProofReady}
@@ -56,19 +56,19 @@ module _ {d : ℕ} {b : List ℕ} (root table : List ℕ) (h : Named d (equation
 pub record Change4 : Type 0 where
   -- "The path test now answers with the first layer, going up from the given symbol, whose hash isn't the committed one; in a sample either symbol of a
   -- layer counts. [..] 7 comes back with that layer": both directions, with no second value
-  pub sample-stops : (d i : ℕ) (root s : List ℕ) (l p : ℕ)
-      → Answers (sampleChecked d i root s) 7 (l, p) ↔ (SampleReady d i root s × SampleBreaks d i root s l × (p ≡ 0))
+  pub sample-stops : (d i : ℕ) (r s : List ℕ) (l p : ℕ)
+      → Answers (sampleChecked d i r s) 7 (l, p) ↔ (SampleReady d i r s × SampleBreaks d i (rootPart r) s l × (p ≡ 0))
   -- ".. and for a proof also with the position of the first such member in proof order, the withheld one counting last and its path starting at layer j−1"
-  pub proof-stops : (d : ℕ) (root table b : List ℕ) (l p : ℕ)
-      → Answers (proofChecked d root table b) 7 (l, p) ↔ ((r : ProofReady d root table b) × ProofBreaks root (r .named) l p)
+  pub proof-stops : (d : ℕ) (r table b : List ℕ) (l p : ℕ)
+      → Answers (proofChecked d r table b) 7 (l, p) ↔ ((k : ProofReady d r table b) × ProofBreaks (rootPart r) (k .named) l p)
   -- accepted, or 8, just when no member breaks
-  pub proof-leads : (d : ℕ) (root table b : List ℕ)
-      → ((numberOf (proofChecked d root table b) ≡ 0) ⊎ (numberOf (proofChecked d root table b) ≡ 8)) ↔ ((r : ProofReady d root table b) × AllLead root (r .named))
+  pub proof-leads : (d : ℕ) (r table b : List ℕ)
+      → ((numberOf (proofChecked d r table b) ≡ 0) ⊎ (numberOf (proofChecked d r table b) ≡ 8)) ↔ ((k : ProofReady d r table b) × AllLead (rootPart r) (k .named))
   -- in a proof of layer 0 the withheld one can't break, since its hash stands in the root
-  pub proof-of-top : (d : ℕ) (root table b : List ℕ) (l p : ℕ) → Answers (proofChecked d root table b) 7 (l, p)
+  pub proof-of-top : (d : ℕ) (r table b : List ℕ) (l p : ℕ) → Answers (proofChecked d r table b) 7 (l, p)
       → (h : Named d (equationsOf table) b) → h .layer ≡ 0 → (l ≡ 0) × (p < length (given h))
   -- "The bench must know which shop's page to ask for again"
-  pub sample-page : (d i : ℕ) (root s : List ℕ) → SampleReady d i root s
-      → (tbl : List (List (List ℕ))) (f : ℕ → ℕ → List ℕ) → AgreesWith d tbl root f → SamplePage d i root s f
-  pub proof-page : (d : ℕ) (root table b : List ℕ) (r : ProofReady d root table b)
-      → (tbl : List (List (List ℕ))) (f : ℕ → ℕ → List ℕ) → AgreesWith d tbl root f → ProofPage root table (r .named) f
+  pub sample-page : (d i : ℕ) (r s : List ℕ) → SampleReady d i r s
+      → (tbl : List (List (List ℕ))) (f : ℕ → ℕ → List ℕ) → AgreesWith d tbl (rootPart r) f → SamplePage d i (rootPart r) s f
+  pub proof-page : (d : ℕ) (r table b : List ℕ) (k : ProofReady d r table b)
+      → (tbl : List (List (List ℕ))) (f : ℕ → ℕ → List ℕ) → AgreesWith d tbl (rootPart r) f → ProofPage (rootPart r) table (k .named) f

@@ -21,7 +21,7 @@ use Rattle.fault_calls.specs.Checking.{proofChecked}
 use Rattle.fault_calls.specs.Repairing.{repairTested, repaired}
 use Rattle.guarantees.specs.Layouts.{dataSymbols, treeSymbols}
 use Rattle.guarantees.specs.Tables.{TableRight}
-use Rattle.guarantees.specs.Refusals.{DepthRight, TableLength, TreeLengths, BlockLength, OutputLength, WriterLengths, RepairLengths}
+use Rattle.guarantees.specs.Refusals.{DepthRight, TableLength, TreeLengths, BlockFits, BlockLength, HeadRight, OutputLength, WriterLengths, RepairLengths}
 use Rattle.guarantees.specs.FaultProofs.{ProofLengths}
 use Rattle.guarantees.specs.Cases.{EveryCall, Has, Longest}
 use Rattle.guarantees.specs.Before.{now, callsBy, before}
@@ -32,8 +32,9 @@ pub record DepthNine : Type 0 where
   pub base : dataSymbols (9 - 1) ≡ 1024
   pub symbols : treeSymbols 9 ≡ 8176
   pub proof : Longest 9 18188
-  -- so a block, a tree with its marks, and repair's output have these lengths
-  pub block : (b : List ℕ) → BlockLength 9 b ↔ (length b ≡ 262144)
+  -- so a block has at most so many bytes, and the buffer that it is read back into, a tree with its marks, and repair's output have these lengths
+  pub block : (b : List ℕ) → BlockFits 9 b ↔ (length b ≤ 262144)
+  pub block-read : (b : List ℕ) → BlockLength 9 b ↔ (length b ≡ 262144)
   pub tree : (t m : List ℕ) → TreeLengths 9 t m ↔ ((length t ≡ 2093056) × (length m ≡ 8176))
   pub output : (o : List ℕ) → OutputLength 9 o ↔ (length o ≡ 18188)
 
@@ -68,23 +69,24 @@ pub record AsBefore (d : ℕ) : Type 0 where
   pub table-words : (ws : List ℕ) → wordsTested d ws ≡ before .table-words d ws
   pub table-bytes : (table : List ℕ) → LengthAsBefore d table → admitted d true table ≡ before .table-bytes d table
   pub house : (n m : ℕ) → houseAnswer d n m ≡ before .house d n m
-  pub tree-writer : (table b t m root : List ℕ) → LengthAsBefore d table → treeWritten d table b t m root ≡ before .tree-writer d table b t m root
-  pub block-reader : (t m b : List ℕ) → blockRead d t m b ≡ before .block-reader d t m b
+  pub tree-writer : (table b t m r : List ℕ) → LengthAsBefore d table → treeWritten d table b t m r ≡ before .tree-writer d table b t m r
+  pub block-reader : (r t m b : List ℕ) → blockRead d r t m b ≡ before .block-reader d r t m b
   pub sampler : (i : ℕ) (t m s : List ℕ) → sampleTaken d i t m s ≡ before .sampler d i t m s
-  pub sample-checker : (i : ℕ) (root s : List ℕ) → sampleChecked d i root s ≡ before .sample-checker d i root s
-  pub proof-checker : (root table b : List ℕ) → LengthAsBefore d table → proofChecked d root table b ≡ before .proof-checker d root table b
-  pub repairer : (root table t m o : List ℕ) → LengthAsBefore d table → repaired d root table t m o ≡ before .repairer d root table t m o
+  pub sample-checker : (i : ℕ) (r s : List ℕ) → sampleChecked d i r s ≡ before .sample-checker d i r s
+  pub proof-checker : (r table b : List ℕ) → LengthAsBefore d table → proofChecked d r table b ≡ before .proof-checker d r table b
+  pub repairer : (r table t m o : List ℕ) → LengthAsBefore d table → repaired d r table t m o ≡ before .repairer d r table t m o
 
--- a table of more: every call that is lent it stopped with 2; now it passes 2, where the other lengths are right, and stops with 3
+-- a table of more: every call that is lent it stopped with 2; now it passes 2 and 11, where the other lengths and the record's head are right, and stops
+-- with 3
 pub record LongerTable (d : ℕ) (table : List ℕ) : Type 0 where
   pub check-before : numberOf (before .table-bytes d table) ≡ 2
   pub check-now : numberOf (admitted d true table) ≡ 3
-  pub writer-before : (b t m root : List ℕ) → numberOf (before .tree-writer d table b t m root .answer) ≡ 2
-  pub writer-now : (b t m root : List ℕ) → WriterLengths d table b t m root → numberOf (treeWritten d table b t m root .answer) ≡ 3
-  pub proof-before : (root b : List ℕ) → numberOf (before .proof-checker d root table b) ≡ 2
-  pub proof-now : (root b : List ℕ) → ProofLengths root table b → numberOf (proofChecked d root table b) ≡ 3
-  pub repair-before : (root t m o : List ℕ) → numberOf (before .repair-tests d root table t m o) ≡ 2
-  pub repair-now : (root t m o : List ℕ) → RepairLengths d root table t m o → numberOf (repairTested d root table t m o) ≡ 3
+  pub writer-before : (b t m r : List ℕ) → numberOf (before .tree-writer d table b t m r .answer) ≡ 2
+  pub writer-now : (b t m r : List ℕ) → WriterLengths d table b t m r → numberOf (treeWritten d table b t m r .answer) ≡ 3
+  pub proof-before : (r b : List ℕ) → numberOf (before .proof-checker d r table b) ≡ 2
+  pub proof-now : (r b : List ℕ) → ProofLengths r table b → HeadRight d r → numberOf (proofChecked d r table b) ≡ 3
+  pub repair-before : (r t m o : List ℕ) → numberOf (before .repair-tests d r table t m o) ≡ 2
+  pub repair-now : (r t m o : List ℕ) → RepairLengths d r table t m o → HeadRight d r → numberOf (repairTested d r table t m o) ≡ 3
 
 -- ---- the request
 

@@ -18,13 +18,14 @@ use Rattle.parity_table.specs.declared.Answer.the-variants.{Whole}
 use Rattle.house_table.specs.House.{houseWords, houseAnswer, houseOut}
 use Rattle.model.specs.Shape.{tree}
 use Rattle.model.specs.Symbols.{symAt}
-use Rattle.model.specs.Writer.{blockOf, writeTree, writtenMarks, writtenRoot}
+use Rattle.model.specs.Writer.{writeTree, writtenMarks, writtenRoot, filled}
 use Rattle.model.specs.Sampling.{sampleBytes}
 use Rattle.symbol_hash.specs.SymbolHash.{symbolHash}
 use Rattle.symbol_hash.specs.declared.Kind.the-variants.{Plain}
+use Rattle.root_record.specs.Records.{recordOf}
 use Rattle.calls.specs.declared.Answer.{Answer}
 use Rattle.calls.specs.declared.Answer.the-variants.{Done}
-use Rattle.volume_calls.specs.Reading.{blockRead}
+use Rattle.volume_calls.specs.Reading.{blockGiven, blockRead}
 use Rattle.volume_calls.specs.Writing.{TreeLeft, treeWritten}
 use Rattle.sample_calls.specs.Taking.{sampleTaken}
 use Rattle.fault_calls.specs.Repairing.{Result, RepairLeft, repairTested, repairOf, repaired}
@@ -43,17 +44,17 @@ pub record Condition (success : Type 0) (old new now : List ℕ) : Type 0 where
 abbrev pub HouseWriter : List ℕ → List ℕ → Read → Type 0
 HouseWriter new lent a = Condition (a ≡ Whole) lent new (houseOut a new lent)
 
--- a tree, its marks and its root are written
-pub record TreeWriter (depth : ℕ) (table block t m root : List ℕ) (w : TreeLeft Answer) : Type 0 where
-  pub tree-bytes : Condition (w .answer ≡ Done) t (writeTree tree (symbolHash Plain) (equationsOf table) block t) (w .tree)
+-- a tree, its marks and its record are written
+pub record TreeWriter (depth : ℕ) (table block t m r : List ℕ) (w : TreeLeft Answer) : Type 0 where
+  pub tree-bytes : Condition (w .answer ≡ Done) t (writeTree tree (symbolHash Plain) (equationsOf table) (filled tree depth block) t) (w .tree)
   pub mark-bytes : Condition (w .answer ≡ Done) m (writtenMarks tree depth) (w .marks)
-  pub root-bytes : Condition (w .answer ≡ Done) root (writtenRoot tree (symbolHash Plain) (w .tree)) (w .root)
+  pub record-bytes : Condition (w .answer ≡ Done) r (recordOf depth (length block) table (writtenRoot tree (symbolHash Plain) (w .tree))) (w .root-record)
 
 -- tree, marks and output are repaired: what 01's steps make of them
-pub record Repairer (root table t m o : List ℕ) (a : Answer) (w : RepairLeft Result) : Type 0 where
-  pub tree-bytes : Condition (a ≡ Done) t (repairOf root table t m o .tree) (w .tree)
-  pub mark-bytes : Condition (a ≡ Done) m (repairOf root table t m o .marks) (w .marks)
-  pub out-bytes : Condition (a ≡ Done) o (repairOf root table t m o .out) (w .out)
+pub record Repairer (r table t m o : List ℕ) (a : Answer) (w : RepairLeft Result) : Type 0 where
+  pub tree-bytes : Condition (a ≡ Done) t (repairOf r table t m o .tree) (w .tree)
+  pub mark-bytes : Condition (a ≡ Done) m (repairOf r table t m o .marks) (w .marks)
+  pub out-bytes : Condition (a ≡ Done) o (repairOf r table t m o .out) (w .out)
 
 -- ---- every public call; the two checks of a table, the sample check and the proof check only read
 
@@ -66,9 +67,9 @@ pub record Demand1 : Type 0 where
   pub house-words : (depth : ℕ) (lent : List ℕ) → HouseWriter (houseWords depth) lent (houseAnswer depth (length lent) (length (houseWords depth)))
   pub house-bytes : (depth : ℕ) (lent : List ℕ)
       → HouseWriter (bytesOf (houseWords depth)) lent (houseAnswer depth (length lent) (length (houseWords depth) * 4))
-  pub tree-writer : (depth : ℕ) (table block t m root : List ℕ) → TreeWriter depth table block t m root (treeWritten depth table block t m root)
-  pub block-reader : (depth : ℕ) (t m b : List ℕ)
-      → Condition (blockRead depth t m b .answer ≡ Done) b (blockOf tree depth t) (blockRead depth t m b .block)
+  pub tree-writer : (depth : ℕ) (table block t m r : List ℕ) → TreeWriter depth table block t m r (treeWritten depth table block t m r)
+  pub block-reader : (depth : ℕ) (r t m b : List ℕ)
+      → Condition (blockRead depth r t m b .answer ≡ Done) b (blockGiven depth r t b) (blockRead depth r t m b .block)
   pub sampler : (depth i : ℕ) (t m s : List ℕ)
       → Condition (sampleTaken depth i t m s .answer ≡ Done) s (sampleBytes tree (symAt tree t) depth i) (sampleTaken depth i t m s .sample)
-  pub repairer : (depth : ℕ) (root table t m o : List ℕ) → Repairer root table t m o (repairTested depth root table t m o) (repaired depth root table t m o)
+  pub repairer : (depth : ℕ) (r table t m o : List ℕ) → Repairer r table t m o (repairTested depth r table t m o) (repaired depth r table t m o)

@@ -1,68 +1,75 @@
 -- Demand 2: "A block, its depth and its parity table give exactly the symbols and root that the coded Merkle tree's definition and FIPS 180-4
--- give. A complete tree gives back exactly that block, and a sample is accepted just when its hashes lead to the root." Statements only.
--- The definition is that of Trees.antt, 01's, with `sha256`, FIPS 180-4's.
+-- give. A complete tree gives back exactly that block, and a sample is accepted just when its hashes lead to the root." 02, CR 5: "Demand 2's root is
+-- now this record." Statements only. The definition is that of Trees.antt, 01's, with `sha256`, FIPS 180-4's.
 use mathlib.Core.Path.{_≡_}
 use mathlib.Core.Logic.{_⊎_, _↔_}
 use mathlib.Core.List.{List}
-use Prim.Native.Nat.{ℕ, _-_, _*_, _<_}
-use lib.ListN.{getD}
+use Prim.Native.Nat.{ℕ, _+_, _-_, _*_, _≤_, _<_}
+use lib.ListN.{length, getD, take, drop}
+use Rattle.sha256.specs.Hash.{sha256}
 use Rattle.table_bytes.specs.Bytes.{wordsOf}
 use Rattle.calls.specs.declared.Answer.the-variants.{Done}
 use Rattle.volume_calls.specs.Reading.{blockRead}
 use Rattle.volume_calls.specs.Writing.{treeWritten}
 use Rattle.sample_calls.specs.Checking.{sampleChecked}
 use Rattle.sample_calls.specs.Taking.{sampleTaken}
-use Rattle.guarantees.specs.Layouts.{symbolNo, dataSymbols, allSymbols, treeSymbols, symbolAt, markAt, sampledLayer, sampledNumber}
+use Rattle.guarantees.specs.Layouts.{symbolNo, dataSymbols, allSymbols, treeSymbols, symbolAt, markAt, sampledLayer, sampledNumber, recordBytes, blockSize, rootPart, blockStart, filledUp}
 use Rattle.guarantees.specs.Tables.{TableRules, listed}
 use Rattle.guarantees.specs.Trees.{CorrectlyCoded, RootOf, AgreesWith, HasBlock, Twins}
-use Rattle.guarantees.specs.Refusals.{DepthRight, TreeLengths, BlockLength, RootLength, SampleLength, InBase, AllHashesLead}
+use Rattle.guarantees.specs.Refusals.{DepthRight, TreeLengths, BlockFits, BlockLength, RecordLength, HeadRight, SampleLength, InBase, AllHashesLead}
 use Rattle.guarantees.specs.Terms.{equationsOf}
 
--- ---- what a call of the writer leaves, that was lent the buffers t, m and root
+-- ---- what a call of the writer leaves, that was lent the buffers t, m and r
 
-module _ (depth : ℕ) (table block t m root : List ℕ) where
+module _ (depth : ℕ) (table block t m r : List ℕ) where
   abbrev pub treeAfter : List ℕ
-  treeAfter = treeWritten depth table block t m root .tree
+  treeAfter = treeWritten depth table block t m r .tree
 
   abbrev pub marksAfter : List ℕ
-  marksAfter = treeWritten depth table block t m root .marks
+  marksAfter = treeWritten depth table block t m r .marks
 
-  abbrev pub rootAfter : List ℕ
-  rootAfter = treeWritten depth table block t m root .root
+  abbrev pub recordAfter : List ℕ
+  recordAfter = treeWritten depth table block t m r .root-record
 
 -- ---- "A block, its depth and its parity table give exactly the symbols and root that the coded Merkle tree's definition and FIPS 180-4 give."
 
-module _ (depth : ℕ) (table block t m root : List ℕ) where
-  -- symbol i of layer j that is written
+-- "The block length is 0 to 256·k of the base; the writer fills up with zeros."
+module _ (depth : ℕ) (table block t m r : List ℕ) where
+  -- symbol i of layer j that is written, and the root inside the record
   abbrev pub symbol : ℕ → ℕ → List ℕ
-  symbol = symbolAt (treeAfter depth table block t m root)
+  symbol = symbolAt (treeAfter depth table block t m r)
+
+  abbrev pub rootAfter : List ℕ
+  rootAfter = rootPart (recordAfter depth table block t m r)
 
   pub record Exactly : Type 0 where
     -- the equations are by the rules, and theirs are the words that were lent
     pub by-rules : TableRules depth (equationsOf table)
     pub table-words : wordsOf table ≡ listed (equationsOf table)
-    -- the tree is correctly coded, its layer 0 has the hashes that are the root, and its base has the block's data symbols
-    pub agrees : AgreesWith depth (equationsOf table) (rootAfter depth table block t m root) symbol
-    pub has-block : HasBlock depth symbol block
+    -- the block has room; the tree is correctly coded, its layer 0 has the hashes that are the root, and its base has the block's bytes and then zeros
+    pub block-fits : BlockFits depth block
+    pub agrees : AgreesWith depth (equationsOf table) rootAfter symbol
+    pub has-block : HasBlock depth symbol (filledUp depth block)
     -- and every correctly coded tree with that base has these symbols and this root
-    pub only : (f : ℕ → ℕ → List ℕ) → CorrectlyCoded depth (equationsOf table) f → HasBlock depth f block
+    pub only : (f : ℕ → ℕ → List ℕ) → CorrectlyCoded depth (equationsOf table) f → HasBlock depth f (filledUp depth block)
         → (j i : ℕ) → j < depth → i < allSymbols j → symbol j i ≡ f j i
-    pub only-root : (f : ℕ → ℕ → List ℕ) → CorrectlyCoded depth (equationsOf table) f → HasBlock depth f block
-        → RootOf f (rootAfter depth table block t m root)
+    pub only-root : (f : ℕ → ℕ → List ℕ) → CorrectlyCoded depth (equationsOf table) f → HasBlock depth f (filledUp depth block) → RootOf f rootAfter
+    -- the record, byte for byte
+    pub exact-record : recordAfter depth table block t m r ≡ recordBytes depth (length block) (length (wordsOf table)) (sha256 table) rootAfter
     -- "The writer sets every mark to 1."
-    pub marked : (p : ℕ) → p < treeSymbols depth → getD (marksAfter depth table block t m root) p 0 ≡ 1
-    pub lengths : TreeLengths depth (treeAfter depth table block t m root) (marksAfter depth table block t m root)
+    pub marked : (p : ℕ) → p < treeSymbols depth → getD (marksAfter depth table block t m r) p 0 ≡ 1
+    pub lengths : TreeLengths depth (treeAfter depth table block t m r) (marksAfter depth table block t m r)
 
 abbrev pub WritesExactly : Type 0
-WritesExactly = (depth : ℕ) (table block t m root : List ℕ) → treeWritten depth table block t m root .answer ≡ Done → Exactly depth table block t m root
+WritesExactly = (depth : ℕ) (table block t m r : List ℕ) → treeWritten depth table block t m r .answer ≡ Done → Exactly depth table block t m r
 
 -- whatever the lent buffers held
 abbrev pub WritesTheSame : Type 0
 WritesTheSame =
-    (depth : ℕ) (table block t m root t′ m′ root′ : List ℕ) → treeWritten depth table block t m root .answer ≡ Done → treeWritten depth table block t′ m′ root′ .answer ≡ Done
-    → (treeAfter depth table block t m root ≡ treeAfter depth table block t′ m′ root′)
-    × (marksAfter depth table block t m root ≡ marksAfter depth table block t′ m′ root′)
-    × (rootAfter depth table block t m root ≡ rootAfter depth table block t′ m′ root′)
+    (depth : ℕ) (table block t m r t′ m′ r′ : List ℕ) → treeWritten depth table block t m r .answer ≡ Done → treeWritten depth table block t′ m′ r′ .answer ≡ Done
+    → (treeAfter depth table block t m r ≡ treeAfter depth table block t′ m′ r′)
+    × (marksAfter depth table block t m r ≡ marksAfter depth table block t′ m′ r′)
+    × (recordAfter depth table block t m r ≡ recordAfter depth table block t′ m′ r′)
 
 -- ---- "A complete tree gives back exactly that block"
 
@@ -72,27 +79,39 @@ pub record CompleteTree (depth : ℕ) (t m : List ℕ) : Type 0 where
   pub lengths : TreeLengths depth t m
   pub all-held : (p : ℕ) → p < treeSymbols depth → getD m p 0 ≡ 1
 
--- of a complete tree a block is read
+-- of a complete tree a block is read, by every record of its depth
 abbrev pub ReadsComplete : Type 0
-ReadsComplete = (depth : ℕ) (t m b : List ℕ) → CompleteTree depth t m → BlockLength depth b → blockRead depth t m b .answer ≡ Done
+ReadsComplete =
+    (depth : ℕ) (r t m b : List ℕ) → CompleteTree depth t m → RecordLength r → HeadRight depth r → BlockLength depth b
+    → blockRead depth r t m b .answer ≡ Done
 
--- "Reading a block back copies the base's data symbols in order; each must be marked held."
-module _ (depth : ℕ) (t m b : List ℕ) where
+-- "Reading a block back copies the base's data symbols in order; each must be marked held." 02, CR 5: "Reading back needs every base data symbol as before,
+-- still lends 256·k bytes, gets the first length ones and leaves the rest."
+module _ (depth : ℕ) (r t m b : List ℕ) where
   abbrev pub blockAfter : List ℕ
-  blockAfter = blockRead depth t m b .block
+  blockAfter = blockRead depth r t m b .block
+
+  pub record BaseRead : Type 0 where
+    pub all-held : (i : ℕ) → i < dataSymbols (depth - 1) → markAt m (depth - 1) i ≡ 1
+    pub size-fits : blockSize r ≤ length b
+    pub same-length : length blockAfter ≡ length b
+    pub first-ones : (p : ℕ) → p < blockSize r → getD blockAfter p 0 ≡ getD t (blockStart depth + p) 0
+    pub rest-left : drop (blockSize r) blockAfter ≡ drop (blockSize r) b
 
 abbrev pub ReadsBase : Type 0
-ReadsBase =
-    (depth : ℕ) (t m b : List ℕ) → blockRead depth t m b .answer ≡ Done
-    → BlockLength depth (blockAfter depth t m b)
-    × ((i : ℕ) → i < dataSymbols (depth - 1) → (symbolNo (blockAfter depth t m b) i ≡ symbolAt t (depth - 1) i) × (markAt m (depth - 1) i ≡ 1))
+ReadsBase = (depth : ℕ) (r t m b : List ℕ) → blockRead depth r t m b .answer ≡ Done → BaseRead depth r t m b
 
--- of a tree that was written: exactly the block
+-- the lent buffer b has exactly this block in front, and what it had behind it
+pub record GivesBack (block b after : List ℕ) : Type 0 where
+  pub block-is : take (length block) after ≡ block
+  pub rest-left : drop (length block) after ≡ drop (length block) b
+
+-- of a tree that was written, with its record: exactly the block
 abbrev pub ReadsWritten : Type 0
 ReadsWritten =
-    (depth : ℕ) (table block t m root b : List ℕ) → treeWritten depth table block t m root .answer ≡ Done → BlockLength depth b
-    → (blockRead depth (treeAfter depth table block t m root) (marksAfter depth table block t m root) b .answer ≡ Done)
-    × (blockAfter depth (treeAfter depth table block t m root) (marksAfter depth table block t m root) b ≡ block)
+    (depth : ℕ) (table block t m r b : List ℕ) → treeWritten depth table block t m r .answer ≡ Done → BlockLength depth b
+    → (blockRead depth (recordAfter depth table block t m r) (treeAfter depth table block t m r) (marksAfter depth table block t m r) b .answer ≡ Done)
+    × GivesBack block b (blockAfter depth (recordAfter depth table block t m r) (treeAfter depth table block t m r) (marksAfter depth table block t m r) b)
 
 -- two trees show, at one layer and number, two different symbols of equal SHA-256
 pub record TreesCollide (depth : ℕ) (f g : ℕ → ℕ → List ℕ) : Type 0 where
@@ -101,29 +120,39 @@ pub record TreesCollide (depth : ℕ) (f g : ℕ → ℕ → List ℕ) : Type 0 
   pub in-tree : (layer < depth) × (number < allSymbols layer)
   pub collide : Twins (f layer number) (g layer number)
 
--- of any tree u that agrees with the root that was written, as one that was repaired whole does: the block, or a collision of the two trees
+-- of any tree u that agrees with the record that was written, as one that was repaired whole does: the block, or a collision of the two trees
 abbrev pub ReadsOriginal : Type 0
 ReadsOriginal =
-    (depth : ℕ) (table block t m root : List ℕ) → treeWritten depth table block t m root .answer ≡ Done
-    → (u w b : List ℕ) → blockRead depth u w b .answer ≡ Done → AgreesWith depth (equationsOf table) (rootAfter depth table block t m root) (symbolAt u)
-    → (blockAfter depth u w b ≡ block) ⊎ TreesCollide depth (symbolAt u) (symbol depth table block t m root)
+    (depth : ℕ) (table block t m r : List ℕ) → treeWritten depth table block t m r .answer ≡ Done
+    → (u w b : List ℕ) → blockRead depth (recordAfter depth table block t m r) u w b .answer ≡ Done
+    → AgreesWith depth (equationsOf table) (rootAfter depth table block t m r) (symbolAt u)
+    → GivesBack block b (blockAfter depth (recordAfter depth table block t m r) u w b) ⊎ TreesCollide depth (symbolAt u) (symbol depth table block t m r)
+
+-- of two trees that agree with a record, by one table, as those that two readers repaired whole or misfilled: the same bytes, or a collision of the two
+abbrev pub ReadsAgreed : Type 0
+ReadsAgreed =
+    (depth : ℕ) (r : List ℕ) (tbl : List (List (List ℕ))) → TableRules depth tbl → (u w b v x c : List ℕ)
+    → blockRead depth r u w b .answer ≡ Done → blockRead depth r v x c .answer ≡ Done
+    → AgreesWith depth tbl (rootPart r) (symbolAt u) → AgreesWith depth tbl (rootPart r) (symbolAt v)
+    → (take (blockSize r) (blockAfter depth r u w b) ≡ take (blockSize r) (blockAfter depth r v x c)) ⊎ TreesCollide depth (symbolAt u) (symbolAt v)
 
 -- ---- "and a sample is accepted just when its hashes lead to the root"
 
--- root and sample have their lengths, and the base has the symbol: what is tested before the hashes
-pub record SampleReady (depth i : ℕ) (root s : List ℕ) : Type 0 where
+-- record and sample have their lengths, the record's head is right, and the base has the symbol: what is tested before the hashes
+pub record SampleReady (depth i : ℕ) (r s : List ℕ) : Type 0 where
   pub depth-right : DepthRight depth
-  pub root-length : RootLength root
+  pub record-length : RecordLength r
   pub sample-length : SampleLength depth s
+  pub head-right : HeadRight depth r
   pub in-base : InBase depth i
 
 -- and every hash in the sample leads to the root
-pub record SampleRight (depth i : ℕ) (root s : List ℕ) : Type 0 where
-  pub ready : SampleReady depth i root s
-  pub all-lead : AllHashesLead depth i root s
+pub record SampleRight (depth i : ℕ) (r s : List ℕ) : Type 0 where
+  pub ready : SampleReady depth i r s
+  pub all-lead : AllHashesLead depth i (rootPart r) s
 
 abbrev pub AcceptsJustWhen : Type 0
-AcceptsJustWhen = (depth i : ℕ) (root s : List ℕ) → (sampleChecked depth i root s ≡ Done) ↔ SampleRight depth i root s
+AcceptsJustWhen = (depth i : ℕ) (r s : List ℕ) → (sampleChecked depth i r s ≡ Done) ↔ SampleRight depth i r s
 
 -- of a complete tree every sample is taken
 abbrev pub TakesComplete : Type 0
@@ -144,11 +173,11 @@ TakesExactly =
     (depth i : ℕ) (t m s : List ℕ) → sampleTaken depth i t m s .answer ≡ Done
     → SampleLength depth (sampleAfter depth i t m s) × SampleHas depth i (sampleAfter depth i t m s) (symbolAt t)
 
--- a sample that was taken of a tree that agrees, by whichever table, is accepted
+-- a sample that was taken of a tree that agrees with a record, by whichever table, is accepted
 abbrev pub AcceptsTaken : Type 0
 AcceptsTaken =
-    (depth i : ℕ) (root t m s : List ℕ) (tbl : List (List (List ℕ))) → TableRules depth tbl → AgreesWith depth tbl root (symbolAt t)
-    → sampleTaken depth i t m s .answer ≡ Done → sampleChecked depth i root (sampleAfter depth i t m s) ≡ Done
+    (depth i : ℕ) (r t m s : List ℕ) (tbl : List (List (List ℕ))) → RecordLength r → HeadRight depth r → TableRules depth tbl
+    → AgreesWith depth tbl (rootPart r) (symbolAt t) → sampleTaken depth i t m s .answer ≡ Done → sampleChecked depth i r (sampleAfter depth i t m s) ≡ Done
 
 -- an accepted sample has the symbols of every tree that agrees, or shows a collision with it
 pub record SampleCollides (depth i : ℕ) (s : List ℕ) (f : ℕ → ℕ → List ℕ) : Type 0 where
@@ -158,8 +187,8 @@ pub record SampleCollides (depth i : ℕ) (s : List ℕ) (f : ℕ → ℕ → Li
 
 abbrev pub AcceptedIsTrue : Type 0
 AcceptedIsTrue =
-    (depth i : ℕ) (root s : List ℕ) (tbl : List (List (List ℕ))) → TableRules depth tbl → sampleChecked depth i root s ≡ Done
-    → (f : ℕ → ℕ → List ℕ) → AgreesWith depth tbl root f → SampleHas depth i s f ⊎ SampleCollides depth i s f
+    (depth i : ℕ) (r s : List ℕ) (tbl : List (List (List ℕ))) → TableRules depth tbl → sampleChecked depth i r s ≡ Done
+    → (f : ℕ → ℕ → List ℕ) → AgreesWith depth tbl (rootPart r) f → SampleHas depth i s f ⊎ SampleCollides depth i s f
 
 -- ---- the demand
 
@@ -170,6 +199,7 @@ pub record Demand2 : Type 0 where
   pub reads-base : ReadsBase
   pub reads-written : ReadsWritten
   pub reads-original : ReadsOriginal
+  pub reads-agreed : ReadsAgreed
   pub accepts-just-when : AcceptsJustWhen
   pub takes-complete : TakesComplete
   pub takes-exactly : TakesExactly

@@ -8,10 +8,11 @@ use lib.ListN.{length, getD, take, drop, replicate}
 use Rattle.octets.specs.Choice.{pick}
 use Rattle.sha256.specs.Hash.{sha256}
 use Rattle.model.specs.Repair.{whole, fault, unavailable, twins, St}
-use Rattle.calls.specs.declared.Answer.the-variants.{Done}
+use Rattle.calls.specs.declared.Stop.{Stop}
+use Rattle.calls.specs.declared.Answer.the-variants.{Done, Stopped}
 use Rattle.fault_calls.specs.Checking.{proofChecked}
-use Rattle.fault_calls.specs.Repairing.{repairTested, repairOf, repaired, ended}
-use Rattle.guarantees.specs.Layouts.{symbolNo, dataSymbols, allSymbols, treeSymbols, symbolAt, markAt, hashFor, XorOf}
+use Rattle.fault_calls.specs.Repairing.{Result, repairTested, repairOf, repaired, ended, misfilled, stopped}
+use Rattle.guarantees.specs.Layouts.{symbolNo, dataSymbols, allSymbols, treeSymbols, symbolAt, markAt, hashFor, XorOf, blockSize, rootPart, blockRoom, blockStart}
 use Rattle.guarantees.specs.Tables.{IsMember}
 use Rattle.guarantees.specs.Trees.{members, EquationHolds, AgreesWith, Twins}
 use Rattle.guarantees.specs.Refusals.{TreeLengths}
@@ -33,8 +34,8 @@ pub record ProofCollides (depth : ℕ) (table b : List ℕ) (f : ℕ → ℕ →
 
 abbrev pub Checker : Type 0
 Checker =
-    (depth : ℕ) (root table : List ℕ) (f : ℕ → ℕ → List ℕ) → AgreesWith depth (equationsOf table) root f
-    → (b : List ℕ) → proofChecked depth root table b ≡ Done → ProofCollides depth table b f
+    (depth : ℕ) (r table : List ℕ) (f : ℕ → ℕ → List ℕ) → AgreesWith depth (equationsOf table) (rootPart r) f
+    → (b : List ℕ) → proofChecked depth r table b ≡ Done → ProofCollides depth table b f
 
 -- ---- "And whatever symbols and marks the shops send back, right, wrong or none, every repair of well-formed input .."
 
@@ -69,17 +70,21 @@ pub data Peeled (symbols equations : ℕ) (Gap : ℕ → Type 0) (symbol : ℕ �
       → ((q : ℕ) → q < e → NotTaken symbol equation before q)
       → ((y : ℕ) → y < symbols → (after y ≡ true) ↔ ((before y ≡ true) × (y ≢ x))) → Peeled symbols equations Gap symbol equation after
 
-module _ (depth : ℕ) (root table t m o : List ℕ) where
+module _ (depth : ℕ) (r table t m o : List ℕ) where
   -- what 01's steps of repair make of the tree t, the marks m and the output o
   abbrev pub steps : St
-  steps = repairOf root table t m o
+  steps = repairOf r table t m o
 
-  -- ".. gives the end, the reported numbers and every lent byte as 01's steps of repair do .."
+  -- what the call answers
+  abbrev pub answer : Result
+  answer = repaired depth r table t m o .answer
+
+  -- ".. gives the end, the reported numbers and every lent byte as 01's steps of repair do .."; 02, CR 5: ".. ends with 13 in place of whole"
   pub record AsTheSteps : Type 0 where
-    pub reports : repaired depth root table t m o .answer ≡ ended (steps .stored) (steps .end)
-    pub tree-left : repaired depth root table t m o .tree ≡ steps .tree
-    pub marks-left : repaired depth root table t m o .marks ≡ steps .marks
-    pub out-left : repaired depth root table t m o .out ≡ steps .out
+    pub reports : (answer ≡ ended (steps .stored) (steps .end)) ⊎ ((steps .end ≡ whole) × (answer ≡ misfilled (steps .stored)))
+    pub tree-left : repaired depth r table t m o .tree ≡ steps .tree
+    pub marks-left : repaired depth r table t m o .marks ≡ steps .marks
+    pub out-left : repaired depth r table t m o .out ≡ steps .out
 
   -- symbol i of layer j, and its mark, as the call leaves them, and the members of equation e
   abbrev pub symbol : ℕ → ℕ → List ℕ
@@ -93,7 +98,7 @@ module _ (depth : ℕ) (root table t m o : List ℕ) where
 
   -- "The committed hash of a symbol is the one that the root, or the layer above as the call leaves it, has for it."
   abbrev pub committed : ℕ → ℕ → List ℕ
-  committed = hashFor root symbol
+  committed = hashFor (rootPart r) symbol
 
   -- "The gaps of an entered layer are the places lent with mark 0 or with a symbol of another hash than the committed one"
   abbrev pub Gap : ℕ → ℕ → Type 0
@@ -135,12 +140,33 @@ module _ (depth : ℕ) (root table t m o : List ℕ) where
 
   -- ---- ".. and ends in one of these four ways: with every symbol marked held in a correctly coded tree that agrees with that root and table; .."
 
-  pub record EndsWhole : Type 0 where
+  pub record WholeTree : Type 0 where
     pub is-end : steps .end ≡ whole
     pub last : steps .entered ≡ depth
     pub all-held : (j i : ℕ) → j < depth → i < allSymbols j → mark j i ≡ 1
-    pub agrees : AgreesWith depth (equationsOf table) root symbol
+    pub agrees : AgreesWith depth (equationsOf table) (rootPart r) symbol
     pub out-untouched : steps .out ≡ o
+
+  -- byte p of the base's data symbols, from the block's length on: the filling
+  abbrev pub Filling : ℕ → Type 0
+  Filling p = (blockSize r ≤ p) × (p < blockRoom depth)
+
+  abbrev pub baseByte : ℕ → ℕ
+  baseByte p = getD (steps .tree) (blockStart depth + p) 0
+
+  pub record EndsWhole : Type 0 where
+    pub reported : answer ≡ ended (steps .stored) whole
+    pub whole-tree : WholeTree
+    pub filling-zero : (p : ℕ) → Filling p → baseByte p ≡ 0
+
+  -- ---- 02, CR 5: "a tree repaired whole whose filling isn't zero ends with 13 in place of whole, the tree filled and correctly coded as for whole"
+
+  pub record EndsMisfilled : Type 0 where
+    pub reported : answer ≡ misfilled (steps .stored)
+    pub whole-tree : WholeTree
+    pub byte : ℕ
+    pub in-filling : Filling byte
+    pub not-zero : baseByte byte ≢ 0
 
   -- 01 (b), "Take the lowest unused equation with at most one absent member": at layer j equation e was taken, x being the member that is withheld
 
@@ -166,9 +192,10 @@ module _ (depth : ℕ) (root table t m o : List ℕ) where
     pub withheld : ℕ
     pub size : ℕ
     pub is-end : steps .end ≡ fault layer equation-no withheld size
+    pub reported : answer ≡ ended (steps .stored) (fault layer equation-no withheld size)
     pub took : Took layer equation-no withheld
     pub why : (mark layer withheld ≡ 0) ⊎ LastOfFailing layer equation-no withheld
-    pub accepted : proofChecked depth root table (take size (steps .out)) ≡ Done
+    pub accepted : proofChecked depth r table (take size (steps .out)) ≡ Done
     pub proof : Written depth (equationsOf table) symbol layer equation-no withheld (take size (steps .out))
     pub exact : length (take size (steps .out)) ≡ size
     pub out-rest : drop size (steps .out) ≡ drop size o
@@ -179,6 +206,7 @@ module _ (depth : ℕ) (root table t m o : List ℕ) where
   pub record EndsUnavailable : Type 0 where
     pub layer : ℕ
     pub is-end : steps .end ≡ unavailable layer
+    pub reported : answer ≡ ended (steps .stored) (unavailable layer)
     pub last : steps .entered ≡ suc layer
     -- the topmost with a mark 0
     pub incomplete : (i : ℕ) × (i < allSymbols layer) × (mark layer i ≡ 0)
@@ -203,6 +231,7 @@ module _ (depth : ℕ) (root table t m o : List ℕ) where
     pub equation-no : ℕ
     pub number : ℕ
     pub is-end : steps .end ≡ twins layer number
+    pub reported : answer ≡ ended (steps .stored) (twins layer number)
     pub took : Took layer equation-no number
     pub why : LastOfFailing layer equation-no number
     pub shown : Twins (symbolNo (steps .out) 0) (symbolNo (steps .out) 1)
@@ -213,18 +242,26 @@ module _ (depth : ℕ) (root table t m o : List ℕ) where
     pub is-committed : sha256 (symbolNo (steps .out) 0) ≡ committed layer number
     pub out-rest : drop 512 (steps .out) ≡ drop 512 o
 
-  -- the sentence, of a repair whose input no numbered test turns away
+  -- the sentence, of a repair whose input no numbered test turns away; 13 counts as the first of the demand's four ways
   pub record Repair : Type 0 where
     pub as-the-steps : AsTheSteps
-    pub one-of-four : EndsWhole ⊎ (EndsFault ⊎ (EndsUnavailable ⊎ EndsTwins))
+    pub one-of-five : EndsWhole ⊎ (EndsMisfilled ⊎ (EndsFault ⊎ (EndsUnavailable ⊎ EndsTwins)))
+    pub one-of-four : WholeTree ⊎ (EndsFault ⊎ (EndsUnavailable ⊎ EndsTwins))
     pub every-end : EveryEnd
+    -- 13 comes just where the steps end whole and a byte of the filling isn't zero
+    pub misfilled-just-when : (s : ℕ) → (answer ≡ misfilled s) ↔ ((steps .end ≡ whole) × (s ≡ steps .stored) × ((p : ℕ) × Filling p × (baseByte p ≢ 0)))
 
 -- "Input to a repair is well-formed when no numbered test turns it away before layer 0 is entered": just when, is in Refusals.antt.
 abbrev pub Repairs : Type 0
-Repairs = (depth : ℕ) (root table t m o : List ℕ) → repairTested depth root table t m o ≡ Done → Repair depth root table t m o
+Repairs = (depth : ℕ) (r table t m o : List ℕ) → repairTested depth r table t m o ≡ Done → Repair depth r table t m o
+
+-- a repair stops just where a numbered test turns its input away, with what that test says
+abbrev pub StopsJustWhen : Type 0
+StopsJustWhen = (depth : ℕ) (r table t m o : List ℕ) (s : Stop) → (answer depth r table t m o ≡ stopped s) ↔ (repairTested depth r table t m o ≡ Stopped s)
 
 -- ---- the demand
 
 pub record Demand3 : Type 0 where
   pub checker : Checker
   pub repairs : Repairs
+  pub stops-just-when : StopsJustWhen

@@ -10,10 +10,10 @@ use Rattle.model.specs.Shape.{tree}
 use Rattle.model.specs.Fault.{proofBytes, ProofHolds}
 use Rattle.calls.specs.declared.Answer.the-variants.{Done}
 use Rattle.fault_calls.specs.Checking.{proofChecked}
-use Rattle.guarantees.specs.Layouts.{bytesFrom, dataSymbols, allSymbols, hashFor, XorOf, upFrom, wordNo, kindValue}
+use Rattle.guarantees.specs.Layouts.{bytesFrom, dataSymbols, allSymbols, hashFor, XorOf, upFrom, wordNo, kindValue, rootPart}
 use Rattle.guarantees.specs.Tables.{TableRules, TableRight, AllInTwo}
 use Rattle.guarantees.specs.Trees.{members}
-use Rattle.guarantees.specs.Refusals.{DepthRight, TableLength, takesTable}
+use Rattle.guarantees.specs.Refusals.{DepthRight, TableLength, RecordLength, HeadRight, NamesTable, takesNamed}
 use Rattle.guarantees.specs.Answers.{Answered, done, test, unless, two, Just}
 use Rattle.guarantees.specs.Terms.{equationsOf}
 
@@ -105,45 +105,47 @@ module _ {depth : ℕ} {tbl : List (List (List ℕ))} {b : List ℕ} (root : Lis
 -- ---- the checker
 
 -- 2: "a buffer's length wrong, [..] proof under 12 bytes"
-pub record ProofLengths (root table b : List ℕ) : Type 0 where
-  pub root-full : length root ≡ 512
+pub record ProofLengths (r table b : List ℕ) : Type 0 where
+  pub record-length : RecordLength r
   pub table-length : TableLength table
   pub head-there : 12 ≤ length b
 
 -- what is tested before the hashes
-pub record ProofReady (depth : ℕ) (root table b : List ℕ) : Type 0 where
+pub record ProofReady (depth : ℕ) (r table b : List ℕ) : Type 0 where
   pub depth-right : DepthRight depth
-  pub lengths-right : ProofLengths root table b
+  pub lengths-right : ProofLengths r table b
+  pub head-right : HeadRight depth r
   pub table-right : TableRight depth (wordsOf table)
   pub table-covered : AllInTwo depth (equationsOf table)
+  pub table-named : NamesTable r table
   pub named : Named depth (equationsOf table) b
   pub exact : Exact named
 
 -- "It is accepted when every hash leads to the root and the hash of the exclusive-or of the given members differs from the hash committed for
 -- the withheld one."
-pub record ProofRight (depth : ℕ) (root table b : List ℕ) : Type 0 where
-  pub ready : ProofReady depth root table b
-  pub all-lead : AllLead root (ready .named)
-  pub differs : Fits root (ready .named) → ⊥
+pub record ProofRight (depth : ℕ) (r table b : List ℕ) : Type 0 where
+  pub ready : ProofReady depth r table b
+  pub all-lead : AllLead (rootPart r) (ready .named)
+  pub differs : Fits (rootPart r) (ready .named) → ⊥
 
 abbrev pub AcceptsProofJustWhen : Type 0
-AcceptsProofJustWhen = (depth : ℕ) (root table b : List ℕ) → (proofChecked depth root table b ≡ Done) ↔ ProofRight depth root table b
+AcceptsProofJustWhen = (depth : ℕ) (r table b : List ℕ) → (proofChecked depth r table b ≡ Done) ↔ ProofRight depth r table b
 
--- "A proof is tested 1, 2, 3, 6, then 2 again for the length its head demands, 7, 8", and 10 "right after 3"
+-- "A proof is tested 1, 2, 3, 6, then 2 again for the length its head demands, 7, 8", 10 "right after 3", "11 after 2", and "12 after 10"
 abbrev pub proofTests : ℕ → List ℕ → List ℕ → List ℕ → Answered
-proofTests depth root table b =
+proofTests depth r table b =
     test 1 (unless (DepthRight depth))
-    (test 2 (unless (ProofLengths root table b))
-    (takesTable depth table
+    (test 2 (unless (ProofLengths r table b))
+    (takesNamed depth r table
     (test 6 (unless (Named depth (equationsOf table) b))
     (test 2 (unless ((h : Named depth (equationsOf table) b) × Exact h))
-    (test 7 (two (λ l p. (h : Named depth (equationsOf table) b) × ProofBreaks root h l p))
-    (test 8 (unless ((h : Named depth (equationsOf table) b) × (Fits root h → ⊥))) done))))))
+    (test 7 (two (λ l p. (h : Named depth (equationsOf table) b) × ProofBreaks (rootPart r) h l p))
+    (test 8 (unless ((h : Named depth (equationsOf table) b) × (Fits (rootPart r) h → ⊥))) done))))))
 
 abbrev pub ProofCheckerAnswers : Type 0
 ProofCheckerAnswers =
-    (depth : ℕ) (root table b : List ℕ)
-    → Just (proofChecked depth root table b) (proofTests depth root table b)
+    (depth : ℕ) (r table b : List ℕ)
+    → Just (proofChecked depth r table b) (proofTests depth r table b)
 
 -- ---- "A proof holds each given member at layer j under its own number, and each path symbol at its layer under the number the path reaches
 -- there: from symbol i to data symbol (i mod s) of the layer above."

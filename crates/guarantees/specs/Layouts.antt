@@ -1,9 +1,9 @@
 -- 01's layouts in its own numbers, by bytes and places alone: what the statements of this crate are said in. Of other crates only the choice by a
 -- test stands behind them, so a number that is wrong elsewhere isn't also wrong here. Definitions only.
 use mathlib.Core.Path.{_≡_}
-use mathlib.Core.List.{List}
+use mathlib.Core.List.{List, [], _∷_, _++_}
 use Prim.Native.Nat.{ℕ, zero, suc, _+_, _-_, _*_, _/_, _%_, _^_, _<_}
-use lib.ListN.{length, getD, take, drop}
+use lib.ListN.{length, getD, take, drop, replicate}
 use lib.Bits.{bitXor}
 use lib.Dec.{eqb}
 use Rattle.octets.specs.Choice.{pick}
@@ -86,3 +86,40 @@ wordNo b w = 2 ^ 24 * getD b (4 * w) 0 + 2 ^ 16 * getD b (4 * w + 1) 0 + 2 ^ 8 *
 -- "the top two bits are the kind, the low 30 a value"
 abbrev pub kindValue : ℕ → ℕ → ℕ
 kindValue kind value = kind * 2 ^ 30 + value
+
+-- kind and value of word w of a list of bytes
+abbrev pub kindNo : List ℕ → ℕ → ℕ
+kindNo b w = wordNo b w / 2 ^ 30
+
+abbrev pub valueNo : List ℕ → ℕ → ℕ
+valueNo b w = wordNo b w % 2 ^ 30
+
+-- the four bytes of a 32-bit number, the highest first
+abbrev pub wordBytes : ℕ → List ℕ
+wordBytes x = x / 2 ^ 24 % 256 ∷ x / 2 ^ 16 % 256 ∷ x / 2 ^ 8 % 256 ∷ x % 256 ∷ []
+
+-- ---- 02, "Length and table written in the root record"
+
+-- "three big-endian words (kind 01 the depth, 10 the block length in bytes, 11 the number of table words), then the SHA-256 of the table words as
+-- big-endian bytes, then the old 512 bytes: 556 in all"; hash is that SHA-256
+abbrev pub recordBytes : (depth size count : ℕ) (hash root : List ℕ) → List ℕ
+recordBytes depth size count hash root =
+    wordBytes (kindValue 1 depth) ++ wordBytes (kindValue 2 size) ++ wordBytes (kindValue 3 count) ++ hash ++ root
+
+-- the block length in a record, and the old 512 bytes
+abbrev pub blockSize : List ℕ → ℕ
+blockSize r = valueNo r 1
+
+abbrev pub rootPart : List ℕ → List ℕ
+rootPart r = drop 44 r
+
+-- the bytes of the base's data symbols that a block can have at depth d, and where they begin in the tree buffer
+abbrev pub blockRoom : ℕ → ℕ
+blockRoom d = 256 * dataSymbols (d - 1)
+
+abbrev pub blockStart : ℕ → ℕ
+blockStart d = 256 * treeSymbols (d - 1)
+
+-- "the writer fills up with zeros"
+abbrev pub filledUp : ℕ → List ℕ → List ℕ
+filledUp d block = block ++ replicate (blockRoom d - length block) 0

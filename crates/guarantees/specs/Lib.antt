@@ -15,4 +15,5 @@ pub mod Before
 pub mod Cases
 pub mod Change1
 pub mod Change4
+pub mod Change5
 pub mod Change6

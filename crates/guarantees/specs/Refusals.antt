@@ -25,7 +25,7 @@ use Rattle.sample_calls.specs.Checking.{sampleChecked}
 use Rattle.sample_calls.specs.Taking.{sampleTaken}
 use Rattle.fault_calls.specs.Repairing.{repairTested}
 use Rattle.cedunmi_c.specs.Result.{hashAnswer}
-use Rattle.guarantees.specs.Layouts.{symbolNo, dataSymbols, allSymbols, treeSymbols, markAt, hashFor, sampledLayer, sampledNumber}
+use Rattle.guarantees.specs.Layouts.{bytesFrom, symbolNo, dataSymbols, allSymbols, treeSymbols, markAt, hashFor, sampledLayer, sampledNumber, kindNo, valueNo, blockSize, rootPart, blockRoom}
 use Rattle.guarantees.specs.Tables.{FirstWrongWord, FirstNotInTwo}
 use Rattle.guarantees.specs.Answers.{Answered, done, test, unless, one, two, Just}
 
@@ -51,18 +51,33 @@ pub record TreeLengths (d : ℕ) (t m : List ℕ) : Type 0 where
   pub tree-bytes : length t ≡ 256 * treeSymbols d
   pub mark-bytes : length m ≡ treeSymbols d
 
--- 2, of a block: "exactly 256·k bytes of the base"; of a root: "512 bytes"; of a sample: "256·(2D−1)"; of repair's output: "12+256·(8D−1) bytes"
-abbrev pub BlockLength : ℕ → List ℕ → Type 0
-BlockLength d b = length b ≡ 256 * dataSymbols (d - 1)
+-- 2, of a block: "0 to 256·k of the base"; of a buffer to read one back into: "256·k bytes"; of a record: "556 in all"; of a sample: "256·(2D−1)"; of
+-- repair's output: "12+256·(8D−1) bytes"
+abbrev pub BlockFits : ℕ → List ℕ → Type 0
+BlockFits d b = length b ≤ blockRoom d
 
-abbrev pub RootLength : List ℕ → Type 0
-RootLength root = length root ≡ 512
+abbrev pub BlockLength : ℕ → List ℕ → Type 0
+BlockLength d b = length b ≡ blockRoom d
+
+abbrev pub RecordLength : List ℕ → Type 0
+RecordLength r = length r ≡ 556
 
 abbrev pub SampleLength : ℕ → List ℕ → Type 0
 SampleLength d s = length s ≡ 256 * (2 * d - 1)
 
 abbrev pub OutputLength : ℕ → List ℕ → Type 0
 OutputLength d o = length o ≡ 12 + 256 * (8 * d - 1)
+
+-- 11: "A head with a wrong kind, a length over 256·k or another depth than the call's stops with 11 after 2"
+pub record HeadRight (d : ℕ) (r : List ℕ) : Type 0 where
+  pub kinds : (kindNo r 0 ≡ 1) × (kindNo r 1 ≡ 2) × (kindNo r 2 ≡ 3)
+  pub depth-is : valueNo r 0 ≡ d
+  pub size-fits : blockSize r ≤ blockRoom d
+
+-- 12: "a table of another word count or hash stops with 12 after 10"; the table's words come as big-endian bytes
+pub record NamesTable (r table : List ℕ) : Type 0 where
+  pub count-is : valueNo r 2 ≡ length (wordsOf table)
+  pub hash-is : bytesFrom r 12 32 ≡ sha256 table
 
 -- 4: "a mark neither 0 nor 1", with the "lowest place"
 abbrev pub BadMark : ℕ → List ℕ → ℕ → Type 0
@@ -118,6 +133,10 @@ takesWords d ws later = test 3 (one (FirstWrongWord d ws)) (test 10 (two (FirstN
 abbrev pub takesTable : ℕ → List ℕ → Answered → Answered
 takesTable d table later = takesWords d (wordsOf table) later
 
+-- .. by a record: 11 before them, and 12 after
+abbrev pub takesNamed : ℕ → List ℕ → List ℕ → Answered → Answered
+takesNamed d r table later = test 11 (unless (HeadRight d r)) (takesTable d table (test 12 (unless (NamesTable r table)) later))
+
 -- a table as words, and as bytes from C
 abbrev pub wordsTests : ℕ → List ℕ → Answered
 wordsTests d ws = test 1 (unless (DepthRight d)) (takesWords d ws done)
@@ -129,19 +148,21 @@ tableTests d table = test 1 (unless (DepthRight d)) (test 2 (unless (TableLength
 abbrev pub houseTests : ℕ → ℕ → ℕ → Answered
 houseTests d w n = test 1 (unless (DepthRight d)) (test 2 (unless (n ≡ w * (5 * 12 * (2 ^ d - 1) + 1))) done)
 
-module _ (d : ℕ) (table b t m root : List ℕ) where
+module _ (d : ℕ) (table b t m r : List ℕ) where
   pub record WriterLengths : Type 0 where
     pub table-length : TableLength table
-    pub block-length : BlockLength d b
+    pub block-fits : BlockFits d b
     pub tree-lengths : TreeLengths d t m
-    pub root-length : RootLength root
+    pub record-length : RecordLength r
 
   abbrev pub writerTests : Answered
   writerTests = test 1 (unless (DepthRight d)) (test 2 (unless WriterLengths) (takesTable d table done))
 
-abbrev pub blockTests : ℕ → List ℕ → List ℕ → List ℕ → Answered
-blockTests d t m b =
-    test 1 (unless (DepthRight d)) (test 2 (unless (TreeLengths d t m × BlockLength d b)) (test 4 (one (BadMark d m)) (test 9 (one (AbsentData d m)) done)))
+abbrev pub blockTests : ℕ → List ℕ → List ℕ → List ℕ → List ℕ → Answered
+blockTests d r t m b =
+    test 1 (unless (DepthRight d))
+    (test 2 (unless (RecordLength r × TreeLengths d t m × BlockLength d b))
+    (test 11 (unless (HeadRight d r)) (test 4 (one (BadMark d m)) (test 9 (one (AbsentData d m)) done))))
 
 abbrev pub samplerTests : ℕ → ℕ → List ℕ → List ℕ → List ℕ → Answered
 samplerTests d i t m s =
@@ -150,13 +171,14 @@ samplerTests d i t m s =
     (test 4 (one (BadMark d m)) (test 5 (unless (InBase d i)) (test 9 (one (AbsentSampled d i m)) done))))
 
 abbrev pub sampleTests : ℕ → ℕ → List ℕ → List ℕ → Answered
-sampleTests d i root s =
+sampleTests d i r s =
     test 1 (unless (DepthRight d))
-    (test 2 (unless (RootLength root × SampleLength d s)) (test 5 (unless (InBase d i)) (test 7 (one (SampleBreaks d i root s)) done)))
+    (test 2 (unless (RecordLength r × SampleLength d s))
+    (test 11 (unless (HeadRight d r)) (test 5 (unless (InBase d i)) (test 7 (one (SampleBreaks d i (rootPart r) s)) done))))
 
-module _ (d : ℕ) (root table t m o : List ℕ) where
+module _ (d : ℕ) (r table t m o : List ℕ) where
   pub record RepairLengths : Type 0 where
-    pub root-length : RootLength root
+    pub record-length : RecordLength r
     pub table-length : TableLength table
     pub tree-lengths : TreeLengths d t m
     pub output-length : OutputLength d o
@@ -164,7 +186,7 @@ module _ (d : ℕ) (root table t m o : List ℕ) where
   abbrev pub repairTests : Answered
   repairTests =
       test 1 (unless (DepthRight d))
-      (test 2 (unless RepairLengths) (takesTable d table (test 4 (one (BadMark d m)) done)))
+      (test 2 (unless RepairLengths) (takesNamed d r table (test 4 (one (BadMark d m)) done)))
 
 -- ---- each call answers as its tests say, and not otherwise
 
@@ -178,8 +200,8 @@ pub record Refusals : Type 0 where
   pub table-bytes : (d : ℕ) (table : List ℕ) → Just (admitted d true table) (tableTests d table)
   pub house-words : (d n : ℕ) → Just (readAnswer (houseAnswer d n (length (houseWords d)))) (houseTests d 1 n)
   pub house-bytes : (d n : ℕ) → Just (readAnswer (houseAnswer d n (length (houseWords d) * 4))) (houseTests d 4 n)
-  pub tree-writer : (d : ℕ) (table b t m root : List ℕ) → Just (treeWritten d table b t m root .answer) (writerTests d table b t m root)
-  pub block-reader : (d : ℕ) (t m b : List ℕ) → Just (blockRead d t m b .answer) (blockTests d t m b)
+  pub tree-writer : (d : ℕ) (table b t m r : List ℕ) → Just (treeWritten d table b t m r .answer) (writerTests d table b t m r)
+  pub block-reader : (d : ℕ) (r t m b : List ℕ) → Just (blockRead d r t m b .answer) (blockTests d r t m b)
   pub sampler : (d i : ℕ) (t m s : List ℕ) → Just (sampleTaken d i t m s .answer) (samplerTests d i t m s)
-  pub sample-checker : (d i : ℕ) (root s : List ℕ) → Just (sampleChecked d i root s) (sampleTests d i root s)
-  pub repairer : (d : ℕ) (root table t m o : List ℕ) → Just (repairTested d root table t m o) (repairTests d root table t m o)
+  pub sample-checker : (d i : ℕ) (r s : List ℕ) → Just (sampleChecked d i r s) (sampleTests d i r s)
+  pub repairer : (d : ℕ) (r table t m o : List ℕ) → Just (repairTested d r table t m o) (repairTests d r table t m o)

@@ -31,7 +31,7 @@ pub record AgreesWith (d : ℕ) (tbl : List (List (List ℕ))) (root : List ℕ)
   pub correctly-coded : CorrectlyCoded d tbl f
   pub root-of : RootOf f root
 
--- "The block is exactly 256·k bytes of the base, cut in order into data symbols."
+-- "cut in order into data symbols": a block that is filled up, as 02, CR 5 has it
 abbrev pub HasBlock : ℕ → (ℕ → ℕ → List ℕ) → List ℕ → Type 0
 HasBlock d f block = (i : ℕ) → i < dataSymbols (d - 1) → f (d - 1) i ≡ symbolNo block i
 
