@@ -113,7 +113,9 @@ enum {
     CMT_WRONG_HASH = 7,
     CMT_NO_FAULT = 8,
     CMT_ABSENT = 9,
-    CMT_UNCOVERED = 10
+    CMT_UNCOVERED = 10,
+    CMT_WRONG_RECORD = 11,
+    CMT_OTHER_TABLE = 12
 };
 
 /* What cmt_repair_end() gives: the end of a repair, or that it stopped and has none. */
@@ -122,6 +124,7 @@ enum {
     CMT_FAULT = 1,
     CMT_UNAVAILABLE = 2,
     CMT_TWINS = 3,
+    CMT_MISFILLED = 13,
     CMT_NO_END = 16777216
 };
 
@@ -150,6 +153,10 @@ enum {
 #define CMT_TREE_BYTES(depth) (256 * CMT_MARKS_BYTES(depth))
 #define CMT_BLOCK_BYTES(depth) (256 * (CMT_SIZE(4) << ((depth) - 1)))
 #define CMT_SAMPLE_BYTES(depth) (256 * (2 * CMT_SIZE(depth) - 1))
+
+/* The bytes of a record, which are those of its head and of the root in it. */
+#define CMT_RECORD_BYTES 556
+#define CMT_RECORD_HEAD_BYTES 44
 #define CMT_ROOT_BYTES 512
 
 /*
@@ -235,6 +242,10 @@ static inline const char *cmt_explain(uint64_t number)
         return "a needed page is absent";
     case CMT_UNCOVERED:
         return "a data page stands in fewer than two equations of its layer";
+    case CMT_WRONG_RECORD:
+        return "the record's head has a wrong kind, a length that is too large, or another depth than the call's";
+    case CMT_OTHER_TABLE:
+        return "the table is not the one that the record names";
     default:
         return "a number that no call gives";
     }
@@ -245,13 +256,16 @@ static inline const char *cmt_explain_end(uint64_t end)
 {
     switch (end) {
     case CMT_WHOLE:
-        return "whole: every page is held, and the tree agrees with the root and the table";
+        return "whole: every page is held, and the tree agrees with the record and the table";
     case CMT_FAULT:
         return "fault: the volume was not coded as the table says";
     case CMT_UNAVAILABLE:
         return "unavailable: no equation gives another page of the layer";
     case CMT_TWINS:
         return "twins: two different pages of equal SHA-256 were found";
+    case CMT_MISFILLED:
+        return "misfilled: every page is held, and the tree agrees with the root and the table, but what fills up the "
+               "volume isn't zero";
     case CMT_NO_END:
         return "no end: the repair stopped";
     default:
@@ -316,7 +330,7 @@ uint64_t cmt_tree_write(uint64_t depth, const uint8_t *table, size_t table_len,
                         const uint8_t *block, size_t block_len,
                         uint8_t *tree, size_t tree_len,
                         uint8_t *marks, size_t marks_len,
-                        uint8_t *root, size_t root_len);
+                        uint8_t *record, size_t record_len);
 
 /*
  * Reads the block back: copies the base's data pages, each of which must be
@@ -331,7 +345,8 @@ uint64_t cmt_tree_write(uint64_t depth, const uint8_t *table, size_t table_len,
  *                   page.
  */
 CMT_CHECKED
-uint64_t cmt_block_read(uint64_t depth, const uint8_t *tree, size_t tree_len,
+uint64_t cmt_block_read(uint64_t depth, const uint8_t *record, size_t record_len,
+                        const uint8_t *tree, size_t tree_len,
                         const uint8_t *marks, size_t marks_len,
                         uint8_t *block, size_t block_len);
 
@@ -372,7 +387,7 @@ uint64_t cmt_sample_take(uint64_t depth, uint64_t number,
  */
 CMT_CHECKED
 uint64_t cmt_sample_check(uint64_t depth, uint64_t number,
-                          const uint8_t *root, size_t root_len,
+                          const uint8_t *record, size_t record_len,
                           const uint8_t *sample, size_t sample_len);
 
 /*
@@ -405,7 +420,7 @@ uint64_t cmt_sample_check(uint64_t depth, uint64_t number,
  * CMT_NO_FAULT      the hashes are equal.
  */
 CMT_CHECKED
-uint64_t cmt_proof_check(uint64_t depth, const uint8_t *root, size_t root_len,
+uint64_t cmt_proof_check(uint64_t depth, const uint8_t *record, size_t record_len,
                          const uint8_t *table, size_t table_len,
                          const uint8_t *proof, size_t proof_len);
 
@@ -431,7 +446,7 @@ uint64_t cmt_proof_check(uint64_t depth, const uint8_t *root, size_t root_len,
  * were.
  */
 CMT_CHECKED
-uint64_t cmt_repair(uint64_t depth, const uint8_t *root, size_t root_len,
+uint64_t cmt_repair(uint64_t depth, const uint8_t *record, size_t record_len,
                     const uint8_t *table, size_t table_len,
                     uint8_t *tree, size_t tree_len,
                     uint8_t *marks, size_t marks_len,

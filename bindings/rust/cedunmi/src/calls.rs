@@ -2,7 +2,7 @@
 //! it is empty, and the call names the depth.
 
 use crate::result::{done, ended, sample_done};
-use crate::{Depth, Repaired, Stop, DIGEST_BYTES, ROOT_BYTES};
+use crate::{Depth, Record, Repaired, Stop, DIGEST_BYTES, RECORD_BYTES};
 use cedunmi_sys as library;
 
 /// A coded volume.
@@ -10,7 +10,7 @@ use cedunmi_sys as library;
 pub struct Coded {
     pub tree: Vec<u8>,
     pub marks: Vec<u8>,
-    pub root: [u8; ROOT_BYTES],
+    pub record: [u8; RECORD_BYTES],
 }
 
 /// Zeros, as many as a depth asks.
@@ -38,18 +38,20 @@ pub fn house_table(depth: u64) -> Result<Vec<u8>, Stop> {
     Ok(table)
 }
 
-/// Codes a block.
+/// Codes a block of any length up to the depth's.
 pub fn code(depth: u64, table: &[u8], block: &[u8]) -> Result<Coded, Stop> {
     let (mut tree, mut marks) = (room(depth, Depth::tree_bytes), room(depth, Depth::symbols));
-    let mut root = [0; ROOT_BYTES];
-    done(library::cmt_tree_write(depth, table, block, &mut tree, &mut marks, &mut root))?;
-    Ok(Coded { tree, marks, root })
+    let mut record = [0; RECORD_BYTES];
+    done(library::cmt_tree_write(depth, table, block, &mut tree, &mut marks, &mut record))?;
+    Ok(Coded { tree, marks, record })
 }
 
-/// The block of a tree, each of whose data symbols in the base must be marked held. No hash is looked at.
-pub fn read_block(depth: u64, tree: &[u8], marks: &[u8]) -> Result<Vec<u8>, Stop> {
+/// The block of a tree, as long as the record says. Each data symbol of the base must be marked held. No hash is
+/// looked at.
+pub fn read_block(depth: u64, record: &[u8], tree: &[u8], marks: &[u8]) -> Result<Vec<u8>, Stop> {
     let mut block = room(depth, Depth::block_bytes);
-    done(library::cmt_block_read(depth, tree, marks, &mut block))?;
+    done(library::cmt_block_read(depth, record, tree, marks, &mut block))?;
+    block.truncate(Record::read(record)?.length);
     Ok(block)
 }
 
@@ -60,26 +62,26 @@ pub fn take_sample(depth: u64, number: u64, tree: &[u8], marks: &[u8]) -> Result
     Ok(sample)
 }
 
-/// Checks a sample of a base symbol against the root. Where a hash does not lead to it, the layer is told.
-pub fn check_sample(depth: u64, number: u64, root: &[u8], sample: &[u8]) -> Result<(), Stop> {
-    sample_done(library::cmt_sample_check(depth, number, root, sample))
+/// Checks a sample of a base symbol against the record. Where a hash does not lead to the root, the layer is told.
+pub fn check_sample(depth: u64, number: u64, record: &[u8], sample: &[u8]) -> Result<(), Stop> {
+    sample_done(library::cmt_sample_check(depth, number, record, sample))
 }
 
-/// Checks a fault proof against the root and the table: accepted, the volume with this root was not coded as
+/// Checks a fault proof against the record and the table: accepted, the volume with this record was not coded as
 /// this table says. Where a hash does not lead to the root, layer and position are told.
-pub fn check_proof(depth: u64, root: &[u8], table: &[u8], proof: &[u8]) -> Result<(), Stop> {
-    done(library::cmt_proof_check(depth, root, table, proof))
+pub fn check_proof(depth: u64, record: &[u8], table: &[u8], proof: &[u8]) -> Result<(), Stop> {
+    done(library::cmt_proof_check(depth, record, table, proof))
 }
 
 /// Repairs a tree and its marks.
 pub fn repair(
     depth: u64,
-    root: &[u8],
+    record: &[u8],
     table: &[u8],
     tree: &mut [u8],
     marks: &mut [u8],
 ) -> Result<Repaired, Stop> {
     let mut output = room(depth, Depth::output_bytes);
-    let result = library::cmt_repair(depth, root, table, tree, marks, &mut output);
+    let result = library::cmt_repair(depth, record, table, tree, marks, &mut output);
     ended(result, output)
 }

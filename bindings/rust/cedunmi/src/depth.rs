@@ -15,6 +15,11 @@ impl Depth {
         (1..=Depth::MAX.0 as u64).contains(&depth).then_some(Depth(depth as usize))
     }
 
+    /// The least depth whose block holds this many bytes, where there is one.
+    pub fn least(bytes: usize) -> Option<Depth> {
+        (1..=Depth::MAX.0).map(Depth).find(|depth| bytes <= depth.block_bytes())
+    }
+
     /// The number of layers: 0, the top one, to the base.
     pub fn layers(self) -> usize {
         self.0
@@ -40,6 +45,7 @@ impl Depth {
         SYMBOL_BYTES * self.symbols()
     }
 
+    /// The bytes of the longest block.
     pub fn block_bytes(self) -> usize {
         SYMBOL_BYTES * self.data(self.0 - 1)
     }

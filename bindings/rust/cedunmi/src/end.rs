@@ -14,7 +14,7 @@ pub struct Repaired {
 #[derive(Clone, Debug, PartialEq, Eq)]
 #[non_exhaustive]
 pub enum End {
-    /// Every symbol is held, and the tree is correctly coded and agrees with root and table.
+    /// Every symbol is held, and the tree is correctly coded and agrees with record and table.
     Whole,
     /// A fault proof, which `check_proof` accepts.
     Fault { proof: Vec<u8> },
@@ -22,6 +22,8 @@ pub enum End {
     Unavailable { layer: usize },
     /// Two different symbols of equal SHA-256, one after the other.
     Twins { symbols: Vec<u8> },
+    /// As whole, but what fills up the volume is not zero.
+    Misfilled,
 }
 
 impl End {
@@ -32,6 +34,7 @@ impl End {
             End::Fault { .. } => 1,
             End::Unavailable { .. } => 2,
             End::Twins { .. } => 3,
+            End::Misfilled => 13,
         }
     }
 

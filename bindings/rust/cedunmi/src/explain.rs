@@ -14,6 +14,8 @@ pub fn explain(number: u64) -> &'static str {
         8 => "the withheld hash fits: the proof shows no fault",
         9 => "a needed page is absent",
         10 => "a data page stands in fewer than two equations of its layer",
+        11 => "the record's head has a wrong kind, a length that is too large, or another depth than the call's",
+        12 => "the table is not the one that the record names",
         _ => "a number that no call gives",
     }
 }
@@ -21,10 +23,14 @@ pub fn explain(number: u64) -> &'static str {
 /// What an end of a repair means.
 pub fn explain_end(end: u64) -> &'static str {
     match end {
-        0 => "whole: every page is held, and the tree agrees with the root and the table",
+        0 => "whole: every page is held, and the tree agrees with the record and the table",
         1 => "fault: the volume was not coded as the table says",
         2 => "unavailable: no equation gives another page of the layer",
         3 => "twins: two different pages of equal SHA-256 were found",
+        13 => {
+            "misfilled: every page is held, and the tree agrees with the root and the table, but what fills up the \
+             volume isn't zero"
+        }
         NO_END => "no end: the repair stopped",
         _ => "an end that no repair has",
     }

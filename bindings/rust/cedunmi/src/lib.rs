@@ -2,18 +2,19 @@
 //!
 //! ```
 //! let table = cedunmi::house_table(1)?;
-//! let coded = cedunmi::code(1, &table, &[7; 1024])?;
+//! let coded = cedunmi::code(1, &table, &[7; 700])?;
 //! let (mut tree, mut marks) = (coded.tree.clone(), coded.marks.clone());
 //! marks[3] = 0; // a page is lost
 //! tree[5] ^= 1; // and one damaged
-//! let repaired = cedunmi::repair(1, &coded.root, &table, &mut tree, &mut marks)?;
+//! let repaired = cedunmi::repair(1, &coded.record, &table, &mut tree, &mut marks)?;
 //! assert_eq!((repaired.stored, repaired.end), (2, cedunmi::End::Whole));
-//! assert_eq!(cedunmi::read_block(1, &tree, &marks)?, [7; 1024]);
+//! assert_eq!(cedunmi::read_block(1, &coded.record, &tree, &marks)?, [7; 700]);
 //! # Ok::<(), cedunmi::Stop>(())
 //! ```
 //!
-//! A call that stops changes nothing, and says why: [`Stop`]. Root, table and depth must come from
-//! where they can be trusted. `docs/FORMAT.md` of the project has every byte of the buffers.
+//! A call that stops changes nothing, and says why: [`Stop`]. The record must come from where it can be
+//! trusted: it says depth, length and table ([`Record`]), and a call that takes another depth or another
+//! table stops. `docs/FORMAT.md` of the project has every byte of the buffers.
 //!
 //! # Stack
 //!
@@ -36,6 +37,7 @@ mod calls;
 mod depth;
 mod end;
 mod explain;
+mod record;
 mod result;
 mod stop;
 
@@ -46,6 +48,7 @@ pub use calls::{
 pub use depth::Depth;
 pub use end::{End, Repaired};
 pub use explain::{explain, explain_end, NO_END};
+pub use record::Record;
 pub use stop::Stop;
 
 /// The bytes of a symbol, which is a page.
@@ -55,7 +58,9 @@ pub const SYMBOL_BYTES: usize = 256;
 pub const DIGEST_BYTES: usize = 32;
 pub const MESSAGE_MAX: usize = 1_048_576;
 
-/// The bytes of a root: the digests of the sixteen symbols of layer 0.
+/// The bytes of a record: its head, then the root, which is the digests of the sixteen symbols of layer 0.
+pub const RECORD_BYTES: usize = RECORD_HEAD_BYTES + ROOT_BYTES;
+pub const RECORD_HEAD_BYTES: usize = 44;
 pub const ROOT_BYTES: usize = 512;
 
 /// The longest table that a call takes, in bytes.

@@ -24,6 +24,8 @@ pub fn done(result: u64) -> Result<(), Stop> {
         8 => Stop::NoFault,
         9 => Stop::Absent { number: value },
         10 => Stop::Uncovered { layer: value, symbol: second },
+        11 => Stop::WrongRecord,
+        12 => Stop::OtherTable,
         _ => Stop::Unknown { result },
     })
 }
@@ -50,6 +52,7 @@ pub fn ended(result: u64, mut output: Vec<u8>) -> Result<Repaired, Stop> {
         1 => End::Fault { proof: cut(value as usize) },
         2 => End::Unavailable { layer: value as usize },
         3 => End::Twins { symbols: cut(TWINS_BYTES) },
+        13 => End::Misfilled,
         _ => return Err(Stop::Unknown { result }),
     };
     Ok(Repaired { stored: stored as usize, end })
@@ -76,7 +79,7 @@ mod tests {
     #[test]
     fn stops_keep_their_numbers_and_values() {
         let most = ((1 << 24) - 1, u64::from(u32::MAX));
-        for (number, count) in (1..).zip([0, 0, 1, 1, 0, 0, 2, 0, 1, 2]) {
+        for (number, count) in (1..).zip([0, 0, 1, 1, 0, 0, 2, 0, 1, 2, 0, 0]) {
             for (first, second) in [(0, 0), (1, 255), (256, 0), (8, 1023), (8175, 65536), most] {
                 let stop = done(second << 32 | first << 8 | number).expect_err("a stop");
                 assert_eq!(u64::from(stop.number()), number);
@@ -84,7 +87,7 @@ mod tests {
             }
         }
         assert_eq!(done(0), Ok(()));
-        assert_eq!(done(11), Err(Stop::Unknown { result: 11 }));
+        assert_eq!(done(13), Err(Stop::Unknown { result: 13 }));
         assert_eq!(done(255), Err(Stop::Unknown { result: 255 }));
     }
 
@@ -112,7 +115,10 @@ mod tests {
         assert_eq!(of(2, 7, 8), Ok(Repaired { stored: 7, end: End::Unavailable { layer: 8 } }));
         let symbols = output[..512].to_vec();
         assert_eq!(of(3, 65535, 0), Ok(Repaired { stored: 65535, end: End::Twins { symbols } }));
-        assert_eq!(of(4, 0, 0), Err(Stop::Unknown { result: 4 << 8 }));
+        assert_eq!(of(13, 8176, 0), Ok(Repaired { stored: 8176, end: End::Misfilled }));
+        for end in [4, 12, 14] {
+            assert_eq!(of(end, 0, 0), Err(Stop::Unknown { result: end << 8 }));
+        }
         assert_eq!(ended(3 << 8 | 4, output.clone()), Err(Stop::WrongMark { place: 3 }));
     }
 }

@@ -36,6 +36,8 @@ pub enum Stop {
         layer: u64,
         symbol: u64,
     },
+    WrongRecord,
+    OtherTable,
     /// A result that this crate does not know: the library is another version's.
     Unknown {
         result: u64,
@@ -56,6 +58,8 @@ impl Stop {
             Stop::NoFault => 8,
             Stop::Absent { .. } => 9,
             Stop::Uncovered { .. } => 10,
+            Stop::WrongRecord => 11,
+            Stop::OtherTable => 12,
             Stop::Unknown { .. } => 0,
         }
     }

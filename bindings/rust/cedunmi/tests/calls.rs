@@ -1,6 +1,6 @@
 //! Each call from the crate's own side: what it gives, and each stop that it can give, at every depth.
 
-use cedunmi::{Depth, End, Stop};
+use cedunmi::{Depth, End, Record, Stop};
 
 /// A volume whose bytes differ from page to page, coded with the house table.
 fn coded(depth: u64) -> (Vec<u8>, Vec<u8>, cedunmi::Coded) {
@@ -16,11 +16,14 @@ fn a_volume_goes_round() {
     for depth in 1..=9 {
         let (volume, table, coded) = coded(depth);
         assert_eq!(cedunmi::check_table(depth, &table), Ok(()));
-        assert_eq!(cedunmi::read_block(depth, &coded.tree, &coded.marks), Ok(volume));
+        assert_eq!(
+            cedunmi::read_block(depth, &coded.record, &coded.tree, &coded.marks),
+            Ok(volume)
+        );
         let sample = cedunmi::take_sample(depth, 13, &coded.tree, &coded.marks).expect("a sample");
-        assert_eq!(cedunmi::check_sample(depth, 13, &coded.root, &sample), Ok(()));
+        assert_eq!(cedunmi::check_sample(depth, 13, &coded.record, &sample), Ok(()));
         let broken = Err(Stop::WrongHash { layer: 0, position: None });
-        assert_eq!(cedunmi::check_sample(depth, 12, &coded.root, &sample), broken);
+        assert_eq!(cedunmi::check_sample(depth, 12, &coded.record, &sample), broken);
         for i in 0..2 * depth as usize - 1 {
             let place = Depth::new(depth).expect("a depth").sampled_place(13, i);
             assert_eq!(sample[256 * i..][..256], coded.tree[256 * place..][..256]);
@@ -29,9 +32,9 @@ fn a_volume_goes_round() {
 }
 
 /// The fault proof that a repair of depth 2 ends with.
-fn proof_of(root: &[u8], table: &[u8], tree: &[u8], marks: &[u8]) -> Vec<u8> {
+fn proof_of(record: &[u8], table: &[u8], tree: &[u8], marks: &[u8]) -> Vec<u8> {
     let (mut tree, mut marks) = (tree.to_vec(), marks.to_vec());
-    match cedunmi::repair(2, root, table, &mut tree, &mut marks).expect("an end").end {
+    match cedunmi::repair(2, record, table, &mut tree, &mut marks).expect("an end").end {
         End::Fault { proof } => proof,
         other => panic!("{other}"),
     }
@@ -41,14 +44,14 @@ fn proof_of(root: &[u8], table: &[u8], tree: &[u8], marks: &[u8]) -> Vec<u8> {
 fn ends_come_with_what_they_show() {
     let (_, table, coded) = coded(2);
     let (mut tree, mut marks) = (coded.tree.clone(), vec![0; coded.marks.len()]);
-    let end = cedunmi::repair(2, &coded.root, &table, &mut tree, &mut marks).expect("an end");
+    let end = cedunmi::repair(2, &coded.record, &table, &mut tree, &mut marks).expect("an end");
     assert_eq!((end.stored, end.end), (0, End::Unavailable { layer: 0 }));
-    let (mut tree, mut root) = (coded.tree.clone(), coded.root);
+    let (mut tree, mut record) = (coded.tree.clone(), coded.record);
     tree[256 * 7..][..256].copy_from_slice(&[1; 256]);
-    root[32 * 7..][..32].copy_from_slice(&cedunmi::sha256(&[1; 256]).expect("a digest"));
-    let proof = proof_of(&root, &table, &tree, &coded.marks);
-    assert_eq!((proof.len(), cedunmi::check_proof(2, &root, &table, &proof)), (780, Ok(())));
-    assert_eq!(cedunmi::check_proof(2, &coded.root, &table, &proof), Err(Stop::NoFault));
+    record[44 + 32 * 7..][..32].copy_from_slice(&cedunmi::sha256(&[1; 256]).expect("a digest"));
+    let proof = proof_of(&record, &table, &tree, &coded.marks);
+    assert_eq!((proof.len(), cedunmi::check_proof(2, &record, &table, &proof)), (780, Ok(())));
+    assert_eq!(cedunmi::check_proof(2, &coded.record, &table, &proof), Err(Stop::NoFault));
 }
 
 /// The bytes with one of them changed.
@@ -66,7 +69,7 @@ fn samples_say_where_they_break() {
         let sample = cedunmi::take_sample(depth, 13, &coded.tree, &coded.marks).expect("a sample");
         let layer_of = |index: usize| depth - 1 - (index as u64 + 1) / 2;
         let breaks = |at, layer| {
-            let found = cedunmi::check_sample(depth, 13, &coded.root, &damaged(&sample, at));
+            let found = cedunmi::check_sample(depth, 13, &coded.record, &damaged(&sample, at));
             assert_eq!(found, Err(Stop::WrongHash { layer, position: None }), "byte {at}");
         };
         for index in 0..sample.len() / 256 {
@@ -81,24 +84,25 @@ fn samples_say_where_they_break() {
 }
 
 /// A volume that was coded with 1 in the place of 2 in the table's last equation, which has 2, 7, 30 and 31: the house
-/// table, the volume's root, and a fault proof of layer 1.
-fn fault() -> (Vec<u8>, [u8; 512], Vec<u8>) {
-    let (volume, table, _) = coded(2);
+/// table, a record that names it with the volume's root, and a fault proof of layer 1.
+fn fault() -> (Vec<u8>, [u8; 556], Vec<u8>) {
+    let (volume, table, right) = coded(2);
     let mut other = table.clone();
     let member = other.len() - 4 * 5 + 3;
     assert_eq!(std::mem::replace(&mut other[member], 1), 2);
-    let coded = cedunmi::code(2, &other, &volume).expect("a tree");
-    let proof = proof_of(&coded.root, &table, &coded.tree, &coded.marks);
-    (table, coded.root, proof)
+    let mut coded = cedunmi::code(2, &other, &volume).expect("a tree");
+    coded.record[..44].copy_from_slice(&right.record[..44]);
+    let proof = proof_of(&coded.record, &table, &coded.tree, &coded.marks);
+    (table, coded.record, proof)
 }
 
 /// Each given member, each page of a path, and the hash of a member in it; the withheld one's path comes last.
 #[test]
 fn proofs_say_where_they_break() {
-    let (table, root, proof) = fault();
-    assert_eq!(cedunmi::check_proof(2, &root, &table, &proof), Ok(()));
+    let (table, mut record, proof) = fault();
+    assert_eq!(cedunmi::check_proof(2, &record, &table, &proof), Ok(()));
     let breaks = |at, layer, position| {
-        let found = cedunmi::check_proof(2, &root, &table, &damaged(&proof, 12 + at));
+        let found = cedunmi::check_proof(2, &record, &table, &damaged(&proof, 12 + at));
         assert_eq!(found, Err(Stop::WrongHash { layer, position: Some(position) }), "byte {at}");
     };
     for (position, slot) in (0..).zip([2 / 4, 7 / 4, 30 / 4]) {
@@ -109,7 +113,8 @@ fn proofs_say_where_they_break() {
     }
     breaks(512 * 3, 0, 3);
     breaks(512 * 3 + 255, 0, 3);
-    let none = cedunmi::check_proof(2, &[0; 512], &table, &proof);
+    record[44..].fill(0);
+    let none = cedunmi::check_proof(2, &record, &table, &proof);
     assert_eq!(none, Err(Stop::WrongHash { layer: 0, position: Some(0) }));
 }
 
@@ -123,18 +128,92 @@ fn every_stop_comes() {
     let long = vec![0; cedunmi::TABLE_BYTES_MAX + 4];
     assert_eq!(cedunmi::check_table(1, &long), Err(Stop::WrongLength));
     assert_eq!(cedunmi::check_table(1, &long[4..]), Err(Stop::WrongTable { word: 0 }));
-    assert_eq!(cedunmi::code(1, &table, &volume[1..]), Err(Stop::WrongLength));
+    assert_eq!(cedunmi::code(1, &table, &[0; 1025]), Err(Stop::WrongLength));
     assert_eq!(cedunmi::sha256(&vec![0; cedunmi::MESSAGE_MAX + 1]), Err(Stop::WrongLength));
     assert_eq!(cedunmi::check_table(1, &table[..240]), Err(Stop::WrongTable { word: 60 }));
     let mut marks = coded.marks.clone();
     marks[9] = 2;
-    assert_eq!(cedunmi::read_block(1, &coded.tree, &marks), Err(Stop::WrongMark { place: 9 }));
+    assert_eq!(
+        cedunmi::read_block(1, &coded.record, &coded.tree, &marks),
+        Err(Stop::WrongMark { place: 9 })
+    );
     marks[9] = 1;
     marks[3] = 0;
-    assert_eq!(cedunmi::read_block(1, &coded.tree, &marks), Err(Stop::Absent { number: 3 }));
+    assert_eq!(
+        cedunmi::read_block(1, &coded.record, &coded.tree, &marks),
+        Err(Stop::Absent { number: 3 })
+    );
     assert_eq!(cedunmi::take_sample(1, 16, &coded.tree, &marks), Err(Stop::WrongNumber));
     let proof = [0; 780];
-    assert_eq!(cedunmi::check_proof(1, &coded.root, &table, &proof), Err(Stop::WrongHead));
+    assert_eq!(cedunmi::check_proof(1, &coded.record, &table, &proof), Err(Stop::WrongHead));
+}
+
+/// Each call that takes a record: the old root is no record, and neither is a record of another depth.
+#[test]
+fn records_are_held_to_the_call() {
+    let (_, table, mut coded) = coded(1);
+    let sample = cedunmi::take_sample(1, 13, &coded.tree, &coded.marks).expect("a sample");
+    let mut other = coded.record;
+    other[3] = 2;
+    for (record, stop) in
+        [(&coded.record[44..], Stop::WrongLength), (&other[..], Stop::WrongRecord)]
+    {
+        let (tree, marks) = (&mut coded.tree, &mut coded.marks);
+        assert_eq!(cedunmi::read_block(1, record, tree, marks), Err(stop));
+        assert_eq!(cedunmi::check_sample(1, 13, record, &sample), Err(stop));
+        assert_eq!(cedunmi::check_proof(1, record, &table, &[0; 780]), Err(stop));
+        assert_eq!(cedunmi::repair(1, record, &table, tree, marks), Err(stop));
+    }
+}
+
+/// Each call that takes record and table: of another number of words, and of as many.
+#[test]
+fn tables_are_held_to_the_record() {
+    let (_, table, mut coded) = coded(1);
+    let mut count = coded.record;
+    count[11] ^= 1;
+    let mut digest = coded.record;
+    digest[43] ^= 1;
+    for record in [count, digest] {
+        let (tree, marks) = (&mut coded.tree, &mut coded.marks);
+        let stop = Err(Stop::OtherTable);
+        assert_eq!(cedunmi::check_proof(1, &record, &table, &[0; 780]), stop);
+        assert_eq!(cedunmi::repair(1, &record, &table, tree, marks).map(|_| ()), stop);
+    }
+}
+
+/// The volume comes back as long as it was, at the least depth that holds it; a length that says less than what the
+/// tree holds is seen by the repair alone.
+#[test]
+fn volumes_of_any_length_go_round() {
+    for bytes in [0, 1, 255, 256, 257, 700, 1023, 1024, 1025, 2048, 4097, 262_143, 262_144] {
+        let depth = Depth::least(bytes).expect("a depth");
+        assert!(depth.layers() == 1 || bytes > depth.block_bytes() / 2);
+        let number = depth.layers() as u64;
+        let volume: Vec<u8> = (0..bytes).map(|i| (i % 255 + 1) as u8).collect();
+        let table = cedunmi::house_table(number).expect("the house table");
+        let mut coded = cedunmi::code(number, &table, &volume).expect("a tree");
+        let said = Record::read(&coded.record).expect("a record");
+        assert_eq!((said.depth, said.length), (depth, bytes));
+        assert_eq!(
+            (said.table_words, Ok(said.table_digest)),
+            (table.len() / 4, cedunmi::sha256(&table))
+        );
+        let end = |coded: &mut cedunmi::Coded| {
+            let (tree, marks) = (&mut coded.tree, &mut coded.marks);
+            cedunmi::repair(number, &coded.record, &table, tree, marks).expect("an end").end
+        };
+        assert_eq!(end(&mut coded), End::Whole);
+        assert_eq!(
+            cedunmi::read_block(number, &coded.record, &coded.tree, &coded.marks),
+            Ok(volume)
+        );
+        if bytes > 0 {
+            coded.record[4..8].copy_from_slice(&(2 << 30 | bytes as u32 - 1).to_be_bytes());
+            assert_eq!(end(&mut coded), End::Misfilled);
+        }
+    }
+    assert_eq!(Depth::least(262_145), None);
 }
 
 /// The house table of depth 1 with another member in the place of data symbol 2 in all its equations but the first.
@@ -154,8 +233,8 @@ fn uncovered_tables_are_not_taken() {
     let (mut tree, mut marks) = (coded.tree.clone(), vec![2; 16]);
     assert_eq!(cedunmi::check_table(1, &table), Err(stop));
     assert_eq!(cedunmi::code(1, &table, &volume), Err(stop));
-    assert_eq!(cedunmi::check_proof(1, &coded.root, &table, &[0; 780]), Err(stop));
-    assert_eq!(cedunmi::repair(1, &coded.root, &table, &mut tree, &mut marks), Err(stop));
+    assert_eq!(cedunmi::check_proof(1, &coded.record, &table, &[0; 780]), Err(stop));
+    assert_eq!(cedunmi::repair(1, &coded.record, &table, &mut tree, &mut marks), Err(stop));
     assert_eq!((tree, marks), (coded.tree, vec![2; 16]));
 }
 
@@ -164,17 +243,18 @@ fn uncovered_tables_are_not_taken() {
 fn on_little_stack(depth: u64) {
     let (volume, mut table, mut coded) = coded(depth);
     let sample = cedunmi::take_sample(depth, 7, &coded.tree, &coded.marks).expect("a sample");
-    assert_eq!(cedunmi::check_sample(depth, 7, &coded.root, &sample), Ok(()));
+    assert_eq!(cedunmi::check_sample(depth, 7, &coded.record, &sample), Ok(()));
     coded.marks.iter_mut().step_by(7).for_each(|mark| *mark = 0);
-    let end = cedunmi::repair(depth, &coded.root, &table, &mut coded.tree, &mut coded.marks);
+    let end = cedunmi::repair(depth, &coded.record, &table, &mut coded.tree, &mut coded.marks);
     assert_eq!(end.map(|repaired| repaired.end), Ok(End::Whole));
-    assert_eq!(cedunmi::read_block(depth, &coded.tree, &coded.marks), Ok(volume));
+    assert_eq!(cedunmi::read_block(depth, &coded.record, &coded.tree, &coded.marks), Ok(volume));
     let member = table.len() - 4 * 5 + 3;
     assert_eq!(std::mem::replace(&mut table[member], 1), 2);
-    let end = cedunmi::repair(depth, &coded.root, &table, &mut coded.tree, &mut coded.marks);
+    coded.record[12..44].copy_from_slice(&cedunmi::sha256(&table).expect("a digest"));
+    let end = cedunmi::repair(depth, &coded.record, &table, &mut coded.tree, &mut coded.marks);
     match end.expect("an end").end {
         End::Fault { proof } => {
-            assert_eq!(cedunmi::check_proof(depth, &coded.root, &table, &proof), Ok(()));
+            assert_eq!(cedunmi::check_proof(depth, &coded.record, &table, &proof), Ok(()));
         }
         other => panic!("{other}"),
     }

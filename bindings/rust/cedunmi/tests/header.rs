@@ -37,6 +37,8 @@ int main(void)
     }
     SIZE("message", CMT_SHA256_MESSAGE_MAX);
     SIZE("digest", CMT_SHA256_DIGEST_BYTES);
+    SIZE("record", CMT_RECORD_BYTES);
+    SIZE("record's head", CMT_RECORD_HEAD_BYTES);
     SIZE("root", CMT_ROOT_BYTES);
     SIZE("table max", CMT_TABLE_BYTES_MAX);
     SIZE("head", CMT_PROOF_HEAD_BYTES);
@@ -79,6 +81,8 @@ fn by_this_crate() -> String {
         let _ = writeln!(text, "stack {}", depth.stack_bytes());
     }
     let _ = writeln!(text, "message {}\ndigest {}", cedunmi::MESSAGE_MAX, cedunmi::DIGEST_BYTES);
+    let _ = writeln!(text, "record {}", cedunmi::RECORD_BYTES);
+    let _ = writeln!(text, "record's head {}", cedunmi::RECORD_HEAD_BYTES);
     let _ = writeln!(text, "root {}\ntable max {}", cedunmi::ROOT_BYTES, cedunmi::TABLE_BYTES_MAX);
     let _ = writeln!(text, "head {}\ntwins {}", cedunmi::PROOF_HEAD_BYTES, cedunmi::TWINS_BYTES);
     let _ = writeln!(text, "stack {}\ndeep {}", cedunmi::STACK_BYTES, cedunmi::STACK_BYTES_DEEP);
