@@ -26,6 +26,10 @@
  *      of the first, or, reading a block, its base number
  *  10  stopped: a data page stands in fewer than two equations of its layer; two
  *      values, the first such layer and the lowest such page's number in it
+ *  11  stopped: the record's head has a wrong kind, a length over that of the
+ *      depth's block, or another depth than the call's
+ *  12  stopped: the table is not the one that the record names: it has another
+ *      number of words, or another SHA-256
  *
  * A call makes its tests in the order in which its numbers are listed below,
  * and stops at the first that fails. A call that stops changes no byte of any
@@ -44,11 +48,11 @@
  * during the call. Any alignment will do. What a buffer that is only written
  * held before does not matter. A call reads and writes only inside its buffers.
  *
- * Lengths are exact: a root has CMT_ROOT_BYTES, and the block, tree, marks,
- * sample and output of a depth have CMT_BLOCK_BYTES(depth), CMT_TREE_BYTES(depth),
- * CMT_MARKS_BYTES(depth), CMT_SAMPLE_BYTES(depth) and CMT_OUTPUT_BYTES(depth);
- * another length is CMT_WRONG_LENGTH. Only the message, the table and the proof
- * have lengths of their own.
+ * Lengths are exact: a record has CMT_RECORD_BYTES, and the block that is read
+ * back, tree, marks, sample and output of a depth have CMT_BLOCK_BYTES(depth),
+ * CMT_TREE_BYTES(depth), CMT_MARKS_BYTES(depth), CMT_SAMPLE_BYTES(depth) and
+ * CMT_OUTPUT_BYTES(depth); another length is CMT_WRONG_LENGTH. Only the message,
+ * the table, the proof and the block that is coded have lengths of their own.
  *
  * Depths. A depth is 1 to CMT_DEPTH_MAX, at every call. One of 2^32+1 is not
  * taken for 1: depths are 64-bit numbers.
@@ -59,15 +63,24 @@
  * 16,384, and a longer table was CMT_WRONG_LENGTH; up to the limit of now it is
  * read, and at depth 1 to 5 is CMT_WRONG_TABLE, at its first wrong word.
  *
- * Trust. A check is against the root, and against the table and the depth where
- * it takes them: all three must come from where they can be trusted, since the
- * root says nothing of the other two.
+ * Records. A record is what a manual has of a volume: its depth, its length, how
+ * many words its table has and the SHA-256 of the table's bytes, which are the
+ * head, and then the root, which is the SHA-256 of each page of layer 0.
+ * cmt_record_depth(), cmt_record_length() and cmt_record_table_bytes() read the
+ * head. While a root had none, calls took its CMT_ROOT_BYTES alone; these are
+ * CMT_WRONG_LENGTH now.
+ *
+ * Trust. A check is against the record, which must come from where it can be
+ * trusted. Depth and table need not: a call with another depth than the record's
+ * stops, and so does one with another table, unless the two tables have one
+ * SHA-256.
  *
  * Stack. A call uses at most CMT_STACK_BYTES bytes of the caller's stack at
  * depth 1 to 5, without a depth, or with one that is refused; at depth 6 to 9 a
  * call that takes or writes a table uses more, at most CMT_STACK_BYTES_AT(depth).
- * No call tests whether there is room. A thread whose stack is smaller must not make deeper calls: it would run
- * over the end of its stack. These figures are measured, not proved.
+ * No call tests whether there is room. A thread whose stack is smaller must not
+ * make deeper calls: it would run over the end of its stack. These figures are
+ * measured, not proved.
  */
 #ifndef CEDUNMI_H
 #define CEDUNMI_H
@@ -148,7 +161,7 @@ enum {
 /* The bytes of the house table of a depth from 1 to CMT_DEPTH_MAX. */
 #define CMT_HOUSE_TABLE_BYTES(depth) (4 * (60 * ((CMT_SIZE(1) << (depth)) - 1) + 1))
 
-/* The lengths of a tree's buffers at a depth from 1 to CMT_DEPTH_MAX, in bytes. */
+/* The lengths of a tree's buffers at a depth from 1 to CMT_DEPTH_MAX, in bytes; of the block, the longest. */
 #define CMT_MARKS_BYTES(depth) (16 * ((CMT_SIZE(1) << (depth)) - 1))
 #define CMT_TREE_BYTES(depth) (256 * CMT_MARKS_BYTES(depth))
 #define CMT_BLOCK_BYTES(depth) (256 * (CMT_SIZE(4) << ((depth) - 1)))
@@ -169,6 +182,43 @@ enum {
     (CMT_PROOF_HEAD_BYTES + 256 * ((CMT_SIZE(members) - 1) * (CMT_SIZE(layer) + 1) + CMT_SIZE(layer)))
 #define CMT_OUTPUT_BYTES(depth) CMT_PROOF_BYTES((depth) - 1, 8)
 #define CMT_TWINS_BYTES 512
+
+/* Word 0, 1 or 2 of a record: of 32 bits the two highest are its kind, the others its value. */
+static inline uint64_t cmt_record_word(const uint8_t *record, size_t number)
+{
+    uint64_t word = 0;
+    for (size_t i = 4 * number; i < 4 * number + 4; i++) {
+        word = 256 * word + record[i];
+    }
+    return word;
+}
+
+/* The length that a record says its volume has, in bytes. */
+static inline uint64_t cmt_record_length(const uint8_t *record)
+{
+    return cmt_record_word(record, 1) % 1073741824;
+}
+
+/* The bytes that a record says the volume's table has, four to a word. */
+static inline uint64_t cmt_record_table_bytes(const uint8_t *record)
+{
+    return 4 * (cmt_record_word(record, 2) % 1073741824);
+}
+
+/* The depth of a record, whatever its table and its root; 0 where no call takes its head. */
+static inline uint64_t cmt_record_depth(const uint8_t *record)
+{
+    const uint64_t depth = cmt_record_word(record, 0) % 1073741824;
+    for (size_t i = 0; i < 3; i++) {
+        if (cmt_record_word(record, i) / 1073741824 != i + 1) {
+            return 0;
+        }
+    }
+    if (depth < 1 || depth > CMT_DEPTH_MAX || cmt_record_length(record) > CMT_BLOCK_BYTES(depth)) {
+        return 0;
+    }
+    return depth;
+}
 
 /* The number in a result: CMT_DONE, or why the call stopped. */
 static inline uint64_t cmt_number(uint64_t result)
@@ -264,8 +314,8 @@ static inline const char *cmt_explain_end(uint64_t end)
     case CMT_TWINS:
         return "twins: two different pages of equal SHA-256 were found";
     case CMT_MISFILLED:
-        return "misfilled: every page is held, and the tree agrees with the root and the table, but what fills up the "
-               "volume isn't zero";
+        return "misfilled: every page is held, and the tree agrees with the root and the table, but what fills up "
+               "the volume isn't zero";
     case CMT_NO_END:
         return "no end: the repair stopped";
     default:
@@ -316,12 +366,15 @@ CMT_CHECKED
 uint64_t cmt_house_table(uint64_t depth, uint8_t *table, size_t table_len);
 
 /*
- * Codes a block: writes its tree, a mark of 1 for every page, and its root.
+ * Codes a block, which is filled up with zeros where it is shorter than
+ * CMT_BLOCK_BYTES(depth): writes its tree, a mark of 1 for every page, and its
+ * record, which has block_len for the length.
  *
  * CMT_DONE          all three are written.
  * CMT_WRONG_DEPTH   the depth is not 1 to CMT_DEPTH_MAX.
- * CMT_WRONG_LENGTH  a buffer has another length than this depth asks, or the
- *                   table's is over CMT_TABLE_BYTES_MAX or no multiple of 4.
+ * CMT_WRONG_LENGTH  block_len is over CMT_BLOCK_BYTES(depth), another buffer has
+ *                   another length than this depth asks, or the table's is over
+ *                   CMT_TABLE_BYTES_MAX or no multiple of 4.
  * CMT_WRONG_TABLE   the table breaks a rule, as for cmt_table_check().
  * CMT_UNCOVERED     as for cmt_table_check().
  */
@@ -334,15 +387,22 @@ uint64_t cmt_tree_write(uint64_t depth, const uint8_t *table, size_t table_len,
 
 /*
  * Reads the block back: copies the base's data pages, each of which must be
- * marked held. It looks at marks and never at hashes.
+ * marked held, as far as the record's length. It looks at marks, and never at
+ * hashes or at what fills the block up.
  *
- * CMT_DONE          the block is the base's data pages, in their order.
+ * CMT_DONE          the first cmt_record_length() bytes of the block are those of
+ *                   the base's data pages, in their order; the rest of it is as
+ *                   it was.
  * CMT_WRONG_DEPTH   the depth is not 1 to CMT_DEPTH_MAX.
- * CMT_WRONG_LENGTH  a buffer has another length than this depth asks.
+ * CMT_WRONG_LENGTH  a buffer has another length than this depth asks: block_len
+ *                   is CMT_BLOCK_BYTES(depth), whatever the record's length is.
+ * CMT_WRONG_RECORD  a word of the record's head has another kind than 01, 10 and
+ *                   11 in this order, the length is over CMT_BLOCK_BYTES(depth),
+ *                   or the record is of another depth.
  * CMT_WRONG_MARK    cmt_value() is the lowest place with a mark that is neither
  *                   0 nor 1, anywhere in the tree.
  * CMT_ABSENT        cmt_value() is the number of the base's first absent data
- *                   page.
+ *                   page, be it one that the record's length does not reach.
  */
 CMT_CHECKED
 uint64_t cmt_block_read(uint64_t depth, const uint8_t *record, size_t record_len,
@@ -369,18 +429,19 @@ uint64_t cmt_sample_take(uint64_t depth, uint64_t number,
                          uint8_t *sample, size_t sample_len);
 
 /*
- * Checks a sample of a base page against the root.
+ * Checks a sample of a base page against the record.
  *
  * CMT_DONE          every hash in it leads to the root.
  * CMT_WRONG_DEPTH   the depth is not 1 to CMT_DEPTH_MAX.
  * CMT_WRONG_LENGTH  a buffer has another length than this depth asks.
+ * CMT_WRONG_RECORD  as for cmt_block_read().
  * CMT_WRONG_NUMBER  the base has no page of this number.
  * CMT_WRONG_HASH    a hash doesn't lead to the root. cmt_value() is the first
  *                   layer, going up from the base, that has a page in the sample
  *                   whose hash is not the one that the sample's data page of the
  *                   next layer up, or of layer 0 the root, has for it: its data
  *                   page, its parity page, or both: hash the two to see which.
- *                   If root and number are the right ones, ask again first for
+ *                   If record and number are the right ones, ask again first for
  *                   the topmost page that doesn't fit, of these and the data
  *                   pages above them: the page above it leads to the root, so
  *                   it is wrong, unless two pages of equal SHA-256 came together.
@@ -391,19 +452,22 @@ uint64_t cmt_sample_check(uint64_t depth, uint64_t number,
                           const uint8_t *sample, size_t sample_len);
 
 /*
- * Checks a fault proof against the root and the table.
+ * Checks a fault proof against the record and the table.
  *
  * CMT_DONE          every hash leads to the root, and the hash of the
  *                   exclusive-or of the given members is not the one committed
- *                   for the withheld one: the volume with this root was not coded
- *                   as this table says.
+ *                   for the withheld one: the volume with this record was not
+ *                   coded as this table says.
  * CMT_WRONG_DEPTH   the depth is not 1 to CMT_DEPTH_MAX.
- * CMT_WRONG_LENGTH  root_len is not CMT_ROOT_BYTES, the table's is over
+ * CMT_WRONG_LENGTH  record_len is not CMT_RECORD_BYTES, the table's is over
  *                   CMT_TABLE_BYTES_MAX or no multiple of 4, proof_len is under
- *                   CMT_PROOF_HEAD_BYTES; or, after the next three, proof_len is
+ *                   CMT_PROOF_HEAD_BYTES; or, after the next five, proof_len is
  *                   not the one that the head demands.
+ * CMT_WRONG_RECORD  as for cmt_block_read().
  * CMT_WRONG_TABLE   the table breaks a rule, as for cmt_table_check().
  * CMT_UNCOVERED     as for cmt_table_check().
+ * CMT_OTHER_TABLE   the table has another number of words than the record says,
+ *                   or another SHA-256.
  * CMT_WRONG_HEAD    the head has a wrong kind, a layer or an equation that the
  *                   table has not, or withholds no member of the equation.
  * CMT_WRONG_HASH    a hash doesn't lead to the root. cmt_second_value() is the
@@ -414,8 +478,8 @@ uint64_t cmt_sample_check(uint64_t depth, uint64_t number,
  *                   the page above it in the path, or of layer 0 the root, has
  *                   for it. It is the head's layer where that is the given
  *                   member itself, and less on its path; the withheld one has
- *                   a path alone, which starts one layer up. If root and table
- *                   are the right ones, ask again first for the topmost page on
+ *                   a path alone, which starts one layer up. If the record is
+ *                   the right one, ask again first for the topmost page on
  *                   this way up that doesn't fit, as for cmt_sample_check().
  * CMT_NO_FAULT      the hashes are equal.
  */
@@ -427,12 +491,17 @@ uint64_t cmt_proof_check(uint64_t depth, const uint8_t *record, size_t record_le
 /*
  * Repairs a tree, layer by layer from the top: makes a held page whose hash
  * is not the committed one absent, zeroes the absent places, and forms what the
- * equations give. Tree and marks are read and written. Stops with 1, 2, 3, 10
- * or 4, as cmt_tree_write() and cmt_block_read() do, and then cmt_repair_end() is
- * CMT_NO_END. Otherwise the number is CMT_DONE, and cmt_repair_end() is one of:
+ * equations give. Tree and marks are read and written. Stops with 1, 2, 11, 3,
+ * 10, 12 or 4, as cmt_proof_check() and cmt_block_read() do, and then
+ * cmt_repair_end() is CMT_NO_END. Otherwise the number is CMT_DONE, and
+ * cmt_repair_end() is one of:
  *
- * CMT_WHOLE         every page is marked held, and the tree is correctly
- *                   coded and agrees with the root and the table.
+ * CMT_WHOLE         every page is marked held, the tree is correctly coded and
+ *                   agrees with the root and the table, and each byte of the
+ *                   base's data pages from cmt_record_length() on is zero.
+ * CMT_MISFILLED     as CMT_WHOLE, but such a byte is not zero: the volume was not
+ *                   filled up as cmt_tree_write() does, or has another length
+ *                   than the record says.
  * CMT_FAULT         the output begins with a fault proof that
  *                   cmt_proof_check() accepts, of cmt_repair_proof_bytes().
  * CMT_UNAVAILABLE   no equation has just one of the places of cmt_repair_layer()

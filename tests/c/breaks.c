@@ -49,7 +49,7 @@ static int take(uint64_t number)
 
 static uint64_t check_sample(uint64_t number)
 {
-    return cmt_sample_check(volume.depth, number, volume.root, sizeof volume.root, sample,
+    return cmt_sample_check(volume.depth, number, volume.record, sizeof volume.record, sample,
                             CMT_SAMPLE_BYTES(volume.depth));
 }
 
@@ -166,10 +166,10 @@ static int of_samples_by_the_root(void)
     for (size_t i = 0; i < sizeof roots / sizeof *roots; i++) {
         right &= begin(roots[i].depth) && take(roots[i].number);
         for (size_t hash = 0; hash < 16; hash++) {
-            volume.root[32 * hash + hash] ^= 1;
+            volume_root_hash(&volume, hash)[hash] ^= 1;
             uint64_t result = check_sample(roots[i].number);
             right &= roots[i].own >> hash & 1 ? breaks(result, 0, 0) : result == CMT_DONE;
-            volume.root[32 * hash + hash] ^= 1;
+            volume_root_hash(&volume, hash)[hash] ^= 1;
         }
     }
     return right;
@@ -282,8 +282,7 @@ static int of_some_pages(void)
     };
     static const size_t members[MEMBERS] = {1, 15, 62, 63};
     uint8_t *pages = volume.output + CMT_PROOF_HEAD_BYTES;
-    int right = begin(3);
-    volume_change_table(&volume);
+    int right = begin(3) && volume_change_table(&volume) == CMT_DONE;
     size_t length = put_proof(2, 47, members, 2);
     for (size_t i = 0; i < sizeof rows / sizeof *rows; i++) {
         damage(pages, &rows[i].damage);
@@ -314,11 +313,11 @@ static int of_proofs_by_the_root(void)
     for (size_t i = 0; i < 2; i++) {
         size_t length = put_proof(roots[i].layer, roots[i].equation, roots[i].members, 2);
         for (size_t hash = 0; hash < 16; hash++) {
-            volume.root[32 * hash + 31 - hash] ^= 1;
+            volume_root_hash(&volume, hash)[31 - hash] ^= 1;
             right &= volume_check(&volume, length) == roots[i].results[hash];
-            volume.root[32 * hash + 31 - hash] ^= 1;
+            volume_root_hash(&volume, hash)[31 - hash] ^= 1;
         }
-        volume_change_table(&volume);
+        right &= volume_change_table(&volume) == CMT_DONE;
     }
     return right;
 }

@@ -28,7 +28,7 @@ static int miscode(size_t number, uint8_t byte)
 {
     uint8_t *symbol = volume.tree + SYMBOL * number;
     memset(symbol, byte, SYMBOL);
-    return cmt_sha256(symbol, SYMBOL, volume.root + 32 * number, 32) == CMT_DONE;
+    return cmt_sha256(symbol, SYMBOL, volume_root_hash(&volume, number), 32) == CMT_DONE;
 }
 
 static void take_away(const size_t *numbers, size_t count)
@@ -118,15 +118,15 @@ static int stops_at(uint64_t depth)
     return cmt_house_table(depth, volume.table, table) == CMT_WRONG_DEPTH &&
            cmt_table_check(depth, volume.table, table) == CMT_WRONG_DEPTH &&
            cmt_tree_write(depth, volume.table, table, volume.block, CMT_BLOCK_BYTES(1), volume.tree, tree, volume.marks,
-                          SYMBOLS, volume.root, sizeof volume.root) == CMT_WRONG_DEPTH &&
-           cmt_block_read(depth, volume.tree, tree, volume.marks, SYMBOLS, volume.block, CMT_BLOCK_BYTES(1)) ==
-               CMT_WRONG_DEPTH &&
+                          SYMBOLS, volume.record, sizeof volume.record) == CMT_WRONG_DEPTH &&
+           cmt_block_read(depth, volume.record, sizeof volume.record, volume.tree, tree, volume.marks, SYMBOLS, volume.block,
+                          CMT_BLOCK_BYTES(1)) == CMT_WRONG_DEPTH &&
            cmt_sample_take(depth, 0, volume.tree, tree, volume.marks, SYMBOLS, sample, sizeof sample) ==
                CMT_WRONG_DEPTH &&
-           cmt_sample_check(depth, 0, volume.root, sizeof volume.root, sample, sizeof sample) == CMT_WRONG_DEPTH &&
-           cmt_proof_check(depth, volume.root, sizeof volume.root, volume.table, table, volume.output, PROOF) ==
+           cmt_sample_check(depth, 0, volume.record, sizeof volume.record, sample, sizeof sample) == CMT_WRONG_DEPTH &&
+           cmt_proof_check(depth, volume.record, sizeof volume.record, volume.table, table, volume.output, PROOF) ==
                CMT_WRONG_DEPTH &&
-           cmt_repair(depth, volume.root, sizeof volume.root, volume.table, table, volume.tree, tree, volume.marks, SYMBOLS,
+           cmt_repair(depth, volume.record, sizeof volume.record, volume.table, table, volume.tree, tree, volume.marks, SYMBOLS,
                       volume.output, CMT_OUTPUT_BYTES(1)) == CMT_WRONG_DEPTH;
 }
 
@@ -153,10 +153,10 @@ static int goes_round(uint64_t depth)
     return right && cmt_number(result) == CMT_DONE && cmt_repair_end(result) == CMT_WHOLE &&
            cmt_repair_stored(result) == (marks + 4) / 5 && memcmp(volume.tree, coded.tree, tree) == 0 &&
            memcmp(volume.marks, coded.marks, marks) == 0 &&
-           cmt_block_read(depth, volume.tree, tree, volume.marks, marks, volume.block, CMT_BLOCK_BYTES(depth)) == CMT_DONE &&
+           volume_read(&volume) == CMT_DONE &&
            memcmp(volume.block, coded.block, CMT_BLOCK_BYTES(depth)) == 0 &&
            cmt_sample_take(depth, number, volume.tree, tree, volume.marks, marks, sample, CMT_SAMPLE_BYTES(depth)) == CMT_DONE &&
-           cmt_sample_check(depth, number, volume.root, sizeof volume.root, sample, CMT_SAMPLE_BYTES(depth)) == CMT_DONE;
+           cmt_sample_check(depth, number, volume.record, sizeof volume.record, sample, CMT_SAMPLE_BYTES(depth)) == CMT_DONE;
 }
 
 static int case_8_accepted(void)
@@ -177,12 +177,13 @@ static int longest_proof(uint64_t depth, size_t bytes)
         put_word(table, words - 5 + i, 0, members[i]);
     }
     put_word(table, words + 3, 3, words + 3);
-    uint64_t result = cmt_repair(depth, volume.root, sizeof volume.root, table, 4 * words + 16, volume.tree,
+    right &= record_name(volume.record, table, 4 * words + 16) == CMT_DONE;
+    uint64_t result = cmt_repair(depth, volume.record, sizeof volume.record, table, 4 * words + 16, volume.tree,
                                  CMT_TREE_BYTES(depth), volume.marks, CMT_MARKS_BYTES(depth), volume.output,
                                  CMT_OUTPUT_BYTES(depth));
     return right && cmt_number(result) == CMT_DONE && cmt_repair_end(result) == CMT_FAULT &&
            cmt_repair_proof_bytes(result) == bytes && CMT_OUTPUT_BYTES(depth) == bytes &&
-           cmt_proof_check(depth, volume.root, sizeof volume.root, table, 4 * words + 16, volume.output, bytes) == CMT_DONE;
+           cmt_proof_check(depth, volume.record, sizeof volume.record, table, 4 * words + 16, volume.output, bytes) == CMT_DONE;
 }
 
 static int case_9(void)

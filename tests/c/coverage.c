@@ -133,7 +133,7 @@ static int others_come_first(void)
     right &= lent(2, 1, 2) && cmt_table_check(2, volume.table, bytes - 1) == CMT_WRONG_LENGTH;
     right &= volume_check(&volume, CMT_PROOF_HEAD_BYTES - 1) == CMT_WRONG_LENGTH;
     return right && cmt_table_check(0, volume.table, bytes) == CMT_WRONG_DEPTH &&
-           cmt_repair(0, volume.root, sizeof volume.root, volume.table, bytes, volume.tree, sizeof volume.tree, volume.marks,
+           cmt_repair(0, volume.record, sizeof volume.record, volume.table, bytes, volume.tree, sizeof volume.tree, volume.marks,
                       sizeof volume.marks, volume.output, sizeof volume.output) == CMT_WRONG_DEPTH;
 }
 
@@ -188,11 +188,11 @@ static int longest_are_taken(void)
         right &= words == 108 * (((size_t)1 << depth) - 1) + depth - 5;
         right &= volume_begin(&volume, depth) == CMT_DONE && cmt_table_check(depth, longest, 4 * words) == CMT_DONE &&
                  cmt_tree_write(depth, longest, 4 * words, volume.block, CMT_BLOCK_BYTES(depth), volume.tree, tree,
-                                volume.marks, marks, volume.root, sizeof volume.root) == CMT_DONE;
+                                volume.marks, marks, volume.record, sizeof volume.record) == CMT_DONE;
         memcpy(&before, &volume, sizeof before);
         volume.marks[marks - 1] = 0;
         volume.tree[0] ^= 1;
-        uint64_t result = cmt_repair(depth, volume.root, sizeof volume.root, longest, 4 * words, volume.tree, tree,
+        uint64_t result = cmt_repair(depth, volume.record, sizeof volume.record, longest, 4 * words, volume.tree, tree,
                                      volume.marks, marks, volume.output, CMT_OUTPUT_BYTES(depth));
         right &= cmt_number(result) == CMT_DONE && cmt_repair_end(result) == CMT_WHOLE && cmt_repair_stored(result) == 2 &&
                  memcmp(&before, &volume, sizeof before) == 0;

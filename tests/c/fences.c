@@ -121,14 +121,15 @@ struct room {
     size_t bytes;
 };
 
-enum { ROOT, TABLE, TREE, MARKS, OUTPUT, ROOMS };
+enum { RECORD, TABLE, TREE, MARKS, OUTPUT, BLOCK, ROOMS };
 
 static struct room rooms[ROOMS];
 
 static void make_rooms(void)
 {
-    const size_t bytes[ROOMS] = {CMT_ROOT_BYTES, CMT_TABLE_BYTES_MAX, CMT_TREE_BYTES(CMT_DEPTH_MAX),
-                                 CMT_MARKS_BYTES(CMT_DEPTH_MAX), CMT_OUTPUT_BYTES(CMT_DEPTH_MAX)};
+    const size_t bytes[ROOMS] = {CMT_RECORD_BYTES, CMT_TABLE_BYTES_MAX, CMT_TREE_BYTES(CMT_DEPTH_MAX),
+                                 CMT_MARKS_BYTES(CMT_DEPTH_MAX), CMT_OUTPUT_BYTES(CMT_DEPTH_MAX),
+                                 CMT_BLOCK_BYTES(CMT_DEPTH_MAX)};
     for (int i = 0; i < ROOMS; i++) {
         rooms[i].bytes = (bytes[i] / PAGE + 1) * PAGE;
         rooms[i].start = fenced(rooms[i].bytes);
@@ -147,12 +148,19 @@ struct lengths {
     size_t of[ROOMS];
 };
 
+static struct lengths lengths_at(uint64_t depth)
+{
+    const struct lengths right = {{CMT_RECORD_BYTES, CMT_HOUSE_TABLE_BYTES(depth), CMT_TREE_BYTES(depth),
+                                   CMT_MARKS_BYTES(depth), CMT_OUTPUT_BYTES(depth), CMT_BLOCK_BYTES(depth)}};
+    return right;
+}
+
 /* Repairs a copy of a volume, and keeps what it writes. */
 static uint64_t lend_repair(struct volume *v, struct lengths len, int at_end)
 {
     uint8_t *output = copy(OUTPUT, at_end, v->output, len.of[OUTPUT]);
     uint64_t result = cmt_repair(
-        v->depth, copy(ROOT, at_end, v->root, len.of[ROOT]), len.of[ROOT],
+        v->depth, copy(RECORD, at_end, v->record, len.of[RECORD]), len.of[RECORD],
         copy(TABLE, at_end, v->table, len.of[TABLE]), len.of[TABLE],
         copy(TREE, at_end, v->tree, len.of[TREE]), len.of[TREE],
         copy(MARKS, at_end, v->marks, len.of[MARKS]), len.of[MARKS], output, len.of[OUTPUT]);
@@ -163,7 +171,7 @@ static uint64_t lend_repair(struct volume *v, struct lengths len, int at_end)
 /* Checks the first bytes of a volume's output as a proof. */
 static uint64_t lend_proof(const struct volume *v, struct lengths len, int at_end, size_t proof_len)
 {
-    return cmt_proof_check(v->depth, copy(ROOT, at_end, v->root, len.of[ROOT]), len.of[ROOT],
+    return cmt_proof_check(v->depth, copy(RECORD, at_end, v->record, len.of[RECORD]), len.of[RECORD],
                            copy(TABLE, at_end, v->table, len.of[TABLE]), len.of[TABLE],
                            copy(OUTPUT, at_end, v->output, proof_len), proof_len);
 }
@@ -172,9 +180,7 @@ static uint64_t lend_proof(const struct volume *v, struct lengths len, int at_en
  * was a proof to lend. */
 static int lend_volume(struct volume *v, int at_end)
 {
-    const struct lengths right = {{CMT_ROOT_BYTES, CMT_HOUSE_TABLE_BYTES(v->depth),
-                                   CMT_TREE_BYTES(v->depth), CMT_MARKS_BYTES(v->depth),
-                                   CMT_OUTPUT_BYTES(v->depth)}};
+    const struct lengths right = lengths_at(v->depth);
     uint64_t result = lend_repair(v, right, at_end);
     size_t proof_len = cmt_repair_proof_bytes(result);
     expect(CMT_DONE, result);
@@ -182,10 +188,10 @@ static int lend_volume(struct volume *v, int at_end)
         expect(CMT_WRONG_LENGTH, lend_proof(v, right, at_end, n));
         expect(n == 0 ? CMT_DONE : CMT_WRONG_LENGTH, lend_proof(v, right, at_end, proof_len - n));
     }
-    for (int cut = 0; cut < ROOMS; cut++) {
+    for (int cut = RECORD; cut <= OUTPUT; cut++) {
         struct lengths shorter = right;
         shorter.of[cut]--;
-        int whole = proof_len > 0 && cut != ROOT && cut != TABLE;
+        int whole = proof_len > 0 && cut != RECORD && cut != TABLE;
         expect(CMT_WRONG_LENGTH, lend_repair(v, shorter, at_end));
         expect(whole ? CMT_DONE : CMT_WRONG_LENGTH, lend_proof(v, shorter, at_end, proof_len));
     }
@@ -206,12 +212,82 @@ static int lend_volumes(void)
             }
             lend_volume(&v, 0);
             lend_volume(&v, 1);
-            volume_change_table(&v);
+            expect(CMT_DONE, volume_change_table(&v));
             proofs += lend_volume(&v, 0);
             proofs += lend_volume(&v, 1);
         }
     }
     return proofs;
+}
+
+/* Codes a copy of a volume's block, and keeps tree, marks and record, which are written where they are lent. */
+static uint64_t lend_block(struct volume *v, struct lengths len, int at_end)
+{
+    uint8_t *tree = copy(TREE, at_end, v->tree, len.of[TREE]), *marks = copy(MARKS, at_end, v->marks, len.of[MARKS]);
+    uint8_t *record = copy(RECORD, at_end, v->record, len.of[RECORD]);
+    uint64_t result = cmt_tree_write(v->depth, copy(TABLE, at_end, v->table, len.of[TABLE]), len.of[TABLE],
+                                     copy(BLOCK, at_end, v->block, len.of[BLOCK]), len.of[BLOCK], tree, len.of[TREE], marks,
+                                     len.of[MARKS], record, len.of[RECORD]);
+    memcpy(v->tree, tree, len.of[TREE]);
+    memcpy(v->marks, marks, len.of[MARKS]);
+    memcpy(v->record, record, len.of[RECORD]);
+    return result;
+}
+
+/* Reads a copy of a tree back; where that is done, the block must be the volume's, as far as it goes. */
+static uint64_t lend_reading(const struct volume *v, struct lengths len, int at_end)
+{
+    static const uint8_t before[CMT_BLOCK_BYTES(CMT_DEPTH_MAX)];
+    uint8_t *block = copy(BLOCK, at_end, before, len.of[BLOCK]);
+    uint64_t result = cmt_block_read(v->depth, copy(RECORD, at_end, v->record, len.of[RECORD]), len.of[RECORD],
+                                     copy(TREE, at_end, v->tree, len.of[TREE]), len.of[TREE],
+                                     copy(MARKS, at_end, v->marks, len.of[MARKS]), len.of[MARKS], block, len.of[BLOCK]);
+    another |= result == CMT_DONE && memcmp(block, v->block, v->block_len) != 0;
+    return result;
+}
+
+/* Lends the sample of base page 0 of a coded volume, and its record. */
+static uint64_t lend_sample(const struct volume *v, struct lengths len, int at_end)
+{
+    static uint8_t sample[CMT_SAMPLE_BYTES(CMT_DEPTH_MAX)];
+    expect(CMT_DONE, cmt_sample_take(v->depth, 0, v->tree, CMT_TREE_BYTES(v->depth), v->marks, CMT_MARKS_BYTES(v->depth),
+                                     sample, CMT_SAMPLE_BYTES(v->depth)));
+    return cmt_sample_check(v->depth, 0, copy(RECORD, at_end, v->record, len.of[RECORD]), len.of[RECORD],
+                            copy(OUTPUT, at_end, sample, CMT_SAMPLE_BYTES(v->depth)), CMT_SAMPLE_BYTES(v->depth));
+}
+
+/* Lends a block of this length, and what comes of it, with right lengths and with each a byte shorter. */
+static void lend_length(struct volume *v, size_t block_len, int at_end)
+{
+    const struct lengths right = lengths_at(v->depth);
+    struct lengths coded = right;
+    coded.of[BLOCK] = v->block_len = block_len;
+    expect(CMT_DONE, lend_block(v, coded, at_end));
+    expect(CMT_DONE, lend_reading(v, right, at_end));
+    expect(CMT_DONE, lend_sample(v, right, at_end));
+    for (int cut = RECORD; cut < ROOMS; cut++) {
+        struct lengths shorter = right;
+        shorter.of[cut]--;
+        int read = cut == TABLE || cut == OUTPUT;
+        expect(cut == OUTPUT || cut == BLOCK ? CMT_DONE : CMT_WRONG_LENGTH, lend_block(v, shorter, at_end));
+        expect(CMT_DONE, lend_block(v, coded, at_end));
+        expect(read ? CMT_DONE : CMT_WRONG_LENGTH, lend_reading(v, shorter, at_end));
+        expect(cut == RECORD ? CMT_WRONG_LENGTH : CMT_DONE, lend_sample(v, shorter, at_end));
+    }
+}
+
+/* Blocks that end at the end of a page, a byte before it and a byte after it. */
+static void lend_lengths(void)
+{
+    static struct volume v;
+    for (uint64_t depth = 1; depth <= CMT_DEPTH_MAX; depth++) {
+        const size_t most = CMT_BLOCK_BYTES(depth), lens[] = {0, 1, 255, 256, 257, most - 256, most - 1, most};
+        for (size_t i = 0; i < sizeof lens / sizeof *lens; i++) {
+            expect(CMT_DONE, volume_begin(&v, depth));
+            lend_length(&v, lens[i], 0);
+            lend_length(&v, lens[i], 1);
+        }
+    }
 }
 
 /* Wrong functions, to show that the fences find what they do. */
@@ -264,6 +340,7 @@ int main(void)
     }
     lend_all(cmt_sha256);
     lend_tables();
+    lend_lengths();
     if (lend_volumes() < 2 * CMT_DEPTH_MAX) {
         printf("fences: proofs were not lent at every depth\n");
         return 1;

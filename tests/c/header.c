@@ -3,8 +3,9 @@
  * included twice, and calls through it give the published digest of "abc", the
  * house table's first wrong word where one is put, and 01's cases of repair. Its
  * lengths at the largest depth and its words for numbers and ends are as they
- * should be, both values of a result come out of it, a repair that stopped has no
- * end, and the version's text is that of its numbers.
+ * should be, both values of a result come out of it, a record's head says what was
+ * written, a repair that stopped has no end, and the version's text is that of its
+ * numbers.
  */
 #include "cedunmi.h"
 #include "cedunmi.h"
@@ -73,18 +74,18 @@ static int repair_is_right(const uint8_t *lost, size_t count, uint64_t end, uint
 /* Case 7: symbol 7 is all 01, and the root is made of that. With 6 withheld in place of 7 the third given is not 7. */
 static int fault_is_right(void)
 {
-    uint8_t right[CMT_ROOT_BYTES];
+    uint8_t right[CMT_RECORD_BYTES];
     int written = cases_tree();
-    memcpy(right, volume.root, sizeof right);
+    memcpy(right, volume.record, sizeof right);
     memset(volume.tree + 7 * 256, 1, 256);
-    written &= cmt_sha256(volume.tree + 7 * 256, 256, volume.root + 7 * 32, 32) == CMT_DONE;
+    written &= cmt_sha256(volume.tree + 7 * 256, 256, volume_root_hash(&volume, 7), 32) == CMT_DONE;
     uint64_t result = volume_repair(&volume);
     if (!written || cmt_number(result) != CMT_DONE || cmt_repair_end(result) != CMT_FAULT ||
         cmt_repair_stored(result) != 0 || cmt_repair_proof_bytes(result) != 780 ||
         CMT_PROOF_BYTES(0, 4) != 780 || cmt_number(volume_check(&volume, 780)) != CMT_DONE) {
         return 0;
     }
-    memcpy(volume.root, right, sizeof right);
+    memcpy(volume.record, right, sizeof right);
     int no_fault = cmt_number(volume_check(&volume, 780)) == CMT_NO_FAULT;
     volume.output[11] = 8;
     int no_member = cmt_number(volume_check(&volume, 780)) == CMT_WRONG_HEAD;
@@ -115,20 +116,66 @@ static int stops_have_no_end(void)
     volume.depth = CMT_DEPTH_MAX + 1;
     right &= has_no_end(volume_repair(&volume), CMT_WRONG_DEPTH);
     volume.depth = 1;
-    right &= has_no_end(cmt_repair(1, volume.root, CMT_ROOT_BYTES - 1, volume.table, CMT_HOUSE_TABLE_BYTES(1),
+    right &= has_no_end(cmt_repair(1, volume.record, CMT_RECORD_BYTES - 1, volume.table, CMT_HOUSE_TABLE_BYTES(1),
                                    volume.tree, CMT_TREE_BYTES(1), volume.marks, CMT_MARKS_BYTES(1),
                                    volume.output, CMT_OUTPUT_BYTES(1)),
                         CMT_WRONG_LENGTH);
     volume.marks[CMT_FAULT] = 2;
     uint64_t result = volume_repair(&volume);
     right &= has_no_end(result, CMT_WRONG_MARK) && cmt_value(result) == CMT_FAULT;
+    volume.record[CMT_RECORD_HEAD_BYTES - 1] ^= 1;
+    right &= has_no_end(volume_repair(&volume), CMT_OTHER_TABLE);
     volume.table[4 * CMT_UNAVAILABLE] ^= 1;
     result = volume_repair(&volume);
     right &= has_no_end(result, CMT_WRONG_TABLE) && cmt_value(result) == CMT_UNAVAILABLE;
+    volume.record[0] ^= 1;
+    right &= has_no_end(volume_repair(&volume), CMT_WRONG_RECORD);
     for (uint64_t number = 1; number < 256; number++) {
         right &= has_no_end(number, number) && has_no_end(UINT64_MAX - 255 + number, number);
     }
     return right;
+}
+
+/* Whether a head of these three words, after one that is right, is of this depth, length and table. */
+static int head_is(const uint64_t *words, uint64_t depth, uint64_t length, uint64_t table_bytes)
+{
+    for (size_t i = 0; i < 3; i++) {
+        put_word(volume.record, i, CMT_SIZE(words[i] / 1073741824), CMT_SIZE(words[i] % 1073741824));
+    }
+    return cmt_record_word(volume.record, 0) == words[0] && cmt_record_word(volume.record, 1) == words[1] &&
+           cmt_record_word(volume.record, 2) == words[2] && cmt_record_depth(volume.record) == depth &&
+           cmt_record_length(volume.record) == length && cmt_record_table_bytes(volume.record) == table_bytes;
+}
+
+/* The depth of a head is 0 just where a call at the depth in it stops with 11; each kind is tried in each word. */
+static int heads_are_taken(uint64_t depth, uint64_t length)
+{
+    const uint64_t kind = 1073741824, words[3] = {kind + depth, 2 * kind + length, 3 * kind + 61};
+    int right = 1;
+    for (size_t at = 0; at < 3; at++) {
+        for (uint64_t other = 0; other < 4; other++) {
+            uint64_t tried[3] = {words[0], words[1], words[2]};
+            tried[at] = other * kind + words[at] % kind;
+            int taken = other == at + 1 && depth >= 1 && depth <= CMT_DEPTH_MAX && length <= CMT_BLOCK_BYTES(depth);
+            right &= head_is(tried, taken ? depth : 0, length, 244);
+            right &= depth != 1 || (volume_repair(&volume) == CMT_WRONG_RECORD) == !taken;
+        }
+    }
+    return right;
+}
+
+static int heads_are_right(void)
+{
+    const uint64_t most[3] = {2147483647, 3221225471, 4294967295};
+    int right = cases_tree() && cmt_record_depth(volume.record) == 1 && cmt_record_length(volume.record) == 1024 &&
+                cmt_record_table_bytes(volume.record) == CMT_HOUSE_TABLE_BYTES(1);
+    for (uint64_t depth = 0; depth <= CMT_DEPTH_MAX + 1; depth++) {
+        const uint64_t k = depth < 1 ? 1 : CMT_BLOCK_BYTES(depth);
+        right &= heads_are_taken(depth, 0) && heads_are_taken(depth, k) && heads_are_taken(depth, k + 1);
+        right &= heads_are_taken(depth, 1073741823);
+    }
+    return right && heads_are_taken(1073741823, 1024) && head_is(most, 0, 1073741823, 4294967292) &&
+           CMT_RECORD_BYTES == CMT_RECORD_HEAD_BYTES + CMT_ROOT_BYTES;
 }
 
 /* The ends that a result has room for: all below CMT_NO_END, with what goes with them. */
@@ -136,10 +183,13 @@ static int ends_have_room(void)
 {
     const uint64_t step = 256, most = UINT64_MAX - 255, whole = most - step * (CMT_NO_END - 1);
     const uint64_t fault = whole + step * CMT_FAULT, unavailable = whole + step * CMT_UNAVAILABLE;
+    const uint64_t misfilled = whole + step * CMT_MISFILLED;
     return cmt_repair_end(whole) == CMT_WHOLE && cmt_repair_end(most) == CMT_NO_END - 1 && cmt_repair_stored(most) == 65535 &&
            cmt_repair_end(fault) == CMT_FAULT && cmt_repair_proof_bytes(fault) == 65535 &&
            cmt_repair_layer(fault) == 0 && cmt_repair_end(unavailable) == CMT_UNAVAILABLE &&
-           cmt_repair_layer(unavailable) == 65535 && cmt_repair_proof_bytes(unavailable) == 0;
+           cmt_repair_layer(unavailable) == 65535 && cmt_repair_proof_bytes(unavailable) == 0 &&
+           cmt_repair_end(misfilled) == CMT_MISFILLED && cmt_repair_stored(misfilled) == 65535 &&
+           cmt_repair_proof_bytes(misfilled) == 0 && cmt_repair_layer(misfilled) == 0;
 }
 
 /* Lengths at the largest depth, which constants can hold, and how much stack each depth is said to need. */
@@ -178,9 +228,12 @@ static int texts_are_right(void)
         {CMT_NO_FAULT, "the withheld hash fits: the proof shows no fault"},
         {CMT_ABSENT, "a needed page is absent"},
         {CMT_UNCOVERED, "a data page stands in fewer than two equations of its layer"},
+        {CMT_WRONG_RECORD,
+         "the record's head has a wrong kind, a length that is too large, or another depth than the call's"},
+        {CMT_OTHER_TABLE, "the table is not the one that the record names"},
     };
     const uint64_t known = sizeof numbers / sizeof *numbers;
-    int right = known == 11 && strcmp(cmt_explain(UINT64_MAX), none) == 0;
+    int right = known == 13 && strcmp(cmt_explain(UINT64_MAX), none) == 0;
     for (uint64_t number = 0; number < 512; number++) {
         const char *text = number < known ? numbers[number].text : none;
         right &= (number >= known || numbers[number].of == number) && strcmp(cmt_explain(number), text) == 0;
@@ -192,12 +245,17 @@ static int end_texts_are_right(void)
 {
     static const char none[] = "an end that no repair has";
     static const struct words ends[] = {
-        {CMT_WHOLE, "whole: every page is held, and the tree agrees with the root and the table"},
+        {CMT_WHOLE, "whole: every page is held, and the tree agrees with the record and the table"},
         {CMT_FAULT, "fault: the volume was not coded as the table says"},
         {CMT_UNAVAILABLE, "unavailable: no equation gives another page of the layer"},
         {CMT_TWINS, "twins: two different pages of equal SHA-256 were found"},
+        {CMT_MISFILLED,
+         "misfilled: every page is held, and the tree agrees with the root and the table, but what fills up the volume "
+         "isn't zero"},
         {CMT_NO_END, "no end: the repair stopped"},
         {CMT_TWINS + 1, none},
+        {CMT_MISFILLED - 1, none},
+        {CMT_MISFILLED + 1, none},
         {CMT_NO_END - 1, none},
         {CMT_NO_END + 1, none},
         {UINT64_MAX, none},
@@ -236,6 +294,7 @@ int main(void)
         {"tables", tables_are_right},
         {"values", values_are_apart},
         {"sizes", sizes_are_right},
+        {"heads of records", heads_are_right},
         {"repairs and proofs", repairs_are_right},
         {"repairs that stop", stops_have_no_end},
         {"ends", ends_have_room},

@@ -58,8 +58,7 @@ static void tree_write(void)
 
 static void block_read(void)
 {
-    gives(cmt_block_read(volume.depth, volume.tree, CMT_TREE_BYTES(volume.depth), volume.marks,
-                         CMT_MARKS_BYTES(volume.depth), volume.block, CMT_BLOCK_BYTES(volume.depth)));
+    gives(volume_read(&volume));
 }
 
 static void sample_take(void)
@@ -70,7 +69,7 @@ static void sample_take(void)
 
 static void sample_check(void)
 {
-    gives(cmt_sample_check(volume.depth, 7, volume.root, sizeof volume.root, sample,
+    gives(cmt_sample_check(volume.depth, 7, volume.record, sizeof volume.record, sample,
                            CMT_SAMPLE_BYTES(volume.depth)));
 }
 
@@ -80,23 +79,38 @@ static void repair(void)
     for (size_t place = 3; place < CMT_MARKS_BYTES(volume.depth); place += 10) {
         volume.marks[place] = 0;
     }
-    volume_change_table(&volume);
+    another |= volume_change_table(&volume) != CMT_DONE;
     proof_len = cmt_repair_proof_bytes(volume_repair(&volume));
-    volume_change_table(&volume);
-    another |= proof_len != CMT_PROOF_BYTES(volume.depth - 1, 4);
+    another |= volume_change_table(&volume) != CMT_DONE || proof_len != CMT_PROOF_BYTES(volume.depth - 1, 4);
 }
 
 /* Follows repair(). */
 static void proof_check(void)
 {
-    volume_change_table(&volume);
+    another |= volume_change_table(&volume) != CMT_DONE;
     gives(volume_check(&volume, proof_len));
-    volume_change_table(&volume);
+    another |= volume_change_table(&volume) != CMT_DONE;
 }
 
 static void repair_whole(void)
 {
-    another |= cmt_number(volume_repair(&volume)) != CMT_DONE;
+    another |= cmt_repair_end(volume_repair(&volume)) != CMT_WHOLE;
+}
+
+/* By a record that has a byte less for the length. */
+static void repair_misfilled(void)
+{
+    put_word(volume.record, 1, 2, volume.block_len - 1);
+    another |= cmt_repair_end(volume_repair(&volume)) != CMT_MISFILLED;
+    put_word(volume.record, 1, 2, volume.block_len);
+}
+
+/* By a record that names another table of as many words. */
+static void repair_otherwise(void)
+{
+    volume.record[CMT_RECORD_HEAD_BYTES - 1] ^= 1;
+    another |= volume_repair(&volume) != CMT_OTHER_TABLE;
+    volume.record[CMT_RECORD_HEAD_BYTES - 1] ^= 1;
 }
 
 /* The calls that take a table, with the longest that may be lent, and all else as depth 3 asks. */
@@ -108,18 +122,18 @@ static void long_check(void)
 static void long_write(void)
 {
     gives(cmt_tree_write(depth_asked, long_table, sizeof long_table, volume.block, CMT_BLOCK_BYTES(3), volume.tree,
-                         CMT_TREE_BYTES(3), volume.marks, CMT_MARKS_BYTES(3), volume.root, sizeof volume.root));
+                         CMT_TREE_BYTES(3), volume.marks, CMT_MARKS_BYTES(3), volume.record, sizeof volume.record));
 }
 
 static void long_repair(void)
 {
-    gives(cmt_repair(depth_asked, volume.root, sizeof volume.root, long_table, sizeof long_table, volume.tree,
+    gives(cmt_repair(depth_asked, volume.record, sizeof volume.record, long_table, sizeof long_table, volume.tree,
                      CMT_TREE_BYTES(3), volume.marks, CMT_MARKS_BYTES(3), volume.output, CMT_OUTPUT_BYTES(3)));
 }
 
 static void long_proof_check(void)
 {
-    gives(cmt_proof_check(depth_asked, volume.root, sizeof volume.root, long_table, sizeof long_table, volume.output,
+    gives(cmt_proof_check(depth_asked, volume.record, sizeof volume.record, long_table, sizeof long_table, volume.output,
                           CMT_PROOF_BYTES(0, 4)));
 }
 
@@ -169,6 +183,8 @@ static const struct measured calls[] = {
     {"cmt_repair, to a fault", repair},
     {"cmt_proof_check", proof_check},
     {"cmt_repair", repair_whole},
+    {"cmt_repair, misfilled", repair_misfilled},
+    {"cmt_repair, another table", repair_otherwise},
 };
 
 /* Those that take or write a table: refused, with the longest that may be lent. */
@@ -215,8 +231,8 @@ static int calls_over(uint64_t depth)
     return any_over(when, calls, sizeof calls / sizeof *calls, CMT_DONE, CMT_STACK_BYTES_AT(depth));
 }
 
-/* Calls at depths that there are not; and at depth 3 with the house table of the largest depth, filled up: the word
- * that opens its layer 3 is wrong. */
+/* Calls at depths that there are not; and at depth 3, with a record of it, and the house table of the largest depth,
+ * filled up: the word that opens its layer 3 is wrong. */
 static int refused_over(void)
 {
     const size_t count = sizeof refused / sizeof *refused, opens = 60 * ((1 << 3) - 1);
@@ -228,6 +244,8 @@ static int refused_over(void)
         found |= any_over("no such depth: ", refused, count, CMT_WRONG_DEPTH, CMT_STACK_BYTES);
     }
     depth_asked = 3;
+    put_word(volume.record, 0, 1, 3);
+    put_word(volume.record, 1, 2, CMT_BLOCK_BYTES(3));
     found |= any_over("depth 3, a table of depth 9: ", refused, 1, CMT_WRONG_LENGTH, CMT_STACK_BYTES);
     found |= any_over("depth 3, a table of depth 9: ", refused + 1, count - 1, CMT_WRONG_TABLE + 256 * opens, CMT_STACK_BYTES);
     return found;
