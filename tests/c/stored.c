@@ -1,9 +1,11 @@
 /*
  * Stored forms of depth 1 to 5, which are the files of vectors/: each is read, goes
  * through the library, and comes out as it is stored, byte for byte. A library
- * whose largest depth was 5 wrote them.
+ * whose largest depth was 5 wrote them, when a root had no head: what follows the
+ * head in their records is the root that was stored then. And of depth 1 a volume
+ * that is shorter than there is room for, which no library wrote before.
  *
- *     stored FOLDER    the folder that has depth-1 to depth-5
+ *     stored FOLDER    the folder that has depth-1 to depth-5 and depth-1-short
  */
 #include "volume.h"
 
@@ -12,10 +14,35 @@
 
 enum { DEPTHS = 5, PATH = 256, NAME = 32, TEXT = 262144, ROW = 16, SYMBOL = 256, UNTOUCHED = 0x5a };
 
-/* The base symbol that each depth has a sample of. */
-static const unsigned sampled[DEPTHS] = {9, 20, 61, 100, 200};
+/* The files of a volume: its bytes, the base symbol of its sample, its repairs, and the SHA-256 of the roots that were
+ * stored without a head: its own, and that of the last repair. */
+static const struct form {
+    const char *folder;
+    uint64_t depth;
+    size_t length;
+    unsigned sampled;
+    const char *repairs[3], *root, *last_root;
+} forms[] = {
+    {"depth-1", 1, CMT_BLOCK_BYTES(1), 9, {"whole", "unavailable", "wrong"},
+     "ca04ff136a941fbbec83f5afbf25c30516c1ebff1f026bb0927f6ccf50f46c94",
+     "3d9eba443dddc8b70e99ba3bc5270c798104ec633b061ee7025d6683c4829b9d"},
+    {"depth-2", 2, CMT_BLOCK_BYTES(2), 20, {"whole", "unavailable", "wrong"},
+     "ef7270ad27dc64d490e08dbb5da31654ab0debd54916ec7e98313b18a1626d87",
+     "5f7b42be0cbcf1df92b4cb8a7a0a5a34ef07076979e456e80635e40938d3287a"},
+    {"depth-3", 3, CMT_BLOCK_BYTES(3), 61, {"whole", "unavailable", "wrong"},
+     "3ee6d801d0b04d7684ed9ad8ea70a8346c30c6e2865cda9f4d2e9ee1c47bf990",
+     "fbd8cde6e65c3bfc4fce6690181d12ec5ff62c2d78c175a6a00749fac587dc37"},
+    {"depth-4", 4, CMT_BLOCK_BYTES(4), 100, {"whole", "unavailable", "wrong"},
+     "6bfe36a5034eae638e7f33ca984fd6d7a3aad55e23b67802aeb2d2305fddabb7",
+     "9f3cb9b43ce9070176d7489fe7af18ae74c2ee45917342743ad1bc5b8eb901ef"},
+    {"depth-5", 5, CMT_BLOCK_BYTES(5), 200, {"whole", "unavailable", "wrong"},
+     "a4defa424ef0f478f0d46fbe720af29e2aba6ad0d1bd7ffcd3064acab7838041",
+     "7a577591041d59aa7f9a01e55ed8ad6f98bbb8d600e19d168deebfa94ebecb67"},
+    {"depth-1-short", 1, 700, 2, {"whole", "misfilled", NULL}, NULL, NULL},
+};
 
 static const char *folder;
+static const struct form *form;
 static int wrong;
 
 /* What is stored; what the library writes, or is lent to be changed; what it should leave. */
@@ -27,7 +54,7 @@ static uint8_t text[TEXT + 1];
 static void must(int right, const char *part, const char *what)
 {
     if (!right) {
-        printf("stored: depth %d%s%s: %s\n", (int)stored.depth, *part ? ", " : "", part, what);
+        printf("stored: %s%s%s: %s\n", form->folder, *part ? ", " : "", part, what);
         wrong = 1;
     }
 }
@@ -36,7 +63,7 @@ static void must(int right, const char *part, const char *what)
 static size_t load(const char *part, const char *name, uint8_t *bytes, size_t most, int *there)
 {
     char path[PATH];
-    snprintf(path, sizeof path, "%s/depth-%d/%s%s%s", folder, (int)stored.depth, part, *part ? "/" : "", name);
+    snprintf(path, sizeof path, "%s/%s/%s%s%s", folder, form->folder, part, *part ? "/" : "", name);
     FILE *file = fopen(path, "rb");
     size_t len = file == NULL ? 0 : fread(bytes, 1, most, file);
     *there = file != NULL && fgetc(file) == EOF;
@@ -108,7 +135,17 @@ static void tree_of(const char *part, const char *name, uint8_t *tree)
     }
 }
 
-/* The table that is written, and the tree, the marks and the root that the stored volume gives by the stored table. */
+/* The root in a record is that of this SHA-256, where it was stored without a head. */
+static void has_root(const char *part, const uint8_t *record, const char *sum)
+{
+    uint8_t digest[CMT_SHA256_DIGEST_BYTES];
+    must(cmt_sha256(record + CMT_RECORD_HEAD_BYTES, CMT_ROOT_BYTES, digest, sizeof digest) == CMT_DONE, part, "a digest");
+    for (size_t i = 0; sum != NULL && i < sizeof digest; i++) {
+        must(digits((const uint8_t *)sum + 2 * i, 2) == digest[i], part, "the root is not the one that was stored");
+    }
+}
+
+/* The table that is written, and the tree, the marks and the record that the stored volume gives by the stored table. */
 static void is_written(void)
 {
     const uint64_t d = stored.depth;
@@ -117,26 +154,30 @@ static void is_written(void)
     must(volume_house_table(&used) == CMT_DONE && memcmp(used.table, stored.table, CMT_HOUSE_TABLE_BYTES(d)) == 0, "",
          "the table comes out otherwise");
     must(cmt_table_check(d, stored.table, CMT_HOUSE_TABLE_BYTES(d)) == CMT_DONE, "", "the table is not taken");
-    must(cmt_tree_write(d, stored.table, CMT_HOUSE_TABLE_BYTES(d), stored.block, CMT_BLOCK_BYTES(d), used.tree,
-                        CMT_TREE_BYTES(d), used.marks, CMT_MARKS_BYTES(d), used.root, sizeof used.root) == CMT_DONE,
+    must(cmt_tree_write(d, stored.table, CMT_HOUSE_TABLE_BYTES(d), stored.block, stored.block_len, used.tree,
+                        CMT_TREE_BYTES(d), used.marks, CMT_MARKS_BYTES(d), used.record, sizeof used.record) == CMT_DONE,
          "", "the volume is not coded");
     must(memcmp(used.tree, stored.tree, CMT_TREE_BYTES(d)) == 0, "", "the tree comes out otherwise");
     must(memcmp(used.marks, stored.marks, CMT_MARKS_BYTES(d)) == 0, "", "the marks come out otherwise");
-    must(memcmp(used.root, stored.root, sizeof used.root) == 0, "", "the root comes out otherwise");
+    must(memcmp(used.record, stored.record, sizeof used.record) == 0, "", "the record comes out otherwise");
 }
 
-/* The stored tree gives the stored volume and the stored sample, and the root accepts that. */
+/* The stored tree gives the stored volume and the stored sample, and the record accepts that. A root without its head
+ * is taken no more. */
 static void is_read(unsigned number)
 {
     const uint64_t d = stored.depth;
-    must(cmt_block_read(d, stored.tree, CMT_TREE_BYTES(d), stored.marks, CMT_MARKS_BYTES(d), used.block,
-                        CMT_BLOCK_BYTES(d)) == CMT_DONE && memcmp(used.block, stored.block, CMT_BLOCK_BYTES(d)) == 0,
-         "", "the volume is read otherwise");
+    const uint8_t *root = volume_root_hash(&stored, 0);
+    must(cmt_block_read(d, stored.record, sizeof stored.record, stored.tree, CMT_TREE_BYTES(d), stored.marks,
+                        CMT_MARKS_BYTES(d), used.block, CMT_BLOCK_BYTES(d)) == CMT_DONE &&
+             memcmp(used.block, stored.block, sizeof used.block) == 0, "", "the volume is read otherwise");
     must(cmt_sample_take(d, number, stored.tree, CMT_TREE_BYTES(d), stored.marks, CMT_MARKS_BYTES(d), taken,
                          CMT_SAMPLE_BYTES(d)) == CMT_DONE && memcmp(taken, sample, CMT_SAMPLE_BYTES(d)) == 0,
          "", "the sample comes out otherwise");
-    must(cmt_sample_check(d, number, stored.root, sizeof stored.root, sample, CMT_SAMPLE_BYTES(d)) == CMT_DONE, "",
+    must(cmt_sample_check(d, number, stored.record, sizeof stored.record, sample, CMT_SAMPLE_BYTES(d)) == CMT_DONE, "",
          "the sample is not accepted");
+    must(cmt_sample_check(d, number, root, CMT_ROOT_BYTES, sample, CMT_SAMPLE_BYTES(d)) == CMT_WRONG_LENGTH, "",
+         "a root is taken as a record");
 }
 
 /* A repair's report as the file has it: the result that it stands for, and the names of the files with what is left. */
@@ -155,26 +196,35 @@ static uint64_t report(const char *part, char *tree, char *marks)
     return number + ((uint64_t)end << 8) + ((uint64_t)count << 32) + ((uint64_t)value << 48);
 }
 
+/* What a repair is lent: the stored table and record, or a record of its own; and tree and marks. */
+static void lend(const char *part, uint64_t end)
+{
+    memset(used.output, UNTOUCHED, sizeof used.output);
+    memcpy(used.table, stored.table, sizeof used.table);
+    memcpy(used.record, stored.record, sizeof used.record);
+    tree_of(part, "tree", used.tree);
+    exactly(part, "marks", used.marks, CMT_MARKS_BYTES(stored.depth));
+    if (end == CMT_FAULT || end == CMT_MISFILLED) {
+        exactly(part, "record", used.record, sizeof used.record);
+        has_root(part, used.record, form->last_root);
+    }
+}
+
 /* The stored tree is repaired to what is stored, with the stored report and proof, which is accepted. */
 static void is_repaired(const char *part)
 {
     const uint64_t d = stored.depth;
     char tree[NAME] = "", marks[NAME] = "";
-    memset(used.output, UNTOUCHED, sizeof used.output);
-    memset(after.output, UNTOUCHED, sizeof after.output);
-    memcpy(used.table, stored.table, sizeof used.table);
-    memcpy(used.root, stored.root, sizeof used.root);
     const uint64_t result = report(part, tree, marks);
     const size_t proof_len = cmt_repair_proof_bytes(result);
-    tree_of(part, "tree", used.tree);
-    exactly(part, "marks", used.marks, CMT_MARKS_BYTES(d));
+    lend(part, cmt_repair_end(result));
+    memset(after.output, UNTOUCHED, sizeof after.output);
     tree_of(part, tree, after.tree);
     exactly(part, marks, after.marks, CMT_MARKS_BYTES(d));
     if (proof_len > 0 && proof_len <= CMT_OUTPUT_BYTES(d)) {
-        exactly(part, "root", used.root, sizeof used.root);
         exactly(part, "proof", proof, proof_len);
         memcpy(after.output, proof, proof_len);
-        must(cmt_proof_check(d, used.root, sizeof used.root, stored.table, CMT_HOUSE_TABLE_BYTES(d), proof, proof_len) ==
+        must(cmt_proof_check(d, used.record, sizeof used.record, stored.table, CMT_HOUSE_TABLE_BYTES(d), proof, proof_len) ==
                  CMT_DONE, part, "the proof is not accepted");
     }
     must(volume_repair(&used) == result, part, "the repair reports otherwise");
@@ -183,22 +233,27 @@ static void is_repaired(const char *part)
     must(memcmp(used.output, after.output, sizeof used.output) == 0, part, "the repair leaves another output");
 }
 
-static void depth(uint64_t d)
+/* All files of a form. The rest of the volume's buffer is as that which it is read back into. */
+static void form_is_right(void)
 {
+    const uint64_t d = form->depth;
     char name[NAME];
+    memset(stored.block, UNTOUCHED, sizeof stored.block);
     stored.depth = d;
-    exactly("", "volume", stored.block, CMT_BLOCK_BYTES(d));
+    stored.block_len = form->length;
+    exactly("", "volume", stored.block, stored.block_len);
     exactly("", "table", stored.table, CMT_HOUSE_TABLE_BYTES(d));
     exactly("", "tree", stored.tree, CMT_TREE_BYTES(d));
     exactly("", "marks", stored.marks, CMT_MARKS_BYTES(d));
-    exactly("", "root", stored.root, sizeof stored.root);
-    snprintf(name, sizeof name, "sample-%u", sampled[d - 1]);
+    exactly("", "record", stored.record, sizeof stored.record);
+    has_root("", stored.record, form->root);
+    snprintf(name, sizeof name, "sample-%u", form->sampled);
     exactly("", name, sample, CMT_SAMPLE_BYTES(d));
     is_written();
-    is_read(sampled[d - 1]);
-    is_repaired("whole");
-    is_repaired("unavailable");
-    is_repaired("wrong");
+    is_read(form->sampled);
+    for (size_t i = 0; i < 3 && form->repairs[i] != NULL; i++) {
+        is_repaired(form->repairs[i]);
+    }
 }
 
 int main(int count, char **words)
@@ -208,8 +263,8 @@ int main(int count, char **words)
         return 2;
     }
     folder = words[1];
-    for (uint64_t d = 1; d <= DEPTHS; d++) {
-        depth(d);
+    for (form = forms; form < forms + sizeof forms / sizeof *forms; form++) {
+        form_is_right();
     }
     if (!wrong) {
         printf("stored: forms of depth 1 to %d are read, and come out as they are stored\n", DEPTHS);
