@@ -18,14 +18,14 @@
 enum { WRONG_USE = 64, UNREADABLE = 66 };
 
 static const char usage[] =
-    "bench sample DEPTH NUMBER ROOT SAMPLE    check a sample of a base page\n"
-    "bench proof DEPTH ROOT TABLE PROOF       check a fault proof\n"
+    "bench sample DEPTH NUMBER RECORD SAMPLE    check a sample of a base page\n"
+    "bench proof DEPTH RECORD TABLE PROOF       check a fault proof\n"
     "\n"
-    "DEPTH 1 to 9; NUMBER a decimal number too; the others are files. DEPTH, ROOT and TABLE must come from where\n"
-    "they can be trusted. Exit status: 0 accepted; 1 to 8 and 10 not, and why not; 64 bad usage; 66 a\n"
-    "file cannot be read. At 7 it says the layer of the page that doesn't fit, and of a proof the position of the\n"
-    "member on whose way up it is, the withheld one last. That page, or one above it, is to be asked for again:\n"
-    "cedunmi check-sample and check-proof say which.\n";
+    "DEPTH 1 to 9; NUMBER a decimal number too; the others are files. RECORD must come from where it can be trusted:\n"
+    "a DEPTH or a TABLE that it doesn't name is turned down. Exit status: 0 accepted; 1 to 8 and 10 to 12 not, and\n"
+    "why not; 64 bad usage; 66 a file cannot be read. At 7 it says the layer of the page that doesn't fit, and of a\n"
+    "proof the position of the member on whose way up it is, the withheld one last. That page, or one above it, is to\n"
+    "be asked for again: cedunmi check-sample and check-proof say which.\n";
 
 struct file {
     uint8_t *bytes;
@@ -94,61 +94,93 @@ static uint64_t number(const char *text)
     return value;
 }
 
-static uint64_t check_sample(char **words)
+/* Says what the result means, with its values, but for the second of 7, which a sample has not. */
+static void explain(uint64_t result, const char *accepted)
+{
+    unsigned long long value = cmt_value(result), second = cmt_second_value(result);
+    fprintf(stderr, "bench: %s", cmt_number(result) == CMT_DONE ? accepted : cmt_explain(cmt_number(result)));
+    switch (cmt_number(result)) {
+    case CMT_WRONG_TABLE:
+        fprintf(stderr, ", first wrong word %llu", value);
+        break;
+    case CMT_WRONG_HASH:
+        fprintf(stderr, ": layer %llu", value);
+        break;
+    case CMT_UNCOVERED:
+        fprintf(stderr, ": page %llu of layer %llu, counted in that layer, is the first such", second, value);
+        break;
+    default:
+        break;
+    }
+}
+
+/* Says what is wrong with a record that was not taken. */
+static void explain_record(uint64_t result, struct file record)
+{
+    unsigned long long depth = record.len < CMT_RECORD_BYTES ? 0 : cmt_record_depth(record.bytes);
+    if (cmt_number(result) == CMT_WRONG_LENGTH && record.len < CMT_RECORD_BYTES) {
+        fprintf(stderr, ": a record has %d bytes, and not %zu", CMT_RECORD_BYTES, record.len);
+    }
+    if (cmt_number(result) == CMT_WRONG_RECORD && depth > 0) {
+        fprintf(stderr, ": it is of depth %llu", depth);
+    }
+}
+
+/* Says how a table differs from the one that a record names. */
+static void explain_table(struct file record, struct file table)
+{
+    unsigned long long named = cmt_record_table_bytes(record.bytes) / 4, words = table.len / 4;
+    if (named == words) {
+        fprintf(stderr, ": both have %llu words, but it has another SHA-256", words);
+    } else {
+        fprintf(stderr, ": it has %llu words, and that one %llu", words, named);
+    }
+}
+
+static int check_sample(char **words)
 {
     uint64_t depth = number(words[0]), base = number(words[1]);
-    struct file root = read_file(words[2], CMT_ROOT_BYTES);
+    struct file record = read_file(words[2], CMT_RECORD_BYTES);
     struct file sample = read_file(words[3], CMT_SAMPLE_BYTES(CMT_DEPTH_MAX));
-    uint64_t result = cmt_sample_check(depth, base, root.bytes, root.len, sample.bytes, sample.len);
-    free(root.bytes);
+    uint64_t result = cmt_sample_check(depth, base, record.bytes, record.len, sample.bytes, sample.len);
+    explain(result, "accepted: every hash in the sample leads to the root");
+    explain_record(result, record);
+    fputc('\n', stderr);
+    free(record.bytes);
     free(sample.bytes);
-    return result;
+    return (int)cmt_number(result);
 }
 
-static uint64_t check_proof(char **words)
+static int check_proof(char **words)
 {
     uint64_t depth = number(words[0]);
-    struct file root = read_file(words[1], CMT_ROOT_BYTES);
+    struct file record = read_file(words[1], CMT_RECORD_BYTES);
     struct file table = read_file(words[2], CMT_TABLE_BYTES_MAX);
     struct file proof = read_file(words[3], CMT_OUTPUT_BYTES(CMT_DEPTH_MAX));
-    uint64_t result = cmt_proof_check(depth, root.bytes, root.len, table.bytes, table.len,
+    uint64_t result = cmt_proof_check(depth, record.bytes, record.len, table.bytes, table.len,
                                       proof.bytes, proof.len);
-    free(root.bytes);
-    free(table.bytes);
-    free(proof.bytes);
-    return result;
-}
-
-/* Says what the result means, and gives the exit status; of a proof 7 has a second value. */
-static int explain(uint64_t result, const char *accepted, int is_proof)
-{
-    uint64_t status = cmt_number(result);
-    unsigned long long value = cmt_value(result), second = cmt_second_value(result);
-    fprintf(stderr, "bench: %s", status == CMT_DONE ? accepted : cmt_explain(status));
-    if (status == CMT_WRONG_TABLE) {
-        fprintf(stderr, ", first wrong word %llu", value);
+    explain(result, "accepted: the proof shows that the volume was not coded as this table says");
+    explain_record(result, record);
+    if (cmt_number(result) == CMT_OTHER_TABLE) {
+        explain_table(record, table);
     }
-    if (status == CMT_WRONG_HASH) {
-        fprintf(stderr, ": layer %llu", value);
-    }
-    if (status == CMT_WRONG_HASH && is_proof) {
-        fprintf(stderr, ", position %llu", second);
-    }
-    if (status == CMT_UNCOVERED) {
-        fprintf(stderr, ": page %llu of layer %llu, counted in that layer, is the first such", second, value);
+    if (cmt_number(result) == CMT_WRONG_HASH) {
+        fprintf(stderr, ", position %llu", (unsigned long long)cmt_second_value(result));
     }
     fputc('\n', stderr);
-    return (int)status;
+    free(record.bytes);
+    free(table.bytes);
+    free(proof.bytes);
+    return (int)cmt_number(result);
 }
 
 int main(int count, char **words)
 {
     if (count == 6 && strcmp(words[1], "sample") == 0) {
-        return explain(check_sample(words + 2), "accepted: every hash in the sample leads to the root", 0);
+        return check_sample(words + 2);
     }
     if (count == 6 && strcmp(words[1], "proof") == 0) {
-        return explain(check_proof(words + 2),
-                       "accepted: the proof shows that the volume was not coded as this table says", 1);
+        return check_proof(words + 2);
     }
     fputs(usage, stderr);
     return WRONG_USE;

@@ -1,4 +1,4 @@
-// Codes a volume, loses a fifth of its pages, repairs it, reads it back, and checks a sample.
+// Codes a volume of 3,700 bytes, loses a fifth of its pages, repairs it, reads it back, and checks a sample.
 #include "cedunmi.h"
 
 #include <iostream>
@@ -17,9 +17,9 @@ static std::uint64_t done(std::uint64_t result)
 }
 
 // A block of bytes that differ from page to page.
-static Bytes block_of(std::uint64_t depth)
+static Bytes block_of(std::size_t length)
 {
-    Bytes block(CMT_BLOCK_BYTES(depth));
+    Bytes block(length);
     for (std::size_t i = 0; i < block.size(); i++) {
         block[i] = static_cast<std::uint8_t>(i + i / 256);
     }
@@ -29,31 +29,32 @@ static Bytes block_of(std::uint64_t depth)
 int main()
 {
     const std::uint64_t depth = 3, number = 50;
-    const Bytes block = block_of(depth);
-    Bytes table(CMT_HOUSE_TABLE_BYTES(depth)), root(CMT_ROOT_BYTES), back(block.size());
+    const Bytes block = block_of(3700);
+    Bytes table(CMT_HOUSE_TABLE_BYTES(depth)), record(CMT_RECORD_BYTES), back(CMT_BLOCK_BYTES(depth));
     Bytes tree(CMT_TREE_BYTES(depth)), marks(CMT_MARKS_BYTES(depth));
     Bytes output(CMT_OUTPUT_BYTES(depth)), sample(CMT_SAMPLE_BYTES(depth));
 
     done(cmt_house_table(depth, table.data(), table.size()));
     done(cmt_tree_write(depth, table.data(), table.size(), block.data(), block.size(), tree.data(),
-                        tree.size(), marks.data(), marks.size(), root.data(), root.size()));
+                        tree.size(), marks.data(), marks.size(), record.data(), record.size()));
 
     for (std::size_t place = 0; place < marks.size(); place += 5) {
         marks[place] = 0;
     }
     const std::uint64_t repaired = done(cmt_repair(
-        depth, root.data(), root.size(), table.data(), table.size(), tree.data(), tree.size(),
+        depth, record.data(), record.size(), table.data(), table.size(), tree.data(), tree.size(),
         marks.data(), marks.size(), output.data(), output.size()));
     std::cout << "end " << cmt_repair_end(repaired) << ", stored " << cmt_repair_stored(repaired) << "\n";
 
-    done(cmt_block_read(depth, tree.data(), tree.size(), marks.data(), marks.size(), back.data(),
-                        back.size()));
+    done(cmt_block_read(depth, record.data(), record.size(), tree.data(), tree.size(), marks.data(),
+                        marks.size(), back.data(), back.size()));
+    back.resize(cmt_record_length(record.data()));
     std::cout << "the block is " << (back == block ? "as it was" : "another") << "\n";
 
     done(cmt_sample_take(depth, number, tree.data(), tree.size(), marks.data(), marks.size(),
                          sample.data(), sample.size()));
     const auto check = [&] {
-        return cmt_sample_check(depth, number, root.data(), root.size(), sample.data(), sample.size());
+        return cmt_sample_check(depth, number, record.data(), record.size(), sample.data(), sample.size());
     };
     std::cout << "sample: " << check();
     sample[0] ^= 1;

@@ -1,4 +1,4 @@
-"""Codes a volume, loses a fifth of its pages, repairs it, reads it back, and checks a sample.
+"""Codes a volume of 3,700 bytes, loses a fifth of its pages, repairs it, reads it back, and checks a sample.
 
     volume.py LIBRARY    the library as a shared object
 """
@@ -35,24 +35,25 @@ def done(name, *arguments):
 
 depth, number = 3, 50
 pages = 16 * (2**depth - 1)
-block = bytearray((i + i // 256) % 256 for i in range(1024 * 2**(depth - 1)))
-back = bytearray(len(block))
+block = bytearray((i + i // 256) % 256 for i in range(3700))
+back = bytearray(1024 * 2**(depth - 1))
 table = bytearray(4 * (60 * (2**depth - 1) + 1))
-tree, marks, root = bytearray(256 * pages), bytearray(pages), bytearray(512)
+tree, marks, record = bytearray(256 * pages), bytearray(pages), bytearray(556)
 output, sample = bytearray(12 + 256 * (8 * depth - 1)), bytearray(256 * (2 * depth - 1))
 
 done("cmt_house_table", depth, table)
-done("cmt_tree_write", depth, table, block, tree, marks, root)
+done("cmt_tree_write", depth, table, block, tree, marks, record)
 
 marks[::5] = bytes(len(marks[::5]))
-repaired = done("cmt_repair", depth, root, table, tree, marks, output)
+repaired = done("cmt_repair", depth, record, table, tree, marks, output)
 print(f"end {repaired % 2**24}, stored {repaired // 2**24 % 2**16}")
 
-done("cmt_block_read", depth, tree, marks, back)
+done("cmt_block_read", depth, record, tree, marks, back)
+del back[int.from_bytes(record[4:8], "big") % 2**30:]
 print("the block is", "as it was" if back == block else "another")
 
 done("cmt_sample_take", depth, number, tree, marks, sample)
-right = call("cmt_sample_check", depth, number, root, sample)
+right = call("cmt_sample_check", depth, number, record, sample)
 sample[0] ^= 1
-damaged = call("cmt_sample_check", depth, number, root, sample)
+damaged = call("cmt_sample_check", depth, number, record, sample)
 print(f"sample: {right}, damaged: {damaged % 256} at layer {damaged // 256}")
