@@ -183,7 +183,8 @@ enum {
 #define CMT_OUTPUT_BYTES(depth) CMT_PROOF_BYTES((depth) - 1, 8)
 #define CMT_TWINS_BYTES 512
 
-/* Word 0, 1 or 2 of a record: of 32 bits the two highest are its kind, the others its value. */
+/* Word 0, 1 or 2 of a record, of which this and the next three read the first twelve bytes: of 32 bits the two
+ * highest are its kind, the others its value. */
 static inline uint64_t cmt_record_word(const uint8_t *record, size_t number)
 {
     uint64_t word = 0;
