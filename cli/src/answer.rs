@@ -42,7 +42,7 @@ pub fn report(
     format!("{head}{layers}stored: {stored}\n{}\n", ended(depth, end, before, after, shown))
 }
 
-/// Half of the top layer: where so many of its pages are bad copies, the root may be another volume's.
+/// Half of the top layer: where so many of its pages are bad copies, the record may be another volume's.
 const HALF: usize = 8;
 
 /// The end in one line, with what to do about it.
@@ -58,7 +58,7 @@ pub fn ended(depth: Depth, end: &End, before: Pages, after: Pages, shown: &Shown
             let Layer { bad, missing, .. } = Layer::compare(depth, *layer, before, after);
             let count = missing.len();
             let hint = match *layer == 0 && bad.len() >= HALF {
-                true => "; most of them were held, and don't fit this root: is it the volume's?",
+                true => "; most of them were held, and don't fit this record: is it the volume's?",
                 false => "",
             };
             format!("unavailable: no equation gives another page of layer {layer}; bring some of its {count} missing pages, and repair again{hint}")
@@ -111,7 +111,7 @@ mod tests {
     #[test]
     fn whole() {
         let (after, mut before) = (held(), held());
-        let said = "whole: every page is held, and the tree agrees with the root and the table\n";
+        let said = "whole: every page is held, and the tree agrees with the record and the table\n";
         let none = "layer 0: 16 pages, 0 to 15: 0 absent, 0 bad; 0 stored, 0 missing\n\
                     layer 1: 32 pages, 16 to 47: 0 absent, 0 bad; 0 stored, 0 missing\n";
         let now = told(0, End::Whole, &before, &after, &Shown::Nowhere);
@@ -157,15 +157,30 @@ mod tests {
         assert_eq!(now, (lines.to_string(), 32, 32));
     }
 
-    /// Most pages of the top layer are bad copies where the root is another volume's.
+    /// Whole but for the filling: the tree is repaired as it is for whole, and the end says so.
     #[test]
-    fn another_root() {
+    fn misfilled() {
+        let (after, mut before) = (held(), held());
+        let said = format!("{}\n", End::Misfilled.meaning());
+        let now = told(0, End::Misfilled, &before, &after, &Shown::Nowhere);
+        assert!(now.0.starts_with(WOULD) && now.0.ends_with(&format!("stored: 0\n{said}")));
+        assert_eq!((now.1, now.2), (43, 43));
+        before.marks[47] = 0;
+        let now = told(1, End::Misfilled, &before, &after, &Shown::In("proof"));
+        let last = "layer 1: 32 pages, 16 to 47: 1 absent, 0 bad; 1 stored, 0 missing\nstored: 1\n";
+        assert!(now.0.ends_with(&format!("{last}{said}")));
+        assert_eq!((now.1, now.2), (43, 43));
+    }
+
+    /// Most pages of the top layer are bad copies where the record is another volume's.
+    #[test]
+    fn another_record() {
         let mut after = held();
         after.marks[..13].copy_from_slice(&[0; 13]);
         let now = told(0, End::Unavailable { layer: 0 }, &held(), &after, &Shown::Nowhere);
         let last = "unavailable: no equation gives another page of layer 0; \
                     bring some of its 13 missing pages, and repair again; \
-                    most of them were held, and don't fit this root: is it the volume's?";
+                    most of them were held, and don't fit this record: is it the volume's?";
         assert_eq!((now.0.lines().last(), now.1), (Some(last), 32));
     }
 
@@ -202,6 +217,8 @@ mod tests {
                 Stop::Uncovered { layer: 2, symbol: 5 },
                 "a data page stands in fewer than two equations of its layer: page 5 of layer 2, counted in that layer, is the first such",
             ),
+            (Stop::WrongRecord, Stop::WrongRecord.meaning()),
+            (Stop::OtherTable, Stop::OtherTable.meaning()),
         ];
         for (number, (stop, line)) in (1..).zip(stops) {
             let failure = Failure::stopped(stop);

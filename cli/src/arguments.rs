@@ -16,6 +16,7 @@ pub struct Arguments {
 pub struct Options {
     pub force: bool,
     pub in_place: bool,
+    pub for_volume: bool,
     pub unverified: bool,
     pub quiet: bool,
 }
@@ -23,6 +24,7 @@ pub struct Options {
 /// Which option goes with which command; `--quiet` goes with all.
 const FORCE: &[&str] = &["table", "code", "typed", "sample", "repair", "read"];
 const IN_PLACE: &[&str] = &["repair"];
+const FOR_VOLUME: &[&str] = &["table"];
 const UNVERIFIED: &[&str] = &["read"];
 
 impl Arguments {
@@ -60,6 +62,7 @@ impl Arguments {
             Some("--quiet" | "-q") => (&mut self.options.quiet, None),
             Some("--force") => (&mut self.options.force, Some(FORCE)),
             Some("--in-place") => (&mut self.options.in_place, Some(IN_PLACE)),
+            Some("--for") => (&mut self.options.for_volume, Some(FOR_VOLUME)),
             Some("--unverified") => (&mut self.options.unverified, Some(UNVERIFIED)),
             _ => {
                 let name = shown(word);
@@ -78,15 +81,29 @@ impl Arguments {
     /// The arguments, as many as the command has.
     pub fn take<const N: usize>(&self) -> Result<[&OsStr; N], Failure> {
         let words: Vec<&OsStr> = self.words.iter().map(OsString::as_os_str).collect();
-        <[&OsStr; N]>::try_from(words).map_err(|words| {
-            let (command, lines) = (self.command, help::of(self.command));
-            let plural = if N == 1 { "" } else { "s" };
-            let given = words.len();
-            Failure::usage(format!(
-                "{command} takes {N} argument{plural}, not {given}:\n{}",
-                lines.trim_end()
-            ))
-        })
+        let plural = if N == 1 { "" } else { "s" };
+        let taken = format!("{N} argument{plural}");
+        <[&OsStr; N]>::try_from(words).map_err(|_| self.miscounted(&taken))
+    }
+
+    /// The same after a depth, which need not be there: the number of arguments tells.
+    pub fn take_after_depth<const N: usize>(
+        &self,
+    ) -> Result<(Option<&OsStr>, [&OsStr; N]), Failure> {
+        let words: Vec<&OsStr> = self.words.iter().map(OsString::as_os_str).collect();
+        let (depth, words) = match words.split_first() {
+            Some((depth, after)) if after.len() == N => (Some(*depth), after.to_vec()),
+            _ => (None, words),
+        };
+        let plural = if N == 1 { "" } else { "s" };
+        let taken = format!("{N} argument{plural}, or {} with DEPTH", N + 1);
+        let words = <[&OsStr; N]>::try_from(words).map_err(|_| self.miscounted(&taken))?;
+        Ok((depth, words))
+    }
+
+    fn miscounted(&self, taken: &str) -> Failure {
+        let (command, given, lines) = (self.command, self.words.len(), help::of(self.command));
+        Failure::usage(format!("{command} takes {taken}, not {given}:\n{}", lines.trim_end()))
     }
 
     /// The arguments, one or none.

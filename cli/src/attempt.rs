@@ -1,7 +1,7 @@
 //! A repair, attempted on a copy in memory: what `repair`, `check` and `read` begin with.
 
 use crate::answer::{self, Shown};
-use crate::arguments::decimal;
+use crate::depths;
 use crate::failure::Failure;
 use crate::input::{stopped, Input, Reader};
 use crate::kind::Kind;
@@ -17,7 +17,7 @@ pub const TWINS: &str = "twins";
 /// What a repair is attempted on.
 pub struct Attempt {
     pub depth: u64,
-    pub root: Input,
+    pub record: Input,
     pub table: Input,
     pub tree: Input,
     pub marks: Input,
@@ -33,28 +33,31 @@ pub struct After<'a> {
 }
 
 impl Attempt {
-    pub fn read(reader: &mut Reader, words: [&OsStr; 5]) -> Result<Attempt, Failure> {
-        let [depth, root, table, tree, marks] = words;
-        Ok(Attempt {
-            depth: decimal("DEPTH", depth)?,
-            root: reader.read(root, Kind::Root)?,
-            table: reader.read(table, Kind::Table)?,
-            tree: reader.read(tree, Kind::Tree)?,
-            marks: reader.read(marks, Kind::Marks)?,
-        })
+    pub fn read(
+        reader: &mut Reader,
+        depth: Option<&OsStr>,
+        words: [&OsStr; 4],
+    ) -> Result<Attempt, Failure> {
+        let (depth, [record, table, tree, marks]) = (depths::given(depth)?, words);
+        let record = reader.read(record, Kind::Record)?;
+        let table = reader.read(table, Kind::Table)?;
+        let tree = reader.read(tree, Kind::Tree)?;
+        let marks = reader.read(marks, Kind::Marks)?;
+        let depth = depths::of_record(depth, &record)?;
+        Ok(Attempt { depth, record, table, tree, marks })
     }
 
     pub fn inputs(&self) -> [&Input; 4] {
-        [&self.root, &self.table, &self.tree, &self.marks]
+        [&self.record, &self.table, &self.tree, &self.marks]
     }
 
     /// Repairs a copy.
     pub fn repair(&self) -> Result<After<'_>, Failure> {
         let stop = |stop| stopped(stop, self.depth, &self.inputs());
         let (mut tree, mut marks) = (self.tree.bytes.clone(), self.marks.bytes.clone());
-        let (root, table) = (&self.root.bytes, &self.table.bytes);
+        let (record, table) = (&self.record.bytes, &self.table.bytes);
         let repaired =
-            cedunmi::repair(self.depth, root, table, &mut tree, &mut marks).map_err(stop)?;
+            cedunmi::repair(self.depth, record, table, &mut tree, &mut marks).map_err(stop)?;
         let depth = Depth::new(self.depth).ok_or(Stop::WrongDepth).map_err(stop)?;
         Ok(After { attempt: self, depth, tree, marks, repaired })
     }

@@ -9,8 +9,8 @@ mod explain;
 mod help;
 mod in_place;
 mod read;
+mod record;
 mod repair;
-mod root;
 mod sample;
 mod sha256;
 mod table;
@@ -25,10 +25,11 @@ pub type Done = Result<u8, Failure>;
 
 pub fn run(arguments: &Arguments) -> Done {
     match arguments.command {
+        "table" if arguments.options.for_volume => table::for_volume(arguments),
         "table" => table::run(arguments),
         "check-table" => check_table::run(arguments),
         "code" => code::run(arguments),
-        "root" => root::run(arguments),
+        "record" => record::run(arguments),
         "typed" => typed::run(arguments),
         "sample" => sample::run(arguments),
         "check-sample" => check_sample::run(arguments),

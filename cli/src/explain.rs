@@ -3,23 +3,30 @@
 use crate::failure::{DAMAGED, ENDS, NOT_MADE, NOT_WRITTEN, SLIP, UNKNOWN, UNREADABLE, USAGE};
 use cedunmi::{explain, explain_end};
 
-/// What to do about a status.
+/// The end of a repair whose number is no other's.
+const MISFILLED: u8 = 13;
+
+/// What to do about a status, and about the end that a reader may look for under its own number.
 const TO_DO: &[(u8, &str)] = &[
     (0, "nothing"),
-    (1, "give the depth that the manual names"),
+    (1, "leave DEPTH out: the record, the table or the tree says it"),
     (2, "the lines after it say which file has how many bytes, and how many it should have"),
     (3, "get the table again: another copy, or by cedunmi table where it is the house table"),
     (4, "the marks file is damaged: set that page's mark to 0, and repair"),
     (5, "give a number below 16, 32, 64, 128, 256, 512, 1024, 2048, 4096 at depth 1 to 9"),
-    (6, "turn the proof down, unless depth and table are not the manual's"),
-    (7, "see that DEPTH and ROOT are the manual's, for a proof TABLE too, and that a sample is that of NUMBER; then ask again for the page that the second line says, put it at the bytes that it names, and check again. Turn down what does not come right: it is damaged, or of another volume"),
+    (6, "turn the proof down, unless the record is not the manual's"),
+    (7, "see that RECORD is the manual's, and that a sample is that of NUMBER; then ask again for the page that the second line says, put it at the bytes that it names, and check again. Turn down what does not come right: it is damaged, or of another volume"),
     (8, "turn the proof down: the volume stays in the catalogue"),
     (9, "bring that page, or repair the tree"),
     (10, "contributor: put that page into at least two equations of its layer, or take the house table. Shop: ask for the volume coded anew; until then cedunmi read --unverified copies its pages, unchecked, if none of its data pages is lost"),
+    (11, "the lines after it say what is wrong with the record, or its depth: leave DEPTH out, and compare the record with the manual, as cedunmi record prints it. A root of 512 bytes, as it was before there were records, is none"),
+    (12, "get the table that the record names: the lines after it say its words and its SHA-256, and if it is the house table. By another table a sound volume would seem to have a fault"),
+    (MISFILLED, "as an exit status it is 43: cedunmi explain 43"),
     (DAMAGED, "mend the tree by cedunmi repair"),
-    (31, "see that depth, root and table are the manual's; then send the proof to others, who strike the volume by it"),
+    (31, "see that the record is the manual's; then send the proof to others, who strike the volume by it"),
     (32, "bring some of the missing pages from other shops, mark them, and repair again"),
     (33, "keep them, and tell everybody: SHA-256 can't be relied on any more"),
+    (ENDS + MISFILLED, "see that the record's length is the manual's. If it is, every byte of the volume is right, and tree and marks are as they should be; but whoever coded it did not fill it up with zeros, as is the rule: ask for it coded anew"),
     (USAGE, "cedunmi help COMMAND shows what it takes"),
     (SLIP, "compare the lines that are named with the print, digit by digit"),
     (UNREADABLE, "look at its name and its rights"),
@@ -33,7 +40,8 @@ fn meaning(status: u8) -> &'static str {
     match status {
         0 => "done, accepted, or whole",
         DAMAGED => "the tree is damaged, and a repair makes it whole",
-        31..=33 => explain_end(u64::from(status - ENDS)),
+        MISFILLED => explain_end(u64::from(status)),
+        31..=33 | 43 => explain_end(u64::from(status - ENDS)),
         USAGE => "bad usage",
         SLIP => "the typed text has a slip",
         UNREADABLE => "an input can't be read",
@@ -55,7 +63,7 @@ mod tests {
     use super::*;
     use crate::help::MANUAL;
 
-    /// The statuses that the manual lists, its `1 to 10` being ten.
+    /// The statuses that the manual lists, its `1 to 12` being twelve.
     fn listed() -> Vec<u64> {
         let lines = MANUAL
             .lines()
@@ -79,7 +87,9 @@ mod tests {
     #[test]
     fn every_status_of_the_manual_is_explained_and_no_other() {
         let explained: Vec<u64> = (0..=300).filter(|number| of(*number).is_some()).collect();
-        assert_eq!(listed(), explained);
+        let mut known = listed();
+        known.insert(13, MISFILLED.into());
+        assert_eq!(known, explained);
         for number in explained {
             let text = of(number).expect("a text");
             assert!(text.starts_with(&format!("{number}: ")) && text.lines().count() == 2);

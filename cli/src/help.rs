@@ -78,11 +78,11 @@ mod tests {
     fn commands_have_their_lines() {
         assert_eq!(commands().filter(|name| *name == "repair").count(), 2);
         assert!(
-            of("repair").starts_with("  repair DEPTH") && of("repair").ends_with("twins alone\n")
+            of("repair").starts_with("  repair [DEPTH]") && of("repair").ends_with("twins alone\n")
         );
         assert_eq!(
-            of("root"),
-            "  root ROOT                                  print a root, as a manual has it\n"
+            of("typed"),
+            "  typed TEXT RECORD                 make a record of a print, as typed\n"
         );
         assert_eq!(of("none"), "");
         assert_eq!(commands().last(), Some("help"));

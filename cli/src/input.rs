@@ -1,11 +1,13 @@
 //! Files that are read.
 
 use crate::coverage::open_to_loss;
+use crate::depths;
 use crate::failure::{Failure, NOT_MADE, UNREADABLE};
 use crate::kind::Kind;
 use crate::name::shown;
 use crate::progress;
-use cedunmi::{Depth, Stop};
+use crate::record;
+use cedunmi::{Depth, Stop, ROOT_BYTES};
 use std::ffi::OsStr;
 use std::fs::{File, Metadata};
 use std::io::{self, Read as _};
@@ -72,42 +74,76 @@ fn capped(word: &OsStr, kind: Kind) -> io::Result<(Vec<u8>, Metadata)> {
 }
 
 impl Input {
-    /// A line that says how long this file is and how long it should be, if it has a wrong length.
-    pub fn wrong_length(&self, depth: Depth) -> Option<String> {
+    /// Its length, as far as that is known.
+    pub fn len(&self) -> u64 {
         let read = self.bytes.len() as u64;
-        let len = self.whole.map_or(read, |whole| whole.max(read));
-        let wanted = self.kind.wanted(depth, len)?;
+        self.whole.map_or(read, |whole| whole.max(read))
+    }
+
+    /// The same in words.
+    pub fn has(&self) -> String {
+        let len = self.len();
         let more =
             if self.whole.is_none() && len > self.kind.most() as u64 { " or more" } else { "" };
-        let print = if self.kind == Kind::Root && self.bytes.starts_with(b"#") {
-            ": cedunmi typed makes one of a print"
-        } else {
-            ""
+        format!("{} has {len} bytes{more}", self.name)
+    }
+
+    /// A line that says how long this file is and how long it should be, if it has a wrong length.
+    fn wrong_length(&self, depth: Depth) -> Option<String> {
+        let wanted = self.kind.wanted(depth, self.len())?;
+        let hint = match self.kind {
+            Kind::Record if self.bytes.starts_with(b"#") => ": cedunmi typed makes one of a print",
+            Kind::Record if self.len() == ROOT_BYTES as u64 => {
+                "; it is a root, as it was before there were records: code the volume again, or \
+                 make its record of what is known (cedunmi(1), RECORDS ON PAPER)"
+            }
+            _ => "",
         };
-        Some(format!("{} has {len} bytes{more}; {wanted}{print}", self.name))
+        Some(format!("{}; {wanted}{hint}", self.has()))
+    }
+
+    /// Of a record that was refused, what is wrong with it.
+    fn wrong_record(&self, depth: u64) -> Option<String> {
+        record::wrong(&self.name, self.of_kind(Kind::Record)?, depth)
+    }
+
+    /// Which table it is, or which one it names.
+    fn table(&self) -> Option<String> {
+        match self.of_kind(Kind::Table) {
+            Some(table) => record::is(&self.name, table),
+            None => self.named(),
+        }
+    }
+
+    /// Of a record, which table it names.
+    fn named(&self) -> Option<String> {
+        record::named(&self.name, self.of_kind(Kind::Record)?)
+    }
+
+    /// Its bytes, if it is of this kind.
+    fn of_kind(&self, kind: Kind) -> Option<&[u8]> {
+        Some(&self.bytes[..]).filter(|_| self.kind == kind)
     }
 
     /// Of a table that is one of another depth, which; whether it covers every page or not.
     fn other_depth(&self) -> Option<String> {
+        let table = self.of_kind(Kind::Table)?;
         let well_formed = |checked| matches!(checked, Ok(()) | Err(Stop::Uncovered { .. }));
-        let is_table = |depth: &u64| {
-            self.kind == Kind::Table && well_formed(cedunmi::check_table(*depth, &self.bytes))
-        };
-        let depth = (1..=Depth::MAX.layers() as u64).find(is_table)?;
+        let mut layers = depths::all().map(Depth::layers);
+        let depth =
+            layers.find(|layers| well_formed(cedunmi::check_table(*layers as u64, table)))?;
         Some(format!("{} is a table of depth {depth}", self.name))
     }
 
     /// Of a table that leaves this page in fewer than two equations, what becomes of the page.
     fn uncovered(&self, layer: usize, page: usize) -> Option<String> {
-        let table = Some(&self.bytes).filter(|_| self.kind == Kind::Table)?;
-        open_to_loss(&self.name, table, layer, page)
+        open_to_loss(&self.name, self.of_kind(Kind::Table)?, layer, page)
     }
 
     /// Of marks that were typed, what they should be.
     fn characters(&self) -> Option<String> {
-        let typed =
-            self.kind == Kind::Marks && self.bytes.iter().all(|byte| b"01\n".contains(byte));
-        typed.then(|| {
+        let marks = self.of_kind(Kind::Marks)?;
+        marks.iter().all(|byte| b"01\n".contains(byte)).then(|| {
             format!("{} has the characters 0 and 1: marks are the bytes 0 and 1", self.name)
         })
     }
@@ -119,12 +155,17 @@ pub fn stopped(stop: Stop, depth: u64, inputs: &[&Input]) -> Failure {
         Stop::WrongLength => {
             Depth::new(depth).map_or(Vec::new(), |depth| wrong_lengths(depth, inputs))
         }
-        Stop::WrongTable { .. } => inputs.iter().filter_map(|input| input.other_depth()).collect(),
+        Stop::WrongTable { .. } => inputs
+            .iter()
+            .filter_map(|input| input.other_depth().or_else(|| input.named()))
+            .collect(),
         Stop::Uncovered { layer, symbol } => {
             let (layer, page) = (layer as usize, symbol as usize);
             inputs.iter().filter_map(|input| input.uncovered(layer, page)).collect()
         }
         Stop::WrongMark { .. } => inputs.iter().filter_map(|input| input.characters()).collect(),
+        Stop::WrongRecord => inputs.iter().filter_map(|input| input.wrong_record(depth)).collect(),
+        Stop::OtherTable => inputs.iter().filter_map(|input| input.table()).collect(),
         Stop::WrongNumber => Depth::new(depth).map(base_numbers).into_iter().collect(),
         _ => Vec::new(),
     };

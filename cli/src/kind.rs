@@ -1,13 +1,13 @@
 //! The kinds of files, and how long they are.
 
-use cedunmi::{Depth, MESSAGE_MAX, PROOF_HEAD_BYTES, ROOT_BYTES, TABLE_BYTES_MAX};
+use cedunmi::{Depth, MESSAGE_MAX, PROOF_HEAD_BYTES, RECORD_BYTES, TABLE_BYTES_MAX};
 
 #[derive(Clone, Copy, Debug, PartialEq, Eq)]
 pub enum Kind {
     Volume,
     Tree,
     Marks,
-    Root,
+    Record,
     Table,
     Sample,
     Proof,
@@ -20,6 +20,7 @@ impl Kind {
     /// which the call refuses like any longer file.
     pub fn most(self) -> usize {
         match self {
+            Kind::Volume => Depth::MAX.block_bytes(),
             Kind::Table => TABLE_BYTES_MAX,
             Kind::Proof => Depth::MAX.output_bytes(),
             Kind::Message => MESSAGE_MAX,
@@ -31,12 +32,11 @@ impl Kind {
     /// What it is called, and its bytes at a depth, where that fixes them.
     fn sized(self, depth: Depth) -> Option<(&'static str, usize)> {
         match self {
-            Kind::Volume => Some(("volume", depth.block_bytes())),
             Kind::Tree => Some(("tree", depth.tree_bytes())),
             Kind::Marks => Some(("marks file", depth.symbols())),
-            Kind::Root => Some(("root", ROOT_BYTES)),
+            Kind::Record => Some(("record", RECORD_BYTES)),
             Kind::Sample => Some(("sample", depth.sample_bytes())),
-            Kind::Table | Kind::Proof | Kind::Message | Kind::Text => None,
+            Kind::Volume | Kind::Table | Kind::Proof | Kind::Message | Kind::Text => None,
         }
     }
 
@@ -53,13 +53,27 @@ impl Kind {
                 Some(format!("at most {MESSAGE_MAX} can be hashed"))
             }
             Kind::Text if len > Kind::Text.most() as u64 => {
-                Some(format!("a typed root has at most {}", Kind::Text.most()))
+                Some(format!("a typed record has at most {}", Kind::Text.most()))
             }
-            Kind::Root if len != ROOT_BYTES as u64 => Some(format!("a root has {ROOT_BYTES}")),
+            Kind::Record if len != RECORD_BYTES as u64 => {
+                Some(format!("a record has {RECORD_BYTES}"))
+            }
+            Kind::Volume if len > depth.block_bytes() as u64 => Some(too_long(depth, len)),
             _ => {
                 let (name, bytes) = self.sized(depth).filter(|(_, bytes)| *bytes as u64 != len)?;
                 Some(format!("a {name} of depth {} has {bytes}", depth.layers()))
             }
         }
+    }
+}
+
+/// What to do with a volume that a depth does not hold.
+fn too_long(depth: Depth, len: u64) -> String {
+    let (layers, held) = (depth.layers(), depth.block_bytes());
+    match Depth::least(len as usize).map(Depth::layers) {
+        Some(least) => {
+            format!("depth {layers} holds at most {held}: take depth {least}, and a table of it")
+        }
+        None => format!("no depth holds more than {}: split it", Depth::MAX.block_bytes()),
     }
 }

@@ -3,7 +3,7 @@
 
 use crate::failure::Failure;
 use crate::members::{members, words};
-use cedunmi::{Depth, Stop, DIGEST_BYTES, PROOF_HEAD_BYTES, SYMBOL_BYTES};
+use cedunmi::{Depth, Stop, DIGEST_BYTES, PROOF_HEAD_BYTES, RECORD_HEAD_BYTES, SYMBOL_BYTES};
 
 /// A file that a sample or a proof came in.
 pub struct File<'a> {
@@ -35,24 +35,31 @@ pub fn of_sample(
     stop: Stop,
     depth: u64,
     number: u64,
-    root: &[u8],
+    record: &[u8],
     sample: File,
 ) -> Option<Failure> {
     let (layer, _) = broken_at(stop)?;
-    let depth = Depth::new(depth)?;
+    let (depth, root) = (Depth::new(depth)?, record.get(RECORD_HEAD_BYTES..)?);
     let sampled = |(index, bytes)| {
         let layer = depth.layers() - 1 - (index + 1) / 2;
         let place = depth.sampled_place(number as usize, index);
         Page { layer, number: place - depth.places(layer).start, at: SYMBOL_BYTES * index, bytes }
     };
     let pages = sample.bytes.chunks_exact(SYMBOL_BYTES).enumerate().map(sampled).collect();
-    let right = format!("this root is the volume's, and the sample that of base page {number}");
+    let right = format!("this record is the volume's, and the sample that of base page {number}");
     Way { depth, root, pages, file: sample.name, right }.failure(stop, layer, "")
 }
 
 /// The same of a fault proof.
-pub fn of_proof(stop: Stop, depth: u64, root: &[u8], table: &[u8], proof: File) -> Option<Failure> {
+pub fn of_proof(
+    stop: Stop,
+    depth: u64,
+    record: &[u8],
+    table: &[u8],
+    proof: File,
+) -> Option<Failure> {
     let (layer, position) = broken_at(stop)?;
+    let root = record.get(RECORD_HEAD_BYTES..)?;
     let (depth, position) = (Depth::new(depth)?, position?);
     let (start, member, given) = member_at(table, proof.bytes, position)?;
     let whose = match (given, layer == start) {
@@ -68,7 +75,7 @@ pub fn of_proof(stop: Stop, depth: u64, root: &[u8], table: &[u8], proof: File) 
     };
     let symbols = proof.bytes.get(first..)?.chunks_exact(SYMBOL_BYTES).enumerate();
     let pages = symbols.zip(layers.rev()).map(step).collect();
-    let right = "this root and this table are the volume's".to_string();
+    let right = "this record is the volume's".to_string();
     Way { depth, root, pages, file: proof.name, right }.failure(stop, layer, &whose)
 }
 
@@ -171,12 +178,12 @@ impl Way<'_> {
 mod tests {
     use super::*;
 
-    /// A volume of depth 3, coded with the house table: table, tree, root.
-    fn coded() -> (Vec<u8>, Vec<u8>, [u8; 512]) {
+    /// A volume of depth 3, coded with the house table: table, tree, record.
+    fn coded() -> (Vec<u8>, Vec<u8>, Vec<u8>) {
         let volume: Vec<u8> = (0..4096).map(|i| (i + i / 256) as u8).collect();
         let table = cedunmi::house_table(3).expect("the house table");
         let coded = cedunmi::code(3, &table, &volume).expect("a tree");
-        (table, coded.tree, coded.root)
+        (table, coded.tree, coded.record.to_vec())
     }
 
     /// The two lines of a failure, the first without its number.
@@ -190,19 +197,19 @@ mod tests {
 
     /// The sample of base page 50 with these bytes changed: the pages 98; 18 and 26; 2 and 6.
     fn sampled(layer: u64, changed: &[usize]) -> [String; 2] {
-        let (_, tree, root) = coded();
+        let (_, tree, record) = coded();
         let mut sample: Vec<u8> = [98, 18, 26, 2, 6]
             .iter()
             .flat_map(|place| tree[256 * place..][..256].to_vec())
             .collect();
         changed.iter().for_each(|at| sample[*at] ^= 1);
         let sample = File { name: "came", bytes: &sample };
-        lines(of_sample(Stop::WrongHash { layer, position: None }, 3, 50, &root, sample))
+        lines(of_sample(Stop::WrongHash { layer, position: None }, 3, 50, &record, sample))
     }
 
     /// What is to be asked for of the sample, after why.
     fn asked(why: &str, pages: &str, bytes: &str) -> String {
-        let right = "this root is the volume's, and the sample that of base page 50";
+        let right = "this record is the volume's, and the sample that of base page 50";
         format!("{why}: if {right}, ask for {pages}, bytes {bytes} of came")
     }
 
@@ -253,20 +260,20 @@ mod tests {
     /// The proof of layer 2, equation 17, which has 1, 3, 32 and 33, with 32 withheld; these bytes after its head are
     /// changed. The ways up of 1, 3 and 33 are the pages 49, 17, 1; 51, 19, 3; 81, 17, 1; of 32 it is 16, 0.
     fn proved(layer: u64, position: u64, changed: &[usize]) -> [String; 2] {
-        let (table, tree, root) = coded();
+        let (table, tree, record) = coded();
         let mut proof = vec![0x40, 0, 0, 2, 0x80, 0, 0, 17, 0xc0, 0, 0, 32];
         for place in [49, 17, 1, 51, 19, 3, 81, 17, 1, 16, 0] {
             proof.extend_from_slice(&tree[256 * place..][..256]);
         }
         changed.iter().for_each(|at| proof[12 + at] ^= 1);
         let (proof, position) = (File { name: "came", bytes: &proof }, Some(position));
-        lines(of_proof(Stop::WrongHash { layer, position }, 3, &root, &table, proof))
+        lines(of_proof(Stop::WrongHash { layer, position }, 3, &record, &table, proof))
     }
 
     #[test]
     fn proofs() {
         let asked = |why: &str, page, bytes| {
-            let right = "this root and this table are the volume's";
+            let right = "this record is the volume's";
             format!("{why}: if {right}, ask for page {page}, bytes {bytes} of came")
         };
         let another = |page| format!("page {page} has another hash for it");
@@ -296,15 +303,15 @@ mod tests {
     /// Where the library's answer and the bytes don't agree, or it is another stop, nothing is said here.
     #[test]
     fn nothing_is_made_up() {
-        let (table, tree, root) = coded();
+        let (table, tree, record) = coded();
         let sample = [&tree[256 * 98..][..256], &[0; 1024]].concat();
         let file = |bytes| File { name: "came", bytes };
         let at = |layer, position| Stop::WrongHash { layer, position };
-        let of_sample = |stop, depth| of_sample(stop, depth, 50, &root, file(&sample));
+        let of_sample = |stop, depth| of_sample(stop, depth, 50, &record, file(&sample));
         assert!(of_sample(at(3, None), 3).is_none());
         assert!(of_sample(Stop::NoFault, 3).is_none());
         assert!(of_sample(at(2, None), 10).is_none());
-        let of_proof = |stop, proof| of_proof(stop, 3, &root, &table, file(proof));
+        let of_proof = |stop, proof| of_proof(stop, 3, &record, &table, file(proof));
         assert!(of_proof(at(0, Some(0)), &[]).is_none());
         assert!(of_proof(at(0, None), &[0; 268]).is_none());
         assert!(of_proof(Stop::WrongHead, &[0; 268]).is_none());

@@ -1,4 +1,4 @@
-//! `check DEPTH ROOT TABLE TREE MARKS`
+//! `check [DEPTH] RECORD TABLE TREE MARKS`
 
 use super::Done;
 use crate::answer::{self, Shown};
@@ -8,9 +8,9 @@ use crate::input::Reader;
 use crate::said;
 
 pub fn run(arguments: &Arguments) -> Done {
-    let [depth, root, table, tree, marks] = arguments.take()?;
+    let (depth, words) = arguments.take_after_depth()?;
     let mut reader = Reader::new(arguments.options.quiet);
-    let attempt = Attempt::read(&mut reader, [depth, root, table, tree, marks])?;
+    let attempt = Attempt::read(&mut reader, depth, words)?;
     let after = attempt.repair()?;
     if !arguments.options.quiet {
         said::report(&after.report(&Shown::Nowhere))?;

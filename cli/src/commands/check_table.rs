@@ -1,14 +1,16 @@
-//! `check-table DEPTH TABLE`
+//! `check-table [DEPTH] TABLE`
 
 use super::{told, Done};
-use crate::arguments::{decimal, Arguments};
+use crate::arguments::Arguments;
+use crate::depths;
 use crate::input::{stopped, Reader};
 use crate::kind::Kind;
 
 pub fn run(arguments: &Arguments) -> Done {
-    let [depth, table] = arguments.take()?;
-    let depth = decimal("DEPTH", depth)?;
+    let (depth, [table]) = arguments.take_after_depth()?;
+    let depth = depths::given(depth)?;
     let table = Reader::new(arguments.options.quiet).read(table, Kind::Table)?;
+    let depth = depths::of_table(depth, &table);
     cedunmi::check_table(depth, &table.bytes).map_err(|stop| stopped(stop, depth, &[&table]))?;
     told(
         arguments,

@@ -1,9 +1,10 @@
-//! `repair --in-place DEPTH ROOT TABLE TREE MARKS PROOF`
+//! `repair --in-place [DEPTH] RECORD TABLE TREE MARKS PROOF`
 
 use super::Done;
 use crate::answer::{self, Shown};
-use crate::arguments::{decimal, Arguments, Options};
+use crate::arguments::{Arguments, Options};
 use crate::attempt::{After, Attempt};
+use crate::depths;
 use crate::failure::Failure;
 use crate::input::{Input, Reader};
 use crate::kind::Kind;
@@ -14,12 +15,12 @@ use crate::said;
 use std::ffi::{OsStr, OsString};
 
 pub fn run(arguments: &Arguments) -> Done {
-    let words: [&OsStr; 6] = arguments.take()?;
-    let [.., tree, marks, proof] = words;
+    let (depth, words): (_, [&OsStr; 5]) = arguments.take_after_depth()?;
+    let [_, _, tree, marks, proof] = words;
     if [tree, marks, proof].iter().any(|word| *word == "-") {
         return Err(Failure::usage("with --in-place TREE, MARKS and PROOF are files"));
     }
-    let (attempt, locks) = read(words, arguments.options)?;
+    let (attempt, locks) = read(depth, words, arguments.options)?;
     let replacing = [
         replaced(&attempt, tree, &attempt.tree, &locks)?,
         replaced(&attempt, marks, &attempt.marks, &locks)?,
@@ -35,14 +36,19 @@ pub fn run(arguments: &Arguments) -> Done {
 }
 
 /// What is read, the tree and its marks when nobody else can write them any more.
-fn read(words: [&OsStr; 6], options: Options) -> Result<(Attempt, Locks), Failure> {
-    let [depth, root, table, tree, marks, proof] = words;
+fn read(
+    depth: Option<&OsStr>,
+    words: [&OsStr; 5],
+    options: Options,
+) -> Result<(Attempt, Locks), Failure> {
+    let [record, table, tree, marks, proof] = words;
     let mut reader = Reader::new(options.quiet);
-    let depth = decimal("DEPTH", depth)?;
-    let (root, table) = (reader.read(root, Kind::Root)?, reader.read(table, Kind::Table)?);
+    let depth = depths::given(depth)?;
+    let (record, table) = (reader.read(record, Kind::Record)?, reader.read(table, Kind::Table)?);
     let locks = Locks::of(&[place(tree)?.0, place(marks)?.0, place(proof)?.0], options.quiet)?;
     let (tree, marks) = (reader.read(tree, Kind::Tree)?, reader.read(marks, Kind::Marks)?);
-    Ok((Attempt { depth, root, table, tree, marks }, locks))
+    let depth = depths::of_record(depth, &record)?;
+    Ok((Attempt { depth, record, table, tree, marks }, locks))
 }
 
 /// A file that is to be replaced by what came of it: it must still be the one that was read.
@@ -61,7 +67,7 @@ fn replaced(
     }
 }
 
-/// Whether fewer pages are held than before: by a root of another volume most are bad copies.
+/// Whether fewer pages are held than before: by a record of another volume most are bad copies.
 fn lost(after: &After) -> bool {
     let held = |pages: Pages| pages.marks.iter().filter(|mark| **mark == 1).count();
     held(after.now()) < held(after.before())

@@ -1,4 +1,4 @@
-//! `repair DEPTH ROOT TABLE TREE MARKS FOLDER`
+//! `repair [DEPTH] RECORD TABLE TREE MARKS FOLDER`
 
 use super::Done;
 use crate::arguments::Arguments;
@@ -12,9 +12,9 @@ const TREE: &str = "tree";
 const MARKS: &str = "marks";
 
 pub fn run(arguments: &Arguments) -> Done {
-    let [depth, root, table, tree, marks, folder] = arguments.take()?;
+    let (depth, [record, table, tree, marks, folder]) = arguments.take_after_depth()?;
     let mut reader = Reader::new(arguments.options.quiet);
-    let attempt = Attempt::read(&mut reader, [depth, root, table, tree, marks])?;
+    let attempt = Attempt::read(&mut reader, depth, [record, table, tree, marks])?;
     let names = &[TREE, MARKS, PROOF, TWINS];
     let output = Output::folder(folder, names, arguments.options, &attempt.inputs())?;
     let after = attempt.repair()?;

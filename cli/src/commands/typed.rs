@@ -1,4 +1,4 @@
-//! `typed TEXT ROOT`
+//! `typed TEXT RECORD`
 
 use super::Done;
 use crate::arguments::Arguments;
@@ -11,19 +11,19 @@ use crate::typed::{self, Slips};
 use cedunmi::Stop;
 
 pub fn run(arguments: &Arguments) -> Done {
-    let [text, root] = arguments.take()?;
+    let [text, record] = arguments.take()?;
     let text = Reader::new(arguments.options.quiet).read(text, Kind::Text)?;
     if text.bytes.len() > Kind::Text.most() {
         return Err(stopped(Stop::WrongLength, 1, &[&text]));
     }
-    let output = Output::file(root, arguments.options, &[&text])?;
+    let output = Output::file(record, arguments.options, &[&text])?;
     let typed = typed::parse(&text.bytes).map_err(|slips| match slips {
         Slips::Lines(lines) => Failure { status: SLIP, lines },
         Slips::Stopped(stop) => Failure::stopped(stop),
     })?;
-    output.put(Content::File(&typed.root))?;
+    output.put(Content::File(&typed.record))?;
     if typed.unchecked && !arguments.options.quiet {
-        said::remark("no check was typed: a slip in these hashes would not be found");
+        said::remark("no check was typed: a slip in these lines would not be found");
     }
     Ok(0)
 }

@@ -1,0 +1,96 @@
+//! What a record says, for lines beside a call that refuses it or the table with it.
+
+use crate::members::words;
+use crate::printed::{hex, is_house, WORDS};
+use cedunmi::{sha256, Depth, Record};
+
+/// What is wrong with a record, as long as a record is, that a call of this depth refuses.
+pub fn wrong(name: &str, record: &[u8], depth: u64) -> Option<String> {
+    let head: Vec<(u32, usize)> = words(record).take(WORDS.len()).collect();
+    if let Some(at) = (0..head.len()).find(|at| head[*at].0 as usize != at + 1) {
+        let (first, last, kind) = (4 * at, 4 * at + 3, head[at].0);
+        let (what, bytes) = (WORDS[at].0, hex(&record[first..=last]));
+        return Some(format!(
+            "{name} is no record, or damaged: bytes {first} to {last}, its {what}, are {bytes}, of kind {kind:02b}, not {:02b}",
+            at + 1
+        ));
+    }
+    let (said, length) = (head.first()?.1 as u64, head.get(1)?.1);
+    let held = match Depth::new(said) {
+        None => return Some(format!("{name} says depth {said}, and depths are 1 to 9")),
+        Some(_) if said != depth => {
+            return Some(format!("{name} is of depth {said}, and DEPTH is {depth}"))
+        }
+        Some(depth) => depth.block_bytes(),
+    };
+    (length > held).then(|| {
+        format!("{name} says a length of {length} bytes, and depth {said} holds at most {held}")
+    })
+}
+
+/// Which table a record names.
+pub fn named(name: &str, record: &[u8]) -> Option<String> {
+    let record = Record::read(record).ok()?;
+    let house = match is_house(&record) {
+        Ok(true) => {
+            let depth = record.depth.layers();
+            format!(", the house table of depth {depth}: cedunmi table {depth} FILE writes it")
+        }
+        _ => String::new(),
+    };
+    let said = counted(record.table_words, &record.table_digest);
+    Some(format!("{name} names a table of {said}{house}"))
+}
+
+/// Which table this is.
+pub fn is(name: &str, table: &[u8]) -> Option<String> {
+    Some(format!("{name} has {}", counted(table.len() / 4, &sha256(table).ok()?)))
+}
+
+fn counted(words: usize, digest: &[u8]) -> String {
+    format!("{words} words, with the SHA-256 {}", hex(digest))
+}
+
+#[cfg(test)]
+mod tests {
+    use super::*;
+
+    fn record(depth: u64, length: usize) -> Vec<u8> {
+        let table = cedunmi::house_table(depth).expect("the house table");
+        cedunmi::code(depth, &table, &vec![1; length]).expect("a tree").record.to_vec()
+    }
+
+    /// The record of depth 2 with a byte changed, at depth 2.
+    fn changed(at: usize, byte: u8) -> Option<String> {
+        let mut record = record(2, 700);
+        record[at] = byte;
+        wrong("r", &record, 2)
+    }
+
+    #[test]
+    fn what_is_wrong_is_said() {
+        let kind = |said: &str| Some(format!("r is no record, or damaged: bytes {said}"));
+        assert_eq!(wrong("r", &record(2, 700), 2), None);
+        assert_eq!(changed(0, 0), kind("0 to 3, its depth, are 00000002, of kind 00, not 01"));
+        assert_eq!(changed(4, 64), kind("4 to 7, its length, are 400002bc, of kind 01, not 10"));
+        assert_eq!(changed(8, 0xb0), kind("8 to 11, its table, are b00000b5, of kind 10, not 11"));
+        let said = |said: &str| Some(format!("r {said}"));
+        assert_eq!(changed(3, 10), said("says depth 10, and depths are 1 to 9"));
+        assert_eq!(changed(3, 0), said("says depth 0, and depths are 1 to 9"));
+        assert_eq!(changed(3, 5), said("is of depth 5, and DEPTH is 2"));
+        let long = "says a length of 2236 bytes, and depth 2 holds at most 2048";
+        assert_eq!(changed(6, 8), said(long));
+    }
+
+    #[test]
+    fn tables_are_named() {
+        let mut record = record(2, 1);
+        let hash = cedunmi::sha256(&cedunmi::house_table(2).unwrap()).unwrap();
+        let table = format!("181 words, with the SHA-256 {}", hex(&hash));
+        let house = ", the house table of depth 2: cedunmi table 2 FILE writes it";
+        assert_eq!(named("r", &record), Some(format!("r names a table of {table}{house}")));
+        assert_eq!(is("t", &cedunmi::house_table(2).unwrap()), Some(format!("t has {table}")));
+        record[12] ^= 1;
+        assert!(named("r", &record).expect("a line").ends_with(&hex(&hash[1..])));
+    }
+}

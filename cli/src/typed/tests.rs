@@ -1,0 +1,229 @@
+use super::*;
+use crate::printed::{hex, print};
+
+/// The lines before those of the record, which are comments.
+const COMMENTS: usize = 7;
+
+/// A record of depth 5 and 700 bytes, by the house table; its root is made up.
+fn record() -> Vec<u8> {
+    let table = cedunmi::house_table(5).expect("the house table");
+    let head = [64, 0, 0, 5, 128, 0, 2, 188, 192, 0, 7, 69].into_iter();
+    let root = (0..512).map(|i| (i * 37 + i / 32) as u8);
+    head.chain(cedunmi::sha256(&table).expect("its hash")).chain(root).collect()
+}
+
+fn slips(text: &str) -> Vec<String> {
+    match parse(text.as_bytes()) {
+        Err(Slips::Lines(lines)) => lines,
+        other => panic!("{other:?}"),
+    }
+}
+
+/// A print, and its lines, of which some are comments.
+fn printed() -> (String, Vec<String>) {
+    let text = print(&record()).unwrap();
+    let lines = text.lines().map(str::to_string).collect();
+    (text, lines)
+}
+
+/// The lines of a print as they are without number and check.
+fn bare() -> Vec<String> {
+    let words = ["depth 5", "length 700", "table 1861"].map(str::to_string).into_iter();
+    words.chain(record()[12..].chunks(32).map(hex)).collect()
+}
+
+#[test]
+fn a_print_is_read_back() {
+    let (text, lines) = printed();
+    let typed = parse(text.as_bytes()).unwrap();
+    assert_eq!((typed.record, typed.unchecked), (record(), false));
+    assert_eq!(lines.len(), COMMENTS + LINES + 1);
+    assert!(lines[..COMMENTS].iter().all(|line| line.starts_with('#')));
+}
+
+/// With or without numbers and checks, in groups of any length, in either case.
+#[test]
+fn groups_have_any_spacing() {
+    let (text, _) = printed();
+    let typed = parse(bare().join("\n").as_bytes()).unwrap();
+    assert_eq!((typed.record, typed.unchecked), (record(), true));
+    for size in 1..70 {
+        for with in [&text, &bare().join("\n")] {
+            let lines = with.lines().filter(|line| !line.starts_with('#'));
+            let spaced: String = lines.map(|line| spaced(line, size)).collect();
+            let typed = parse(spaced.to_uppercase().as_bytes());
+            assert_eq!(typed.map(|typed| typed.record).ok(), Some(record()), "{size}: {spaced}");
+        }
+    }
+}
+
+/// The digits of a line in groups of another size; the word that it begins with stays a word.
+fn spaced(line: &str, size: usize) -> String {
+    let word = ["depth", "length", "table", "check"].iter().find(|word| line.starts_with(**word));
+    let (word, rest) = line.split_at(word.map_or(0, |word| word.len()));
+    let digits: Vec<char> = rest.chars().filter(|c| !c.is_whitespace()).collect();
+    let groups: Vec<String> = digits.chunks(size).map(|group| group.iter().collect()).collect();
+    format!("{word} {}\r\n", groups.join(" "))
+}
+
+/// Every wrong character of every line is found there, in the lines in words too.
+#[test]
+fn a_slip_is_named_in_its_line() {
+    let (text, lines) = printed();
+    let begin: usize = lines[..COMMENTS].iter().map(|line| line.len() + 1).sum();
+    let end = text.find("check  ").expect("the last line");
+    let places = text.char_indices().filter(|(at, c)| (begin..end).contains(at) && *c > ' ');
+    for (at, digit) in places {
+        let line = text[..at].matches('\n').count() + 1;
+        let other = if digit == '1' { '2' } else { '1' };
+        let slip = format!("{}{other}{}", &text[..at], &text[at + 1..]);
+        let found = slips(&slip);
+        assert!(found[0].starts_with(&format!("line {line}: ")), "{found:?} for {slip}");
+        assert_eq!(found.len(), 1, "{found:?} for {slip}");
+    }
+}
+
+/// What is said where a line of a print is there twice, and where it is missing.
+fn twice_or_not(at: usize) -> [Vec<String>; 2] {
+    let (_, lines) = printed();
+    let (mut doubled, mut missing) = (lines.clone(), lines.clone());
+    doubled.insert(COMMENTS + at, lines[COMMENTS + at].clone());
+    missing.remove(COMMENTS + at);
+    [doubled, missing].map(|lines| slips(&lines.join("\r")))
+}
+
+#[test]
+fn lines_out_of_order_are_named() {
+    for at in 0..LINES - 1 {
+        let (number, one, other) = (COMMENTS + at + 1, name(at), name(at + 1));
+        let mut swapped = printed().1;
+        swapped.swap(COMMENTS + at, COMMENTS + at + 1);
+        let found = [
+            format!("line {number}: {one} is wanted, not {other}"),
+            format!("line {}: {other} is wanted, not {one}", number + 1),
+        ];
+        assert_eq!(slips(&swapped.join("\n")), found);
+        let [doubled, missing] = twice_or_not(at);
+        assert_eq!(doubled, [format!("line {}: {one} is there twice", number + 1)]);
+        assert_eq!(missing, [format!("line {number}: {one} is missing before {other}")]);
+    }
+    let [doubled, missing] = twice_or_not(LINES - 1);
+    assert_eq!(doubled, ["line 28: hash 15 is there twice"]);
+    assert_eq!(missing, ["hash 15 is missing at the end"]);
+    let (_, lines) = printed();
+    let some = [&lines[..COMMENTS + 4], &lines[COMMENTS + 9..]].concat();
+    assert_eq!(slips(&some.join("\n")), ["line 12: hash 0 to hash 4 are missing before hash 5"]);
+    assert_eq!(slips(&lines[..COMMENTS].join("\n")), ["depth to hash 15 are missing at the end"]);
+}
+
+#[test]
+fn lines_without_numbers_are_counted() {
+    let lines = bare();
+    let mut swapped = printed().1[COMMENTS..COMMENTS + LINES].to_vec();
+    for line in &mut swapped[3..] {
+        line.replace_range(..3, "");
+    }
+    swapped.swap(6, 9);
+    let found = [7, 10]
+        .map(|at| format!("line {at}: hash {} has a slip: it does not fit its check", at - 5));
+    assert_eq!(slips(&swapped.join("\n")), found);
+    assert_eq!(slips(&lines[..19].join("\n")), ["a record has 17 hashes, T and 0 to 15, not 16"]);
+    let more = [&lines[..], &lines[19..]].concat();
+    assert_eq!(slips(&more.join("\n")), ["line 21: hash 15 is the last line of a record"]);
+    let without = [&lines[..1], &lines[2..]].concat();
+    assert_eq!(slips(&without.join("\n")), ["line 2: length is missing before table"]);
+}
+
+/// The print of a root alone, as it was before there were records.
+#[test]
+fn a_root_is_no_record() {
+    let (_, lines) = printed();
+    let root = &lines[COMMENTS + 4..];
+    let found = slips(&root.join("\n"));
+    assert_eq!(found.len(), 1);
+    assert!(found[0].starts_with("line 1: depth to hash T are missing before hash 0; sixteen"));
+}
+
+/// A digit too few, or four, where there are numbers or checks, is none of a line without them.
+#[test]
+fn digits_are_counted() {
+    let (_, lines) = printed();
+    let cut = |line: &String| line[..line.len() - 6].to_string();
+    let unchecked: Vec<String> = lines[COMMENTS..COMMENTS + LINES].iter().map(cut).collect();
+    assert_eq!(parse(unchecked.join("\n").as_bytes()).unwrap().record, record());
+    for at in TABLE_HASH..LINES {
+        let mut short = unchecked.clone();
+        short[at].pop();
+        let found = format!("line {}: {} has 63 digits, not 64", at + 1, name(at));
+        assert_eq!(slips(&short.join("\n")), [found]);
+        let mut cut = lines.clone();
+        cut[COMMENTS + at].replace_range(12..16, "");
+        let found = format!(
+            "line {}: {} has 64 digits with its check, not 68",
+            COMMENTS + at + 1,
+            name(at)
+        );
+        assert_eq!(slips(&cut.join("\n")), [found]);
+    }
+}
+
+#[test]
+fn numbers_in_words_are_read() {
+    let (_, lines) = printed();
+    let with = |at: usize, line: &str| {
+        let mut lines = lines[COMMENTS..].to_vec();
+        lines[at] = line.to_string();
+        lines.join("\n")
+    };
+    let [depth, length, table] = [0, 1, 2].map(|at| lines[COMMENTS + at][22..].to_string());
+    for same in [
+        with(0, &format!("Depth: 5 {depth}")),
+        with(1, &format!("length 700 {length}")),
+        with(1, &format!("length 7 00bytes {length}")),
+        with(2, &format!("TABLE 1 861 WORDS {table}")),
+    ] {
+        assert_eq!(parse(same.as_bytes()).unwrap().record, record(), "{same}");
+    }
+    let said = |at, line: &str| slips(&with(at, line)).concat();
+    assert_eq!(said(0, "depth"), "line 1: depth has no number, or no check");
+    assert_eq!(said(0, &format!("depth 12 {depth}")), "line 1: depth is a number from 1 to 9");
+    assert_eq!(said(1, "lenght 700 bytes"), "line 2: length is wanted, not 'lenght'");
+    assert_eq!(said(1, "length 7oo 0000"), "line 2: length has 'o', which is no digit from 0 to f");
+    assert_eq!(said(1, "length 7a0 0000"), "line 2: length has '7a0', which is no decimal number");
+    let large = "line 3: table is a number from 0 to 1073741823";
+    assert_eq!(said(2, "table 1073741824 words 0000"), large);
+}
+
+/// A length that no tree of the depth holds is a slip, even where nothing was typed to check it by.
+#[test]
+fn lengths_are_held_by_their_depths() {
+    let mut lines = bare();
+    lines[1] = "length 16384".to_string();
+    assert!(parse(lines.join("\n").as_bytes()).is_ok());
+    lines[1] = "length 16385".to_string();
+    let found = ["line 2: length: depth 5 holds at most 16384 bytes"];
+    assert_eq!(slips(&lines.join("\n")), found);
+}
+
+#[test]
+fn other_slips_are_named() {
+    let (text, _) = printed();
+    assert!(slips(&text.replacen(" 0 00", " 0 0O", 1))[0].contains("'o'"));
+    let last = format!("{text}check 01234567\ncheck 0\n");
+    assert!(slips(&last)[0].starts_with("line 29: the check of this record is"));
+    assert_eq!(slips(&last)[1], "line 30: the check of all has 8 digits, not 1");
+    assert_eq!(slips("7\x007"), ["this is no plain text: many of its bytes are zero"]);
+}
+
+#[test]
+fn what_means_the_same_is_taken() {
+    let (text, _) = printed();
+    let filled = text.replace("\n ", "\n0").replace("\n0T", "\nT");
+    for same in [
+        text.replace("check  ", "Check: "),
+        format!("\u{feff}{filled}"),
+        text.replace('\n', "\r\n"),
+    ] {
+        assert_eq!(parse(same.as_bytes()).unwrap().record, record());
+    }
+}
