@@ -104,7 +104,7 @@ fn comments(record: &Record) -> Result<String, Stop> {
 "
         ),
         false => "\
-# Its table is not the house table: nothing can be repaired without a copy of it.
+# Its table is not the house table: without a copy of it nothing is repaired.
 "
         .to_string(),
     };

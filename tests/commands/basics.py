@@ -8,8 +8,9 @@ import by_hand
 from by_hand import DEPTHS
 from room import Coded, contents, need, put, slurp, table_leaving, volume_of
 
-STATUSES = [0, 1, 2, 3, 4, 5, 6, 7, 8, 9, 10, 30, 31, 32, 33, 64, 65, 66, 70, 73, 74]
-COMMANDS = ["table", "check-table", "code", "root", "typed", "sample", "check-sample", "check",
+STATUSES = [0, 1, 2, 3, 4, 5, 6, 7, 8, 9, 10, 11, 12, 30, 31, 32, 33, 43, 64, 65, 66, 70, 73, 74]
+MISFILLED = 13      # the end of a repair, explained as its status 43 is
+COMMANDS = ["table", "check-table", "code", "record", "typed", "sample", "check-sample", "check",
             "repair", "check-proof", "read", "explain", "sha256", "help"]
 
 
@@ -25,7 +26,8 @@ def test_every_depth(room):
         folder = "coded%d" % depth
         room.works("code", depth, "t%d" % depth, "volume", folder)
         need(contents(folder) == coded.files(), "what code wrote at depth", depth)
-        for options in ([depth, folder + "/root", "t%d" % depth], ["--unverified", depth]):
+        for options in ([depth, folder + "/record", "t%d" % depth],
+                        ["--unverified", depth, folder + "/record"]):
             room.works("read", *options, folder + "/tree", folder + "/marks", "back")
             need(slurp("back") == coded.volume, "the volume read at depth", depth)
             os.remove("back")
@@ -40,9 +42,9 @@ def test_samples(room):
             name = "sample%d" % number
             room.works("sample", depth, number, "tree", "marks", name)
             need(slurp(name) == by_hand.sample(depth, number, coded.tree), "sample", number)
-            room.ends(0, "check-sample", depth, number, "root", name).prints(
+            room.ends(0, "check-sample", depth, number, "record", name).prints(
                 "accepted: every hash leads to the root\n")
-            room.refused(7, "check-sample", depth, (number + 1) % (last + 1), "root", name)
+            room.refused(7, "check-sample", depth, (number + 1) % (last + 1), "record", name)
             os.remove(name)
 
 
@@ -54,7 +56,7 @@ def test_other_tables(room):
     room.ends(0, "check-table", 2, "table")
     room.works("code", 2, "table", "volume", "coded")
     need(contents("coded") == coded.files(), "a volume coded by another table")
-    room.works("read", 2, "root", "table", "tree", "marks", "back")
+    room.works("read", 2, "record", "table", "tree", "marks", "back")
     need(slurp("back") == coded.volume, "a volume read by another table")
 
 
@@ -89,11 +91,11 @@ def test_uncovered_everywhere(room):
     put("marked", b"\2" + coded.marks[1:])
     put("proof", bytes(12))
     for words in (("check-table", 2, "thin"), ("code", 2, "thin", "volume", "none"),
-                  ("check", 2, "root", "thin", "tree", "marked"),
-                  ("repair", 2, "root", "thin", "tree", "marked", "none"),
-                  ("repair", "--in-place", 2, "root", "thin", "tree", "marked", "none"),
-                  ("read", 2, "root", "thin", "tree", "marked", "none"),
-                  ("check-proof", 2, "root", "thin", "proof")):
+                  ("check", 2, "record", "thin", "tree", "marked"),
+                  ("repair", 2, "record", "thin", "tree", "marked", "none"),
+                  ("repair", "--in-place", 2, "record", "thin", "tree", "marked", "none"),
+                  ("read", 2, "record", "thin", "tree", "marked", "none"),
+                  ("check-proof", 2, "record", "thin", "proof")):
         said = room.refused(10, *words).says(
             "cedunmi: a data page stands in fewer than two equations of its layer: "
             "page 5 of layer 1, counted in that layer, is the first such (number 10: cedunmi explain 10)\n")
@@ -101,13 +103,15 @@ def test_uncovered_everywhere(room):
         short = tuple("short" if word == "thin" else word for word in words)
         room.refused(3, *short).says("word 180 ")
     room.refused(3, "check-table", 3, "thin").says("thin is a table of depth 2\n")
-    room.refused(2, "code", 2, "thin", "thin", "none")
+    put("long", bytes(2049))
+    room.refused(2, "code", 2, "thin", "long", "none")
 
 
 def test_numbers(room):
     """Each number that stops a call is the exit status, and nothing is written."""
     coded = Coded(1).lay()
     put("two", volume_of(2))
+    put("deep", Coded(6).record)
     put("bad", coded.table[:7] + b"\7" + coded.table[8:])
     put("marked", coded.marks[:3] + b"\2" + coded.marks[4:])
     put("lost", coded.marks[:3] + b"\0" + coded.marks[4:])
@@ -118,33 +122,33 @@ def test_numbers(room):
             (1, "depth", ("table", 4294967297, "none")), (1, "depth", ("table", 1000, "none")),
             (1, "depth is not 1 to 9", ("table", 4294967305, "none")),
             (1, "depth", ("code", 10, "table", "volume", "none")),
-            (1, "depth", ("check", 10, "root", "table", *tree)),
-            (1, "depth", ("repair", 10, "root", "table", *tree, "none")),
-            (1, "depth", ("read", 10, "root", "table", *tree, "none")),
-            (1, "depth", ("read", "--unverified", 10, *tree, "none")),
+            (1, "depth", ("check", 10, "record", "table", *tree)),
+            (1, "depth", ("repair", 10, "record", "table", *tree, "none")),
+            (1, "depth", ("read", 10, "record", "table", *tree, "none")),
+            (1, "depth", ("read", "--unverified", 10, "record", *tree, "none")),
             (1, "depth", ("sample", 10, 3, *tree, "none")),
-            (1, "depth", ("check-sample", 10, 3, "root", "sample")),
-            (1, "depth", ("check-proof", 10, "root", "table", "volume")),
+            (1, "depth", ("check-sample", 10, 3, "record", "sample")),
+            (1, "depth", ("check-proof", 10, "record", "table", "volume")),
             (1, "depth", ("check-table", 10, "table")),
-            (2, "a tree of depth 6 has 258048\n", ("check", 6, "root", "table", *tree)),
-            (2, "a volume of depth 9 has 262144\n", ("code", 9, "table", "volume", "none")),
+            (2, "a tree of depth 1 has 4096\n", ("check", 1, "record", "table", "two", "marks")),
+            (2, "a sample of depth 6 has 2816\n", ("check-sample", 6, 0, "deep", "sample")),
             (3, "word 1 ", ("code", 1, "bad", "volume", "none")),
             (3, "word 1 ", ("check-table", 1, "bad")), (3, "", ("check-table", 2, "table")),
-            (3, "word 1 ", ("check", 1, "root", "bad", *tree)),
-            (3, "word 1 ", ("repair", 1, "root", "bad", *tree, "none")),
-            (4, "3", ("repair", 1, "root", "table", "tree", "marked", "none")),
-            (4, "3", ("check", 1, "root", "table", "tree", "marked")),
-            (4, "3", ("read", 1, "root", "table", "tree", "marked", "none")),
-            (4, "3", ("read", "--unverified", 1, "tree", "marked", "none")),
+            (3, "word 1 ", ("check", 1, "record", "bad", *tree)),
+            (3, "word 1 ", ("repair", 1, "record", "bad", *tree, "none")),
+            (4, "3", ("repair", 1, "record", "table", "tree", "marked", "none")),
+            (4, "3", ("check", 1, "record", "table", "tree", "marked")),
+            (4, "3", ("read", 1, "record", "table", "tree", "marked", "none")),
+            (4, "3", ("read", "--unverified", 1, "record", "tree", "marked", "none")),
             (4, "3", ("sample", 1, 0, "tree", "marked", "none")),
             (5, "numbers 0 to 15\n", ("sample", 1, 16, *tree, "none")),
             (5, "", ("sample", 1, 4294967296, *tree, "none")),
-            (5, "", ("check-sample", 1, 16, "root", "sample")),
-            (7, "", ("check-sample", 1, 4, "root", "sample")),
-            (9, "page 3", ("read", "--unverified", 1, "tree", "lost", "none")),
+            (5, "", ("check-sample", 1, 16, "record", "sample")),
+            (7, "", ("check-sample", 1, 4, "record", "sample")),
+            (9, "page 3", ("read", "--unverified", 1, "record", "tree", "lost", "none")),
             (9, "page 3", ("sample", 1, 3, "tree", "lost", "none"))]:
         room.refused(status, *words).says(said)
-    room.works("read", "--unverified", 1, "harmed", "marks", "unverified")
+    room.works("read", "--unverified", 1, "record", "harmed", "marks", "unverified")
     need(slurp("unverified")[900] == ord("x"), "read --unverified looks at hashes")
 
 
@@ -152,66 +156,77 @@ def test_lengths(room):
     """Of each file with the wrong length a line says the length that it has, and should have."""
     Coded(2).lay()
     put("short", bytes(1024))
-    room.refused(2, "code", 2, "table", "short", "none").says(
-        "cedunmi: short has 1024 bytes; a volume of depth 2 has 2048\n")
-    room.refused(2, "read", 2, "root", "table", "short", "marks", "none").says(
+    put("long", bytes(2049))
+    room.refused(2, "code", 2, "table", "long", "none").says(
+        "cedunmi: long has 2049 bytes; depth 2 holds at most 2048: take depth 3, and a table of it\n")
+    room.refused(2, "read", 2, "record", "table", "short", "marks", "none").says(
         "cedunmi: short has 1024 bytes; a tree of depth 2 has 12288\n")
     put("other", bytes(7))
     said = room.refused(2, "check", 2, "other", "table", "short", "other")
-    said.says("cedunmi: other has 7 bytes; a root has 512\n")
+    said.says("cedunmi: other has 7 bytes; a record has 556\n")
     said.says("cedunmi: short has 1024 bytes; a tree of depth 2 has 12288\n")
     need(b"depth 2 has 48\n" in said.err and said.err.count(b"\n") == 4, str(said))
-    for words in (("check-sample", 2, 3, "root", "other"), ("root", "other"),
+    for words in (("check-sample", 2, 3, "record", "other"), ("record", "other"),
                   ("check-table", 2, "other"), ("sample", 2, 3, "other", "marks", "none"),
                   ("sample", 2, 3, "tree", "other", "none"),
-                  ("read", "--unverified", 2, "tree", "other", "none"),
-                  ("repair", 2, "root", "other", "tree", "marks", "none"),
-                  ("check-proof", 2, "root", "table", "other"),
+                  ("read", "--unverified", 2, "record", "tree", "other", "none"),
+                  ("repair", 2, "record", "other", "tree", "marks", "none"),
+                  ("check-proof", 2, "record", "table", "other"),
                   ("check-proof", 2, "other", "table", "sample")):
         room.refused(2, *words).says("cedunmi: other has 7 bytes; ")
     put("empty", b"")
-    room.refused(2, "code", 2, "table", "empty", "none").says("cedunmi: empty has 0 bytes; ")
+    room.refused(2, "check-sample", 2, 3, "record", "empty").says("cedunmi: empty has 0 bytes; ")
 
 
 def test_proofs(room):
-    """A fault proof is accepted for its root and table alone; each way to spoil it has a number."""
+    """A fault proof is accepted for its record and table alone; each way to spoil it has a number."""
     for depth in DEPTHS:
         wrong = Coded(depth, 4).wrong_seven().lay()
         proof = wrong.repair().proof
         put("proof", proof)
-        room.ends(0, "check-proof", depth, "root", "table", "proof").prints(
-            "accepted: the volume with this root was not coded as this table says\n")
+        room.ends(0, "check-proof", depth, "record", "table", "proof").prints(
+            "accepted: the volume with this record was not coded as this table says\n")
         put("spoiled", proof[:300] + bytes([proof[300] ^ 1]) + proof[301:])
-        room.refused(7, "check-proof", depth, "root", "table", "spoiled")
+        room.refused(7, "check-proof", depth, "record", "table", "spoiled")
         put("head", proof[:11] + b"\2" + proof[12:])
         put("kind", b"\0" + proof[1:])
-        room.refused(6, "check-proof", depth, "root", "table", "head")
-        room.refused(6, "check-proof", depth, "root", "table", "kind")
+        room.refused(6, "check-proof", depth, "record", "table", "head")
+        room.refused(6, "check-proof", depth, "record", "table", "kind")
         put("long", proof + b"\0")
-        room.refused(2, "check-proof", depth, "root", "table", "long").says(
+        room.refused(2, "check-proof", depth, "record", "table", "long").says(
             "cedunmi: long has %d bytes; " % (len(proof) + 1))
         right = Coded(depth, 4)
-        put("right", right.root)
+        put("right", right.record)
         room.refused((7, 8), "check-proof", depth, "right", "table", "proof")
     right.lay()
     members = [right.tree[256 * i:256 * i + 256] for i in (0, 1)]
     put("none", struct.pack(">3I", 1 << 30, 2 << 30, 3 << 30 | 4) + b"".join(members))
-    room.refused(8, "check-proof", depth, "root", "table", "none")
+    room.refused(8, "check-proof", depth, "record", "table", "none")
 
 
 def test_usage(room):
     """What is no command, or has other arguments or options than it takes, is bad usage."""
     Coded(1).lay()
-    whole = ("root", "table", "tree", "marks")
+    whole = ("record", "table", "tree", "marks")
     for words in [(), ("nothing",), ("help", "nothing"), ("table", 1), ("table", 1, "a", "b"),
                   ("table", "one", "none"), ("table", "", "none"), ("table", "+1", "none"),
                   ("table", "1 ", "none"), ("table", "0x1", "none"),
-                  ("code", 1, "table", "volume"), ("sample", 1, "", "tree", "marks", "none"),
+                  ("code", "table", "volume"), ("code", 1, 1, "table", "volume", "none"),
+                  ("code", "one", "table", "volume", "none"), ("table", "none"),
+                  ("table", "--for", "none"), ("table", "--for", 1, "volume", "none"),
+                  ("code", "--for", "table", "volume", "none"), ("check-table",),
+                  ("check-table", 1, 1, "table"), ("check-table", "one", "table"),
+                  ("sample", 1, "", "tree", "marks", "none"), ("sample", 3, "tree", "marks"),
+                  ("sample", "tree", "marks", "none", "none"), ("record", 1, "record"),
+                  ("check-proof", "record", "table"), ("check-sample", "record", "sample"),
                   ("sample", 1, "1.5", "tree", "marks", "none"), ("sample", 1, "--", "-1", "tree"),
-                  ("check-sample", 1, "one", "root", "sample"), ("explain",), ("explain", "99"),
-                  ("explain", "seven"), ("root",), ("typed", "text"), ("sha256",),
-                  ("check", 1, *whole, "none"), ("read", 1, *whole),
-                  ("read", "--unverified", 1, *whole, "none"), ("repair", 1, *whole),
+                  ("check-sample", 1, "one", "record", "sample"), ("explain",), ("explain", "99"),
+                  ("explain", "seven"), ("record",), ("typed", "text"), ("sha256",),
+                  ("check", 1, *whole, "none"), ("read", *whole), ("repair", *whole),
+                  ("read", "--unverified", 1, *whole, "none"), ("check", "one", *whole),
+                  ("read", "one", *whole, "none"), ("repair", "", *whole, "none"),
+                  ("repair", "--in-place", *whole), ("repair", "--in-place", "x", *whole, "none"),
+                  ("read", "--unverified", "record", "tree", "marks"),
                   ("table", "--nothing", 1, "none"), ("table", "-f", 1, "none"),
                   ("-x", "table", 1, "none"), ("table", 1, "none", "--nothing"),
                   ("table", "--in-place", 1, "none"), ("table", "--unverified", 1, "none"),
@@ -230,13 +245,13 @@ def test_unreadable(room):
     put("proof", bytes(100))
     os.mkdir("folder")
     for words in [("check-table", 1, "table"), ("code", 1, "table", "volume", "none"),
-                  ("root", "root"), ("typed", "text", "none"), ("sha256", "volume"),
+                  ("record", "record"), ("typed", "text", "none"), ("sha256", "volume"),
                   ("sample", 1, 3, "tree", "marks", "none"),
-                  ("check-sample", 1, 3, "root", "sample"),
-                  ("check", 1, "root", "table", "tree", "marks"),
-                  ("repair", 1, "root", "table", "tree", "marks", "none"),
-                  ("check-proof", 1, "root", "table", "proof"),
-                  ("read", 1, "root", "table", "tree", "marks", "none")]:
+                  ("check-sample", 1, 3, "record", "sample"),
+                  ("check", 1, "record", "table", "tree", "marks"),
+                  ("repair", 1, "record", "table", "tree", "marks", "none"),
+                  ("check-proof", 1, "record", "table", "proof"),
+                  ("read", 1, "record", "table", "tree", "marks", "none")]:
         for place, word in enumerate(words):
             if place and isinstance(word, str) and word != "none":
                 for other in ("nowhere", "folder", "table/below", "no/where"):
@@ -257,7 +272,8 @@ def test_help(room):
         need(room.run(command, "-h").out == lines, "other lines by -h for", command)
         need(re.match(rb"\W*(usage: )?(cedunmi )?%s\b" % command.encode(), lines), lines)
         need(len(lines) < len(said.out) // 2, "help", command, "says everything")
-    for option in ("--force", "--in-place", "--unverified", "--quiet", "-q", "--version"):
+    for option in ("--force", "--in-place", "--unverified", "--for", "--quiet", "-q",
+                   "--version"):
         need(option in text, "the help has not", option)
     version = room.ends(0, "--version").out
     need(re.fullmatch(rb"cedunmi \d+\.\d+\.\d+\n", version), version)
@@ -268,15 +284,15 @@ def test_statuses(room):
     """Every status that the help lists is explained, each otherwise, and no other is."""
     text = room.ends(0, "help").out.decode()
     section = text[re.search(r"^Exit status", text, re.M).start():].split("\n\n")[0]
-    for status in STATUSES[10:] + [0, 1]:
+    for status in STATUSES[12:] + [0, 1]:
         need(re.search(r"^ .*\b%d\b" % status, section, re.M), "not in the help:", status)
     said = set()
-    for status in STATUSES:
+    for status in STATUSES + [MISFILLED]:
         words = room.ends(0, "explain", status).out
         need(len(words) > 10 and words.endswith(b"\n"), "explain", status, "prints", words)
         said.add(words)
-    need(len(said) == len(STATUSES), "two statuses are explained alike")
-    for status in (11, 23, 29, 34, 63, 67, 75, 256, -1):
+    need(len(said) == len(STATUSES) + 1, "two statuses are explained alike")
+    for status in (14, 23, 29, 42, 44, 34, 63, 67, 75, 256, -1):
         room.refused(64, "explain", "--", status)
 
 
@@ -295,10 +311,10 @@ def test_examples(room):
 def test_quiet(room):
     """With -q nothing is printed, and the status is the same; data and errors are still there."""
     coded = Coded(1).harm(absent=[2]).lay()
-    whole = (1, "root", "table", "tree", "marks")
+    whole = (1, "record", "table", "tree", "marks")
     for option in ("-q", "--quiet"):
         room.ends(30, "check", option, *whole).prints("")
-        room.ends(0, "check-sample", option, 1, 3, "root", "sample").prints("")
+        room.ends(0, "check-sample", option, 1, 3, "record", "sample").prints("")
         room.ends(0, "check-table", 1, "table", option).prints("")
         room.ends(0, option, "repair", *whole, "made" + option).prints("")
         need(contents("made" + option) == coded.repair().files(), "what a quiet repair wrote")

@@ -1,4 +1,5 @@
-"""What docs/FORMAT.md says, in plain Python: tables, trees, samples, repairs and their reports.
+"""What docs/FORMAT.md says, in plain Python: tables, trees, records, samples, repairs and their
+reports.
 
 The tests compare with it what the program writes and prints. It shares no code with the library.
 """
@@ -9,7 +10,8 @@ from collections import Counter
 
 PAGE = 256
 DEPTHS = range(1, 10)
-WHOLE, FAULT, UNAVAILABLE = 0, 1, 2
+WHOLE, FAULT, UNAVAILABLE, MISFILLED = 0, 1, 2, 13
+HEAD = 44         # bytes of a record before the root
 
 
 def digest(data):
@@ -28,9 +30,9 @@ def pages(layer):
 
 
 def lengths(depth):
-    """The bytes of each kind of file; of a table and a proof, of the longest."""
+    """The bytes of each kind of file; of a volume, a table and a proof, of the longest."""
     marks = first(depth)
-    return {"volume": 512 << depth, "tree": PAGE * marks, "marks": marks, "root": 512,
+    return {"volume": 512 << depth, "tree": PAGE * marks, "marks": marks, "record": 556,
             "sample": PAGE * (2 * depth - 1), "table": 220792, "proof": 12 + PAGE * (8 * depth - 1)}
 
 
@@ -110,16 +112,33 @@ def hashes_above(layer):
     return [b"".join(digest(layer[q * s + i]) for q in range(8)) for i in range(s)]
 
 
-def code(depth, table, volume):
-    """Tree, marks and root of a volume."""
+def head_of(depth, length, table):
+    """The record of a volume without the root: what it says of depth, length and table."""
+    return struct.pack(">3I", 1 << 30 | depth, 2 << 30 | length, 3 << 30 | len(table) // 4) \
+        + digest(table)
+
+
+def length_of(record):
+    """The length of the volume that a record says."""
+    return struct.unpack(">I", record[4:8])[0] & (1 << 30) - 1
+
+
+def tree_of(depth, table, filled):
+    """Tree and root of a volume that is filled up."""
     equations = equations_of(table)
-    data = [volume[i:i + PAGE] for i in range(0, len(volume), PAGE)]
+    data = [filled[i:i + PAGE] for i in range(0, len(filled), PAGE)]
     layers = []
     for j in reversed(range(depth)):
         layers.insert(0, with_parity(data, equations[j]))
         data = hashes_above(layers[0])
     root = b"".join(digest(page) for page in layers[0])
-    return b"".join(b"".join(layer) for layer in layers), b"\1" * first(depth), root
+    return b"".join(b"".join(layer) for layer in layers), root
+
+
+def code(depth, table, volume):
+    """Tree, marks and record of a volume."""
+    tree, root = tree_of(depth, table, volume.ljust(lengths(depth)["volume"], b"\0"))
+    return tree, b"\1" * first(depth), head_of(depth, len(volume), table) + root
 
 
 def sample_places(depth, number):
@@ -159,10 +178,10 @@ def proof_ways(table, proof):
             (j, [(number, at + PAGE * step)]) for step, (j, number) in enumerate(way)]
 
 
-def unfit(way, root, data):
+def unfit(way, record, data):
     """Of each layer of a way up the pages of these bytes whose hash the data page of the next, or
     the root, does not have for them."""
-    above = [data[held[0][1]:][:PAGE] for _, held in way[1:]] + [root]
+    above = [data[held[0][1]:][:PAGE] for _, held in way[1:]] + [record[HEAD:]]
     for (layer, held), hashes in zip(way, above):
         s = pages(layer) // 8 if layer else 1
         yield [(i, at) for i, at in held
@@ -193,9 +212,9 @@ def to_ask(way, wrong, right):
         asked[-1][1] + PAGE - 1)
 
 
-def broken(way, root, data, whose, right):
+def broken(way, record, data, whose, right):
     """What is said of a way up that breaks, or None."""
-    wrong = list(unfit(way, root, data))
+    wrong = list(unfit(way, record, data))
     at = next((at for at, some in enumerate(wrong) if some), None)
     if at is None:
         return None
@@ -206,19 +225,19 @@ def broken(way, root, data, whose, right):
                 whose(layer), to_ask(way[at:], wrong[at:], right)))
 
 
-def broken_sample(depth, number, root, sample):
+def broken_sample(depth, number, record, sample):
     """What is said of a sample in the file damaged that breaks, or None."""
-    right = "this root is the volume's, and the sample that of base page %d" % number
-    return broken(sample_way(depth, number), root, sample, lambda layer: "", right)
+    right = "this record is the volume's, and the sample that of base page %d" % number
+    return broken(sample_way(depth, number), record, sample, lambda layer: "", right)
 
 
-def broken_proof(root, table, proof):
+def broken_proof(record, table, proof):
     """What is said of a proof in the file damaged that breaks, or None: of the first member with a
     way up that does."""
     layer = proof[3]
     for member, way in proof_ways(table, proof):
-        said = broken(way, root, proof, lambda j: ", a given member" if j == layer else
-                      ", in the path of " + member, "this root and this table are the volume's")
+        said = broken(way, record, proof, lambda j: ", a given member" if j == layer else
+                      ", in the path of " + member, "this record is the volume's")
         if said:
             return said
     return None
@@ -246,14 +265,21 @@ class Layer:
 class Repair:
     """A repair of a tree: its end, what it stored, the tree and the marks then, and the proof."""
 
-    def __init__(self, depth, root, table, tree, marks):
-        self.depth, self.root = depth, root
+    def __init__(self, depth, record, table, tree, marks):
+        self.depth, self.root = depth, record[HEAD:]
         self.tree = [tree[i:i + PAGE] for i in range(0, len(tree), PAGE)]
         self.marks = list(marks)
         self.end, self.stored, self.proof, self.layers = WHOLE, 0, b"", []
         for number, equations in enumerate(equations_of(table)):
             if self.end == WHOLE:
                 self.enter(number, equations)
+        if self.end == WHOLE and any(self.volume()[length_of(record):]):
+            self.end = MISFILLED
+
+    def volume(self):
+        """The pages of the volume, filled up as they are."""
+        base = first(self.depth - 1)
+        return b"".join(self.tree[base:base + pages(self.depth - 1) // 4])
 
     def committed(self, layer, number):
         """The hash that stands for a page."""
@@ -337,7 +363,10 @@ class Repair:
     def last_line(self, where):
         """The end in words."""
         if self.end == WHOLE:
-            return "whole: every page is held, and the tree agrees with the root and the table"
+            return "whole: every page is held, and the tree agrees with the record and the table"
+        if self.end == MISFILLED:
+            return ("misfilled: every page is held, and the tree agrees with the root and the "
+                    "table, but what fills up the volume isn't zero")
         if self.end == FAULT:
             there = "the proof would have %d bytes" % len(self.proof)
             if where is not None:
@@ -355,11 +384,22 @@ class Repair:
         return wrote
 
 
-def printed(root):
-    """The seventeen lines of a printed root, without its comments."""
+def check_of(before, value):
+    """The check of a line of a printed record."""
+    return digest(bytes([before]) + value).hex()[:4]
+
+
+def printed(record):
+    """The lines of a printed record, without its comments: depth, length, table, hash T, the
+    hashes 0 to 15, and the check of all."""
     lines = []
-    for i in range(16):
-        value = root[32 * i:32 * i + 32]
+    for i, form in enumerate(("depth   %d", "length  %d bytes", "table   %d words")):
+        word = record[4 * i:4 * i + 4]
+        said = form % (struct.unpack(">I", word)[0] & (1 << 30) - 1)
+        lines.append("%-20s  %s" % (said, check_of(16 + i, word)))
+    hashes = [("T", 19, record[12:HEAD])]
+    hashes += [(str(i), i, record[HEAD + 32 * i:][:32]) for i in range(16)]
+    for name, before, value in hashes:
         groups = " ".join(value[g:g + 4].hex() for g in range(0, 32, 4))
-        lines.append("%2d %s  %s" % (i, groups, digest(bytes([i]) + value).hex()[:4]))
-    return lines + ["check  " + digest(root).hex()[:8]]
+        lines.append("%2s %s  %s" % (name, groups, check_of(before, value)))
+    return lines + ["check  " + digest(record).hex()[:8]]

@@ -7,20 +7,21 @@ from room import Coded, need, put
 
 GIGABYTE = 1 << 30
 LITTLE = [(resource.RLIMIT_AS, 256 << 20), (resource.RLIMIT_CPU, 5)]
-WHOLE = ("root", "table", "tree", "marks")
+WHOLE = ("record", "table", "tree", "marks")
 # Each command, and its statuses with a file of zeros without end in each place.
 PLACES = [(("check-table", 1, "table"), {"table": 2}),
           (("code", 1, "table", "volume", "none"), {"table": 2, "volume": 2}),
-          (("root", "root"), {"root": 2}), (("sha256", "volume"), {"volume": 2}),
+          (("record", "record"), {"record": 2}), (("sha256", "volume"), {"volume": 2}),
           (("typed", "text", "none"), {"text": (2, 65)}),
           (("sample", 1, 3, "tree", "marks", "none"), {"tree": 2, "marks": 2}),
-          (("check-sample", 1, 3, "root", "sample"), {"root": 2, "sample": 2}),
+          (("check-sample", 1, 3, "record", "sample"), {"record": 2, "sample": 2}),
           (("check", 1, *WHOLE), dict.fromkeys(WHOLE, 2)),
           (("repair", 1, *WHOLE, "none"), dict.fromkeys(WHOLE, 2)),
           (("read", 1, *WHOLE, "none"), dict.fromkeys(WHOLE, 2)),
-          (("read", "--unverified", 1, "tree", "marks", "none"), {"tree": 2, "marks": 2}),
+          (("read", "--unverified", 1, "record", "tree", "marks", "none"),
+           dict.fromkeys(("record", "tree", "marks"), 2)),
           (("repair", "--in-place", 1, *WHOLE, "none"), dict.fromkeys(WHOLE, 2)),
-          (("check-proof", 1, "root", "table", "proof"), {"root": 2, "table": 2, "proof": 6})]
+          (("check-proof", 1, "record", "table", "proof"), {"record": 2, "table": 2, "proof": 6})]
 
 
 def lay():
@@ -60,10 +61,10 @@ def test_long_proof(room):
     """A proof that begins well and has no end is of the wrong length."""
     lay()
     wrong = Coded(1).wrong_seven()
-    put("root", wrong.root)
+    put("record", wrong.record)
     with open("proof", "r+b") as file:
         file.truncate(GIGABYTE)
-    soon(room, 2, ("check-proof", 1, "root", "table", "proof")).says("proof has 1073741824 bytes; ")
+    soon(room, 2, ("check-proof", 1, "record", "table", "proof")).says("proof has 1073741824 bytes; ")
 
 
 def test_endless(room):
@@ -89,7 +90,7 @@ def test_one_over(room):
         put("long", bytes(length))
         room.refused(status, "check-table", 1, "long")
         room.refused(status, "check-table", 1, "-", given=bytes(length))
-    for kind, length in (("tree", 4096), ("marks", 16), ("root", 512)):
+    for kind, length in (("tree", 4096), ("marks", 16), ("record", 556)):
         words = tuple("long" if word == kind else word for word in WHOLE)
         put("long", bytes(length + 1))
         room.refused(2, "check", 1, *words).says("long has %d bytes; " % (length + 1))

@@ -7,13 +7,13 @@ import subprocess
 import writers
 from room import Coded, contents, fill, need, put, slurp, snapshot, unchanged
 
-WHOLE = ("root", "table", "tree", "marks")
+WHOLE = ("record", "table", "tree", "marks")
 # Each command that writes one file, with its arguments; OUT is the output.
 FILES = [("table", 1, "OUT"), ("typed", "text", "OUT"), ("sample", 1, 3, "tree", "marks", "OUT"),
-         ("read", 1, *WHOLE, "OUT"), ("read", "--unverified", 1, "tree", "marks", "OUT")]
+         ("read", 1, *WHOLE, "OUT"), ("read", "--unverified", 1, "record", "tree", "marks", "OUT")]
 FOLDERS = [("code", 1, "table", "volume", "OUT"), ("repair", 1, *WHOLE, "OUT")]
 IN_PLACE = ("repair", "--in-place", 1, *WHOLE, "OUT")
-INPUTS = ("table", "volume", "text", "tree", "marks", "root")
+INPUTS = ("table", "volume", "text", "tree", "marks", "record")
 
 
 def to(words, output):
@@ -30,7 +30,7 @@ def test_existing(room):
     """A file that is there is refused; with --force it is replaced, and keeps its mode, but for
     what lets others run it in somebody's name."""
     coded = Coded(1).lay()
-    expected = [coded.table, coded.root, slurp("sample"), coded.volume, coded.volume]
+    expected = [coded.table, coded.record, slurp("sample"), coded.volume, coded.volume]
     for words, data in zip(FILES, expected):
         put("there", b"mine", 0o640)
         room.refused(73, *to(words, "there")).says("there")
@@ -155,9 +155,9 @@ def test_folder_is_input(room):
                     room.refused(73, *to(form, "made"))
     fill("made", coded.files())
     made = ("made/tree", "made/marks", "made")
-    room.refused(73, "--force", "repair", 1, "made/root", "table", *made)
-    os.remove("made/root")
-    room.refused(73, "--force", "repair", 1, "root", "table", *made)
+    room.refused(73, "--force", "repair", 1, "made/record", "table", *made)
+    os.remove("made/record")
+    room.refused(73, "--force", "repair", 1, "record", "table", *made)
     fill("made", {"tree": coded.volume, "t": coded.table})
     os.chdir("made")
     try:
@@ -189,7 +189,7 @@ def test_in_place_names(room):
             room.refused(73, "--force", *to(IN_PLACE, "proof"))
             os.remove(kept)
     os.rename("tree", "marks~")
-    words = ("repair", "--in-place", "--force", 1, "root", "table")
+    words = ("repair", "--in-place", "--force", 1, "record", "table")
     room.refused(73, *words, "marks~", "marks", "proof")
     os.rename("marks~", "tree")
     room.refused((2, 73), *words, "tree", "tree", "proof")
@@ -227,7 +227,7 @@ def test_folders(room):
     """FOLDER must not be there, or be empty; with --force it may hold what the command writes."""
     coded = Coded(1).harm(absent=[3]).lay()
     made = {"code": Coded(1, table=coded.table).files(), "repair": coded.repair().files()}
-    other = {"code": "proof", "repair": "root"}
+    other = {"code": "proof", "repair": "record"}
     for words in FOLDERS:
         name = words[0]
         os.mkdir("empty")

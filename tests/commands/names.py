@@ -31,17 +31,17 @@ def all_of_it(room, name, coded):
     room.works("table", 1, "--", at["t"])
     room.works("code", 1, at["t"], at["v"], at["c"])
     need(contents(at["c"].decode("utf-8", "surrogateescape")) == coded.files(), "coded", name)
-    tree, marks, root = (at["c"] + b"/" + kind for kind in (b"tree", b"marks", b"root"))
+    tree, marks, record = (at["c"] + b"/" + kind for kind in (b"tree", b"marks", b"record"))
     room.works("sample", 1, 3, tree, marks, at["s"])
-    room.ends(0, "check-sample", 1, 3, root, at["s"])
-    said = room.ends(0, "root", root)
+    room.ends(0, "check-sample", 1, 3, record, at["s"])
+    said = room.ends(0, "record", record)
     put(at["p"], said.out)
     room.works("typed", at["p"], at["r"])
-    need(slurp(at["r"]) == coded.root, "typed", name)
+    need(slurp(at["r"]) == coded.record, "typed", name)
     room.ends(0, "repair", 1, at["r"], at["t"], tree, marks, at["n"])
     need(sorted(os.listdir(at["n"])) == [b"marks", b"tree"], "repaired", name)
     os.remove(at["v"])
-    room.works("read", 1, root, at["t"], tree, marks, at["v"])
+    room.works("read", 1, record, at["t"], tree, marks, at["v"])
     need(slurp(at["v"]) == coded.volume, "read", name)
     for kind in "vcsrtpn":
         need(os.listdir(os.fsencode(kind)) == [name], "beside", name, os.listdir(kind))
@@ -66,8 +66,8 @@ def test_in_place_under_odd_names(room):
         put(b"trees/" + name, coded.tree)
         put(b"others/" + name, coded.marks)
         put("table", coded.table)
-        put("root", coded.root)
-        room.ends(0, "repair", "--in-place", 1, "root", "table", b"trees/" + name,
+        put("record", coded.record)
+        room.ends(0, "repair", "--in-place", 1, "record", "table", b"trees/" + name,
                   b"others/" + name, "proof")
         need(sorted(os.listdir(b"trees")) == sorted([name, name + b"~"]), os.listdir(b"trees"))
         need(slurp(b"trees/" + name + b"~") == coded.tree, "kept under", name)
@@ -95,9 +95,9 @@ def test_long_names(room):
     room.refused(66, "check-table", 1, "n" * 256)
     os.rename("tree", "t" * 255)
     os.rename("marks", "m" * 254)
-    room.refused(73, "repair", "--in-place", 1, "root", "table", "t" * 255, "m" * 254, "proof")
+    room.refused(73, "repair", "--in-place", 1, "record", "table", "t" * 255, "m" * 254, "proof")
     os.rename("t" * 255, "t" * 254)
-    room.ends(0, "repair", "--in-place", 1, "root", "table", "t" * 254, "m" * 254, "proof")
+    room.ends(0, "repair", "--in-place", 1, "record", "table", "t" * 254, "m" * 254, "proof")
     need(slurp("t" * 254 + "~") == coded.tree, "kept under a long name")
 
 
@@ -148,14 +148,14 @@ def test_messages(room):
 def test_report_names(room):
     """A report shows the name of a proof on one line too."""
     wrong = Coded(1).wrong_seven().lay()
-    said = room.ends(31, "repair", 1, "root", "table", "tree", "marks", b"a\nb\x1bc")
+    said = room.ends(31, "repair", 1, "record", "table", "tree", "marks", b"a\nb\x1bc")
     need(said.out.count(b"\n") == wrong.repair().report("x").count("\n"), str(said))
     need(b"\x1b" not in said.out, str(said))
     need(os.path.isfile(b"a\nb\x1bc/proof"), "the proof is not there")
     room.refused(2, "code", 1, "table", "text", b"x\ny")
-    put(b"short\x07", b"")
-    said = room.refused(2, "code", 1, "table", b"short\x07", "none")
-    need(b"\x07" not in said.err and b"has 0 bytes; " in said.err, str(said))
+    put(b"long\x07", bytes(1025))
+    said = room.refused(2, "code", 1, "table", b"long\x07", "none")
+    need(b"\x07" not in said.err and b"has 1025 bytes; " in said.err, str(said))
 
 
 def test_sha256_names(room):

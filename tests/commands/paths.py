@@ -8,8 +8,8 @@ from room import Coded, need, put
 
 
 def laid(coded):
-    """Puts the files here that a check needs, root and table, beside what it checks."""
-    put("root", coded.root)
+    """Puts the files here that a check needs, record and table, beside what it checks."""
+    put("record", coded.record)
     put("table", coded.table)
     return coded
 
@@ -25,17 +25,17 @@ def changed(data, *places):
 def sample_broken(room, coded, number, sample, *options):
     """The lines of a sample that is refused, which are those by hand."""
     put("damaged", sample)
-    said = room.refused(7, "check-sample", *options, coded.depth, number, "root", "damaged")
-    lines = by_hand.broken_sample(coded.depth, number, coded.root, sample)
+    said = room.refused(7, "check-sample", *options, coded.depth, number, "record", "damaged")
+    lines = by_hand.broken_sample(coded.depth, number, coded.record, sample)
     need(said.err.decode() == lines, str(said) + ", but this should be said:", lines)
     return lines
 
 
-def proof_broken(room, coded, proof, root="root"):
+def proof_broken(room, coded, proof, record="record"):
     """The lines of a proof that is refused, which are those by hand."""
     put("damaged", proof)
-    said = room.refused(7, "check-proof", coded.depth, root, "table", "damaged")
-    lines = by_hand.broken_proof(coded.root, coded.table, proof)
+    said = room.refused(7, "check-proof", coded.depth, record, "table", "damaged")
+    lines = by_hand.broken_proof(coded.record, coded.table, proof)
     need(said.err.decode() == lines, str(said) + ", but this should be said:", lines)
     return lines
 
@@ -64,7 +64,7 @@ def test_samples(room):
 
 def test_two_pages(room):
     """Data page and parity page of each layer at once, by the page above or by themselves; with
-    another root; with another number."""
+    another record; with another number."""
     for depth in DEPTHS:
         coded = laid(Coded(depth, 16))
         for number in (0, 5, (8 << depth) - 1):
@@ -77,8 +77,8 @@ def test_two_pages(room):
                 lines = sample_broken(room, coded, number, gone, "--quiet")
                 need(index == 1 or ": pages " in lines, lines)
             sample_broken(room, coded, (number + 1) % (8 << depth), sample)
-        coded.root = Coded(depth, 17).root
-        put("root", coded.root)
+        coded.record = Coded(depth, 17).record
+        put("record", coded.record)
         sample_broken(room, coded, 5, by_hand.sample(depth, 5, coded.tree))
 
 
@@ -95,8 +95,8 @@ def test_other_numbers(room):
 
 
 def test_other_tables(room):
-    """A proof by another table, which has members whose hashes stand in other slots: it breaks at
-    its own layer, and what is to be asked for depends on the table."""
+    """A proof by another table than that of the record, which has members whose hashes stand in
+    other slots: it breaks at its own layer, and what is to be asked for depends on the record."""
     for depth in DEPTHS:
         base, equations = depth - 1, by_hand.house_equations(depth)
         coded = laid(Coded(depth, 22))
@@ -104,10 +104,9 @@ def test_other_tables(room):
         proof = coded.repair().prove(base, 9, members[-1], members[:-1])
         data = sorted((i + (2 << base)) % (4 << base) for i in members[:2])
         equations[base][9] = data + members[2:]
-        coded.table = by_hand.table_of(equations)
-        put("table", coded.table)
+        laid(coded.naming(by_hand.table_of(equations)))
         lines = proof_broken(room, coded, proof)
-        need("layer %d, a given member" % base in lines and "this table are" in lines, lines)
+        need("layer %d, a given member" % base in lines and "if this record is" in lines, lines)
 
 
 def test_proofs(room):
@@ -129,7 +128,7 @@ def test_proofs(room):
 
 
 def test_first_member(room):
-    """Of several members whose ways break, and with another root, the first in the proof's order is
+    """Of several members whose ways break, and with another record, the first in the proof's order is
     named; in a proof of layer 0 the withheld one has no path."""
     for depth in DEPTHS:
         wrong = laid(Coded(depth, 19).wrong_seven())
@@ -141,6 +140,6 @@ def test_first_member(room):
         proof = wrong.repair().prove(base, 3, members[1], members[:1] + members[2:])
         for places in ((len(proof) - 1, 12), (12 + 256 * depth, 12 + 512 * depth), (12, 13)):
             proof_broken(room, wrong, changed(proof, *places))
-        wrong.root = Coded(depth, 20).root
-        put("root", wrong.root)
+        wrong.record = Coded(depth, 20).record
+        put("record", wrong.record)
         proof_broken(room, wrong, proof)

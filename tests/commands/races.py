@@ -12,7 +12,7 @@ import time
 import writers
 from room import Coded, Wrong, contents, fill, need, put, slurp, snapshot, unchanged
 
-WHOLE = ("root", "table", "tree", "marks")
+WHOLE = ("record", "table", "tree", "marks")
 
 
 def together(room, commands):
@@ -48,7 +48,7 @@ def test_code_at_once(room):
 
 
 def test_code_with_force_at_once(room):
-    """With --force all are coded, and tree, marks and root are always of one volume."""
+    """With --force all are coded, and tree, marks and record are always of one volume."""
     made = volumes(3)
     all_files = [coded.files() for coded in made]
     for turn in range(40):
@@ -97,8 +97,8 @@ def test_crossed_folders(room):
     """Two repairs in place, each with its tree in the folder of the other's marks, at once: none
     waits for the other for ever."""
     harmed = Coded(1, 3).harm(absent=[1], bad=[5]).lay()
-    one = ("repair", "--in-place", "--force", 1, "root", "table", "x/tree", "y/marks", "x/proof")
-    two = ("repair", "--in-place", "--force", 1, "root", "table", "y/tree", "x/marks", "y/proof")
+    one = ("repair", "--in-place", "--force", 1, "record", "table", "x/tree", "y/marks", "x/proof")
+    two = ("repair", "--in-place", "--force", 1, "record", "table", "y/tree", "x/marks", "y/proof")
     files = harmed.repair().files()
     for _ in range(25):
         for folder in ("x", "y"):
@@ -158,7 +158,7 @@ def test_readers_of_a_folder(room):
         folder = os.open("made", os.O_RDONLY | os.O_DIRECTORY)
         try:
             found = {}
-            for name in ("tree", "marks", "root"):
+            for name in ("tree", "marks", "record"):
                 file = os.open(name, os.O_RDONLY, dir_fd=folder)
                 with open(file, "rb") as opened:
                     found[name] = opened.read()
@@ -206,7 +206,7 @@ def test_lock_is_told(room):
     it is free."""
     Coded(1).harm(absent=[3]).lay()
     commands = [("table", 1, "out/new"), ("code", 1, "table", "volume", "out/made"),
-                ("repair", "--in-place", 1, "root", "table", "out/tree", "out/marks", "proof")]
+                ("repair", "--in-place", 1, "record", "table", "out/tree", "out/marks", "proof")]
     fill("out", {"tree": slurp("tree"), "marks": slurp("marks")})
     with Locked("out"):
         began = time.monotonic()
@@ -292,7 +292,7 @@ def test_no_lock_while_waiting(room):
     waiting = room.start("typed", "-", "new")
     room.works("table", 1, "other")
     waiting.communicate(text, 20)
-    need(waiting.returncode == 0 and slurp("new") == slurp("root"), waiting.returncode)
+    need(waiting.returncode == 0 and slurp("new") == slurp("record"), waiting.returncode)
 
 
 def test_signal_while_locked(room):
@@ -318,7 +318,7 @@ def test_many_kinds_at_once(room):
     """Different commands in one folder at once do not hinder each other."""
     chance = random.Random(7)
     coded = Coded(1).lay()
-    expected = {"a": coded.table, "b": coded.root, "c": slurp("sample"), "d": coded.volume}
+    expected = {"a": coded.table, "b": coded.record, "c": slurp("sample"), "d": coded.volume}
     commands = [("table", 1, "a"), ("typed", "text", "b"), ("sample", 1, 3, "tree", "marks", "c"),
                 ("read", 1, *WHOLE, "d"), ("code", 1, "table", "volume", "e"),
                 ("repair", 1, *WHOLE, "f"), ("check", 1, *WHOLE)]

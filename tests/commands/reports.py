@@ -6,7 +6,7 @@ import shutil
 import by_hand
 from room import Coded, another_table, contents, need, put, slurp, snapshot, unchanged
 
-WHOLE = ("root", "table", "tree", "marks")
+WHOLE = ("record", "table", "tree", "marks")
 
 
 def compare(room, coded, folder="made"):
@@ -44,7 +44,7 @@ def test_the_report_of_the_manual(room):
         "  bad copies: 2\n"
         "layer 1: 32 pages, 16 to 47: 0 absent, 0 bad; 0 stored, 0 missing\n"
         "stored: 1\n"
-        "whole: every page is held, and the tree agrees with the root and the table\n")
+        "whole: every page is held, and the tree agrees with the record and the table\n")
     put("marks", bytes(48))
     room.ends(32, "check", 2, *WHOLE).prints(
         "a repair would come to this:\n"
@@ -94,8 +94,7 @@ def test_faults(room):
     for depth in by_hand.DEPTHS:
         need(compare(room, Coded(depth, 6).wrong_seven()) == by_hand.FAULT, "no fault")
         compare(room, Coded(depth, 7).wrong_seven().harm(absent=[4], bad=[9, 12]))
-        other = Coded(depth, 8)
-        other.table = another_table(depth)
+        other = Coded(depth, 8).naming(another_table(depth))
         need(compare(room, other) == by_hand.FAULT, "no fault by another table")
 
 
@@ -105,12 +104,11 @@ def test_longest_proofs(room):
     for depth in by_hand.DEPTHS:
         k, equations = 2 << depth, by_hand.house_equations(depth)
         equations[-1][-1] = [0, 1, 2] + list(range(4 * k - 5, 4 * k))
-        coded = Coded(depth, 23)
-        coded.table = by_hand.table_of(equations)
+        coded = Coded(depth, 23).naming(by_hand.table_of(equations))
         need(compare(room, coded) == by_hand.FAULT, "no fault by eight members")
         room.ends(31, "repair", depth, *WHOLE, "made")
         need(len(slurp("made/proof")) == by_hand.lengths(depth)["proof"], "the longest proof")
-        room.ends(0, "check-proof", depth, "root", "table", "made/proof")
+        room.ends(0, "check-proof", depth, "record", "table", "made/proof")
         shutil.rmtree("made")
 
 
@@ -118,12 +116,10 @@ def test_proofs_are_accepted(room):
     """The proof that a repair writes is one that check-proof accepts."""
     wrong = Coded(3, 9).wrong_seven().lay()
     room.ends(31, "repair", 3, *WHOLE, "made")
-    room.ends(0, "check-proof", 3, "root", "table", "made/proof")
-    put("table", another_table(3))
-    put("root", Coded(3, 9).root)
-    put("tree", Coded(3, 9).tree)
+    room.ends(0, "check-proof", 3, "record", "table", "made/proof")
+    Coded(3, 9).naming(another_table(3)).lay()
     room.ends(31, "repair", 3, *WHOLE, "other")
-    room.ends(0, "check-proof", 3, "root", "table", "other/proof")
+    room.ends(0, "check-proof", 3, "record", "table", "other/proof")
     need(contents("other")["proof"] != wrong.repair().proof, "one proof for two faults")
 
 
@@ -139,7 +135,7 @@ def test_in_place(room):
     found = contents(".")
     need((found["tree"], found["marks"]) == tuple(expected.files().values()), "the new ones")
     need((found["tree~"], found["marks~"]) == (coded.tree, coded.marks), "the old ones")
-    need(sorted(found) == sorted("table volume tree marks root sample text tree~ marks~".split()),
+    need(sorted(found) == sorted("table volume tree marks record sample text tree~ marks~".split()),
          "names:", sorted(found))
     modes = [os.stat(name).st_mode & 0o777 for name in ("tree", "marks", "tree~", "marks~")]
     need(modes == [0o640, 0o604, 0o640, 0o604], "modes", [oct(mode) for mode in modes])
@@ -169,14 +165,14 @@ def test_in_place_faults(room):
     found = contents(".")
     need({name: found[name] for name in ("tree", "marks", "proof")} == expected.files(), "files")
     need((found["tree~"], found["marks~"]) == (wrong.tree, wrong.marks), "the old ones")
-    room.ends(0, "check-proof", 1, "root", "table", "proof")
+    room.ends(0, "check-proof", 1, "record", "table", "proof")
 
 
-def test_another_root(room):
-    """A repair by another volume's root is no harm: nothing but the new folder is written, and in
-    place nothing, since fewer pages would be held; the root is doubted."""
+def test_another_record(room):
+    """A repair by another volume's record is no harm: nothing but the new folder is written, and in
+    place nothing, since fewer pages would be held; the record is doubted."""
     Coded(1, 12).lay()
-    put("root", Coded(1, 13).root)
+    put("record", Coded(1, 13).record)
     before = contents(".")
     said = room.ends((31, 32), "repair", 1, *WHOLE, "made")
     made = contents("made")

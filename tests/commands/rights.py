@@ -57,9 +57,9 @@ def test_checks_need_no_rights(room):
     os.chmod(".", 0o555)
     try:
         with Plain(room) as plain:
-            plain.ends(30, "check", 1, "root", "table", "tree", "marks", nobody=True)
-            plain.ends(30, "read", 1, "root", "table", "tree", "marks", "-", nobody=True)
-            plain.ends(0, "root", "root", nobody=True)
+            plain.ends(30, "check", 1, "record", "table", "tree", "marks", nobody=True)
+            plain.ends(30, "read", 1, "record", "table", "tree", "marks", "-", nobody=True)
+            plain.ends(0, "record", "record", nobody=True)
     finally:
         os.chmod(".", 0o777)
 
@@ -71,7 +71,7 @@ def test_unreadable_inputs(room):
     with Plain(room) as plain:
         for name, words in (("table", ("code", 1, "table", "volume", "none")),
                             ("volume", ("code", 1, "table", "volume", "none")),
-                            ("root", ("root", "root")), ("text", ("typed", "text", "none")),
+                            ("record", ("record", "record")), ("text", ("typed", "text", "none")),
                             ("marks", ("sample", 1, 3, "tree", "marks", "none"))):
             before = snapshot()
             os.chmod(name, 0)
@@ -84,7 +84,7 @@ def test_other_folders_read_only(room):
     """--in-place with tree, marks and proof in three folders: where one is read-only, none is
     written."""
     wrong = Coded(1).wrong_seven().harm(bad=[3]).lay()
-    words = ("repair", "--in-place", 1, "root", "table", "a/tree", "b/marks", "c/proof")
+    words = ("repair", "--in-place", 1, "record", "table", "a/tree", "b/marks", "c/proof")
     for closed in "abc":
         for folder in "abc":
             os.mkdir(folder)
@@ -243,13 +243,13 @@ def test_vanished_folders(room):
     text = slurp("text")
     for words in (("table", 1, "no/where"), ("typed", "text", "no/where"),
                   ("sample", 1, 3, "tree", "marks", "no/where"),
-                  ("read", 1, "root", "table", "tree", "marks", "no/where"),
+                  ("read", 1, "record", "table", "tree", "marks", "no/where"),
                   ("code", 1, "table", "volume", "no/where"),
-                  ("repair", 1, "root", "table", "tree", "marks", "no/where"),
+                  ("repair", 1, "record", "table", "tree", "marks", "no/where"),
                   ("table", 1, "table/below"), ("table", "--force", 1, "no/where")):
         room.refused(73, *words)
     os.mkdir("going")
-    process = room.start("typed", "-", "going/root")
+    process = room.start("typed", "-", "going/record")
     os.rmdir("going")
     _, err = process.communicate(text, 20)
     need(process.returncode == 73, "the folder went, and it ended with", process.returncode, err)

@@ -209,26 +209,26 @@ def volume_of(depth, seed=0):
 
 
 class Coded:
-    """A coded volume, its bytes made by hand."""
+    """A coded volume, its bytes made by hand; as long as its depth holds, or of this length."""
 
-    def __init__(self, depth, seed=0, table=None):
+    def __init__(self, depth, seed=0, table=None, length=None):
         self.depth = depth
         self.table = table or by_hand.house_table(depth)
-        self.volume = volume_of(depth, seed)
-        self.tree, self.marks, self.root = by_hand.code(depth, self.table, self.volume)
+        self.volume = volume_of(depth, seed)[:length]
+        self.tree, self.marks, self.record = by_hand.code(depth, self.table, self.volume)
 
     def files(self):
         """What `code` writes."""
-        return {"tree": self.tree, "marks": self.marks, "root": self.root}
+        return {"tree": self.tree, "marks": self.marks, "record": self.record}
 
     def lay(self):
-        """Puts the files table, volume, tree, marks and root here, a sample and a print too."""
+        """Puts the files table, volume, tree, marks and record here, a sample and a print too."""
         put("table", self.table)
         put("volume", self.volume)
         for name, data in self.files().items():
             put(name, data)
         put("sample", by_hand.sample(self.depth, 3, self.tree))
-        put("text", "".join(line + "\n" for line in by_hand.printed(self.root)).encode())
+        put("text", "".join(line + "\n" for line in by_hand.printed(self.record)).encode())
         return self
 
     def harm(self, absent=(), bad=()):
@@ -243,14 +243,31 @@ class Coded:
 
     def wrong_seven(self):
         """The same with another page 7 of the top layer, its hash in the root: coded wrongly."""
-        seven = b"\1" * 256
+        seven, at = b"\1" * 256, by_hand.HEAD + 7 * 32
         self.tree = self.tree[:7 * 256] + seven + self.tree[8 * 256:]
-        self.root = self.root[:7 * 32] + by_hand.digest(seven) + self.root[8 * 32:]
+        self.record = self.record[:at] + by_hand.digest(seven) + self.record[at + 32:]
+        return self
+
+    def naming(self, table):
+        """The same with another table, which the record names, but by which it was not coded."""
+        self.table = table
+        self.record = by_hand.head_of(self.depth, len(self.volume), table) \
+            + self.record[by_hand.HEAD:]
+        return self
+
+    def misfilled(self, *places):
+        """The same with bytes that are not zero in what fills up the volume, counted from its
+        beginning; coded so, and the record says the length of before."""
+        filled = bytearray(self.volume.ljust(by_hand.lengths(self.depth)["volume"], b"\0"))
+        for place in places:
+            filled[place] ^= 1 + place % 255
+        self.tree, root = by_hand.tree_of(self.depth, self.table, filled)
+        self.record = self.record[:by_hand.HEAD] + root
         return self
 
     def repair(self):
         """The repair of this, by hand."""
-        return by_hand.Repair(self.depth, self.root, self.table, self.tree, self.marks)
+        return by_hand.Repair(self.depth, self.record, self.table, self.tree, self.marks)
 
 
 def table_leaving(depth, *pages):

@@ -8,21 +8,21 @@ import disk
 import writers
 from room import Coded, contents, need, put, slurp
 
-WHOLE = ("root", "table", "tree", "marks")
+WHOLE = ("record", "table", "tree", "marks")
 # Commands with their inputs by name; what is to be tried with `-` in each place.
-READERS = [(0, ("check-table", 1, "table")), (0, ("root", "root")), (0, ("sha256", "volume")),
-           (0, ("check-sample", 1, 3, "root", "sample")), (0, ("check", 1, *WHOLE)),
+READERS = [(0, ("check-table", 1, "table")), (0, ("record", "record")), (0, ("sha256", "volume")),
+           (0, ("check-sample", 1, 3, "record", "sample")), (0, ("check", 1, *WHOLE)),
            (0, ("check-proof", 1, "wrong", "table", "proof")),
-           (0, ("read", 1, *WHOLE, "-")), (0, ("read", "--unverified", 1, "tree", "marks", "-")),
+           (0, ("read", 1, *WHOLE, "-")), (0, ("read", "--unverified", 1, "record", "tree", "marks", "-")),
            (0, ("sample", 1, 3, "tree", "marks", "-")), (0, ("typed", "text", "-"))]
-INPUTS = ("table", "root", "volume", "sample", "tree", "marks", "text", "wrong", "proof")
+INPUTS = ("table", "record", "volume", "sample", "tree", "marks", "text", "wrong", "proof")
 
 
 def lay():
-    """A coded volume, and a wrong one's root and proof."""
+    """A coded volume, and a wrong one's record and proof."""
     coded = Coded(1).lay()
     wrong = Coded(1).wrong_seven()
-    put("wrong", wrong.root)
+    put("wrong", wrong.record)
     put("proof", wrong.repair().proof)
     return coded
 
@@ -75,10 +75,10 @@ def test_standard_output(room):
     """Each output that is one file can go to standard output; nothing is made beside it."""
     coded = lay()
     before = set(os.listdir("."))
-    for words, data in [(("table", 1, "-"), coded.table), (("typed", "text", "-"), coded.root),
+    for words, data in [(("table", 1, "-"), coded.table), (("typed", "text", "-"), coded.record),
                         (("sample", 1, 3, "tree", "marks", "-"), slurp("sample")),
                         (("read", 1, *WHOLE, "-"), coded.volume),
-                        (("read", "--unverified", 1, "tree", "marks", "-"), coded.volume)]:
+                        (("read", "--unverified", 1, "record", "tree", "marks", "-"), coded.volume)]:
         for options in ((), ("--force",), ("-q",)):
             said = room.ends(0, *options, *words).prints(data)
             need(said.err == b"", str(said))
@@ -120,9 +120,11 @@ def test_pipes(room):
     need(contents("made") == coded.files(), "coded from a FIFO")
     with open("tree", "rb") as file:
         number = file.fileno()
-        room.ends(0, "check", 1, "root", "table", "/dev/fd/%d" % number, "marks",
+        room.ends(0, "check", 1, "record", "table", "/dev/fd/%d" % number, "marks",
                   pass_fds=[number])
-    room.refused(2, "code", 1, "table", "/dev/null", "none")
+    room.works("code", 1, "table", "/dev/null", "nothing")
+    need(contents("nothing") == Coded(1, length=0).files(), "coded from /dev/null")
+    room.refused(2, "check-sample", 1, 3, "record", "/dev/null")
     folder = os.open(".", os.O_RDONLY)
     room.refused(66, "check-table", 1, "-", stdin=folder, given=None)
     os.close(folder)
@@ -220,7 +222,7 @@ def test_reader_gone(room):
     Coded(1).harm(absent=[2]).lay()
     for status, words in [(30, ("check", 1, *WHOLE)), (0, ("repair", 1, *WHOLE, "made")),
                           (0, ("check-table", 1, "table")), (0, ("help",)),
-                          (0, ("check-sample", 1, 3, "root", "sample"))]:
+                          (0, ("check-sample", 1, 3, "record", "sample"))]:
         writing = closed_pipe()
         said = room.ends(status, *words, stdout=writing)
         need(said.err == b"", str(said))

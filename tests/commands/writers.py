@@ -110,21 +110,23 @@ def within(folder, files):
 
 
 def lay_inputs(depth):
-    """Makes the folder `in`; gives a whole, a damaged, and a wrongly coded volume."""
-    whole = Coded(depth, 1)
+    """Makes the folder `in`; gives a whole, a damaged, a wrongly coded, and a misfilled volume."""
+    whole = Coded(depth, 1, length=700)
     harmed = Coded(depth, 2).harm(absent=[1, 14], bad=[6])
     wrong = Coded(depth, 3).wrong_seven().harm(bad=[2])
-    text = "".join(line + "\n" for line in by_hand.printed(whole.root)).encode()
+    misfilled = Coded(depth, 5, length=700).misfilled(701).harm(bad=[4])
+    text = "".join(line + "\n" for line in by_hand.printed(whole.record)).encode()
     files = {"table": whole.table, "volume": whole.volume, "text": text}
-    for name, coded in (("whole", whole), ("harmed", harmed), ("wrong", wrong)):
+    for name, coded in (("whole", whole), ("harmed", harmed), ("wrong", wrong),
+                        ("misfilled", misfilled)):
         files.update((name + "-" + kind, data) for kind, data in coded.files().items())
     fill("in", files)
-    return whole, harmed, wrong
+    return whole, harmed, wrong, misfilled
 
 
 def of(name):
-    """Root, table, tree and marks of one of the three volumes."""
-    return ("in/%s-root" % name, "in/table", "in/%s-tree" % name, "in/%s-marks" % name)
+    """Record, table, tree and marks of one of the volumes."""
+    return ("in/%s-record" % name, "in/table", "in/%s-tree" % name, "in/%s-marks" % name)
 
 
 def kept(coded):
@@ -132,7 +134,7 @@ def kept(coded):
     return {"tree~": coded.tree, "marks~": coded.marks}
 
 
-def of_one_file(depth, whole, harmed):
+def of_one_file(depth, whole, harmed, misfilled):
     """The commands that write one file."""
     over, tree = {"file": b"what was there before"}, of("whole")[2:]
     sample = by_hand.sample(depth, 3, whole.tree)
@@ -140,17 +142,22 @@ def of_one_file(depth, whole, harmed):
         Writer("table", ("table", depth, "out/file"), {}, {"file": whole.table}),
         Writer("table --force", ("table", "--force", depth, "out/file"), over,
                {"file": whole.table}, modes={"file": 0o4755}),
+        Writer("table --for", ("table", "--for", "in/volume", "out/file"), {},
+               {"file": by_hand.house_table(1)}),
+        Writer("typed", ("typed", "in/text", "out/file"), {}, {"file": whole.record}),
         Writer("typed --force", ("typed", "--force", "in/text", "out/file"), over,
-               {"file": whole.root}),
+               {"file": whole.record}),
         Writer("sample --force", ("sample", "--force", depth, 3, *tree, "out/file"), over,
                {"file": sample}, modes={"file": 0o640}),
         Writer("read --force", ("read", "--force", depth, *of("whole"), "out/file"), over,
                {"file": whole.volume}),
         Writer("read of damage", ("read", depth, *of("harmed"), "out/file"), {},
-               {"file": harmed.volume}, 30)]
+               {"file": harmed.volume}, 30),
+        Writer("read of misfilled", ("read", *of("misfilled"), "out/file"), {},
+               {"file": misfilled.volume}, 43)]
 
 
-def of_folders(depth, whole, harmed, wrong):
+def of_folders(depth, whole, harmed, wrong, misfilled):
     """The commands that make a folder."""
     before = Coded(depth, 4).files()
     words = (depth, "in/table", "in/volume", "out/made")
@@ -161,15 +168,17 @@ def of_folders(depth, whole, harmed, wrong):
                within("made", whole.files()), modes={"made": 0o710}),
         Writer("code --force", ("code", "--force", *words), within("made", before),
                within("made", whole.files()),
-               modes={"made": 0o750, "made/tree": 0o600, "made/root": 0o640}),
+               modes={"made": 0o750, "made/tree": 0o600, "made/record": 0o640}),
         Writer("repair", ("repair", depth, *of("harmed"), "out/made"), {},
                within("made", harmed.repair().files())),
+        Writer("repair of misfilled", ("repair", *of("misfilled"), "out/made"), {},
+               within("made", misfilled.repair().files()), 43),
         Writer("repair --force", ("repair", "--force", depth, *of("wrong"), "out/made"),
                within("made", repaired), within("made", wrong.repair().files()), 31,
                modes={"made/marks": 0o600})]
 
 
-def in_place(depth, harmed, wrong):
+def in_place(depth, harmed, wrong, misfilled):
     """The repairs in place."""
     place = ("out/tree", "out/marks", "out/proof")
     older = {"tree~": b"older tree", "marks~": b"older marks", "proof": b"older proof"}
@@ -177,6 +186,10 @@ def in_place(depth, harmed, wrong):
         Writer("repair --in-place", ("repair", "--in-place", depth, *of("harmed")[:2], *place),
                {"tree": harmed.tree, "marks": harmed.marks},
                {**harmed.repair().files(), **kept(harmed)}, modes={"tree": 0o600, "marks": 0o660}),
+        Writer("repair --in-place of misfilled",
+               ("repair", "--in-place", *of("misfilled")[:2], *place),
+               {"tree": misfilled.tree, "marks": misfilled.marks},
+               {**misfilled.repair().files(), **kept(misfilled)}, 43),
         Writer("repair --in-place --force",
                ("repair", "--in-place", "--force", depth, *of("wrong")[:2], *place),
                {"tree": wrong.tree, "marks": wrong.marks, **older},
@@ -186,9 +199,10 @@ def in_place(depth, harmed, wrong):
 
 def writers(depth):
     """Every command that writes, into places that are free and over what is there."""
-    whole, harmed, wrong = lay_inputs(depth)
-    return of_one_file(depth, whole, harmed) + of_folders(depth, whole, harmed, wrong) \
-        + in_place(depth, harmed, wrong)
+    whole, harmed, wrong, misfilled = lay_inputs(depth)
+    return of_one_file(depth, whole, harmed, misfilled) \
+        + of_folders(depth, whole, harmed, wrong, misfilled) \
+        + in_place(depth, harmed, wrong, misfilled)
 
 
 def one(depth, name):
