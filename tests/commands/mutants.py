@@ -63,8 +63,8 @@ SCRIPTS = [
      saying("s/but doesn't lead to the root itself: if .*/and leads to the root/")),
     ("number-trusting", "paths.other_numbers",
      saying("s/itself: if .*, ask for/itself: ask for/")),
-    ("table-trusting", "paths.other_tables",
-     saying("s/this root and this table are/this root is/")),
+    ("record-trusting", "paths.other_tables",
+     saying("s/: if this record is the volume's, ask/: ask/")),
     ("head-forgetting", "paths.proofs", saying("s/bytes 12 to 267 of/bytes 0 to 255 of/")),
     ("half-replacing", "paths.two_pages", saying("s/bytes 256 to 767 of/bytes 256 to 511 of/")),
     ("layer-above", "paths.proofs",
@@ -87,7 +87,7 @@ SCRIPTS = [
     ("slash-dropping", "files.names_of_folders",
      'case $last in ?*/) to "${last%/}" "$@"; exit ;; esac'),
     ("proofless", "files.in_place_names",
-     'case $* in *--in-place*) "$real" check 1 root table tree marks >told && exit 0; rm told ;; '
+     'case $* in *--in-place*) "$real" check 1 record table tree marks >told && exit 0; rm told ;; '
      'esac'),
     ("littering", "files.links",
      '"$real" "$@"; status=$?; [ $status = 0 ] || : >.cedunmi-0123456789abcdef; exit $status'),
@@ -104,9 +104,9 @@ SCRIPTS = [
      '[ "$command" = code ] && { [ ! -e "$last/tree" ] || exit 73; exec "$real" --force "$@"; }'),
     ("piecewise", "races.readers_of_a_folder",
      '[ "$command" = code ] && { to part "$@"; mv part/tree "$last"; mv part/marks "$last"; '
-     'mv part/root "$last"; rmdir part; exit 0; }'),
+     'mv part/record "$last"; rmdir part; exit 0; }'),
     ("unlocked", "races.lock_before_reading",
-     '[ "$command" = repair ] && { cp tree kept; "$real" repair 1 root table kept marks made; '
+     '[ "$command" = repair ] && { cp tree kept; "$real" repair 1 record table kept marks made; '
      'status=$?; mv tree tree~; mv made/tree made/marks .; exit $status; }'),
     ("untold", "races.lock_is_told", 'exec "$real" --quiet "$@"'),
     ("entering", "races.replaced_while_waiting",
@@ -136,6 +136,74 @@ SCRIPTS = [
     ("unchecked", "typed.every_slip",
      '[ "$command" = typed ] && { sed "/^check/d; s/  [0-9a-f]*$//" text >bare; '
      'exec "$real" typed --force bare "$last"; }'),
+    ("whole-paged", "lengths.trim_chart",
+     '[ "$command" = code ] && { truncate -s %256 "$3"; exec "$real" "$@"; }'),
+    ("filling-with-ones", "lengths.there_and_back",
+     '[ "$command" = code ] && { cp volume filled; head -c 1024 /dev/zero | tr "\\0" "\\377" >>filled; '
+     'truncate -s 1024 filled; exec "$real" code table filled made; }'),
+    ("reading-the-filling", "lengths.there_and_back",
+     '[ "$command" = read ] && { "$real" "$@"; status=$?; truncate -s %256 "$last"; '
+     'exit $status; }'),
+    ("empty-refusing", "lengths.there_and_back",
+     '[ "$command" != code ] || [ -s volume ] || { echo "cedunmi: a length is wrong" >&2; exit 2; }'),
+    ("deepest-taking", "lengths.too_long", saying("s/: take depth [0-9]*/: take depth 9/")),
+    ("filling-trusting", "lengths.misfilled",
+     '"$real" "$@"; status=$?; [ $status != 43 ] || exit 0; exit $status'),
+    ("misfilled-refusing", "lengths.misfilled",
+     '[ "$command" = read ] && { "$real" "$@"; status=$?; [ $status != 43 ] || rm "$last"; '
+     'exit $status; }'),
+    ("silent-on-filling", "lengths.misfilled", 'exec "$real" "$@" 2>/dev/null'),
+    ("length-trusting", "lengths.shorter_records",
+     '"$real" "$@"; status=$?; [ $status != 43 ] || exit 0; exit $status'),
+    ("looking-at-digits", "depths.count_tells",
+     '[ "$1" = check-table ] && case $2 in [1-9]) [ $# -gt 2 ] || exit 64 ;; esac'),
+    ("depth-asking", "depths.left_out",
+     '[ "$command" != sample ] || [ $# -gt 5 ] || { echo "cedunmi: no DEPTH" >&2; exit 64; }'),
+    ("depth-believing", "depths.another",
+     '[ "$command" = check ] && { shift 2; exec "$real" check "$@"; }'),
+    ("one-depth-saying", "depths.another", saying("s/ is of depth 3, and DEPTH is/ is not of depth/")),
+    ("first-depth-taking", "depths.wrong_tables",
+     '[ "$1 $#" = "check-table 2" ] && exec "$real" check-table 1 "$2"'),
+    ("large-tabled", "depths.house_tables",
+     '[ "$2" = --for ] && [ "$(wc -c <"$3")" = 1024 ] && exec "$real" table 2 "$last"'),
+    ("kind-blind", "records.kinds",
+     '[ "$command" = check-sample ] && { "$real" "$@"; status=$?; [ $status != 11 ] || exit 0; '
+     'exit $status; }'),
+    ("unexplaining", "records.lengths", saying("/says a length of/d")),
+    ("root-forgetting", "records.roots", saying("s/; it is a root, as it was .*//")),
+    ("root-taking", "records.roots",
+     '[ "$1 $2" = "record record" ] && [ "$(wc -c <record)" = 512 ] && exit 0'),
+    ("table-trusting", "records.other_tables",
+     '"$real" "$@"; status=$?; [ $status != 12 ] || exit 0; exit $status'),
+    ("house-blind", "records.other_tables", saying("s/, the house table of depth .*//")),
+    ("house-claiming", "records.other_tables",
+     saying("s/\\(names a table of [^,]*, with the SHA-256 [0-9a-f]*\\)$/"
+            "\\1, the house table of depth 1: cedunmi table 1 FILE writes it/")),
+    ("hash-cutting", "records.each_bit",
+     '[ "$command" = check ] && { { head -c 43 record; printf "\\352"; tail -c 512 record; } | '
+     '"$real" check 1 - table tree marks; exit; }'),
+    ("early-tabled", "records.order",
+     '[ "$command" = check ] && { "$real" "$@"; status=$?; [ $status != 10 ] || exit 12; '
+     'exit $status; }'),
+    ("head-unchecking", "typed.every_digit_in_words",
+     '[ "$command" = typed ] && { sed "/^check/d; s/  [0-9a-f]*$//" text | '
+     '"$real" -q typed - "$last"; exit; }'),
+    ("line-misnaming", "typed.every_slip", saying("s/^cedunmi: line [0-9]*/cedunmi: line 1/")),
+    ("first-slip-naming", "typed.all_slips", saying("2,\\$d")),
+    ("order-blind", "typed.moved_lines",
+     '[ "$command" = typed ] && [ "$(grep -c . text)" = 21 ] && { '
+     '{ grep "^[a-z]" text | sort | sed 1d; grep "^ T" text; grep "^[ 1][0-9]" text | sort -n; } '
+     '>kept; exec "$real" typed --force kept "$last"; }'),
+    ("twice-taking", "typed.moved_lines",
+     '[ "$command" = typed ] && { uniq text | "$real" typed - "$last"; exit; }'),
+    ("missing-unnamed", "typed.moved_lines",
+     saying("s/[a-z]* *[T0-9]* is missing.*/a line is missing/")),
+    ("house-printing", "typed.every_print",
+     '[ "$command" = record ] && { "$real" "$@" >told; status=$?; '
+     'sed "s/is not the house table.*/is the house table: cedunmi table 1 TABLE/" told; '
+     'rm told; exit $status; }'),
+    ("impossible-taking", "typed.impossible_heads",
+     '[ "$command" = typed ] && { grep -q "^length 2049" text && exit 0; }'),
     ("misnumbering", "reports.the_report_of_the_manual",
      '[ "$command" = check ] && { "$real" "$@" >told; status=$?; sed "s/16 to 47/0 to 31/" told; '
      'rm told; exit $status; }'),
