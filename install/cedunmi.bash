@@ -10,34 +10,36 @@ _cedunmi_words() {
 _cedunmi_options() {
     local options='-h --help'
     case $1 in
-    '') options+=' --version -q --quiet --force --in-place --unverified' ;;
+    '') options+=' --version -q --quiet --force --in-place --unverified --for' ;;
     repair) options+=' -q --quiet --force --in-place' ;;
     read) options+=' -q --quiet --force --unverified' ;;
-    table | code | typed | sample) options+=' -q --quiet --force' ;;
+    table) options+=' -q --quiet --force --for' ;;
+    code | typed | sample) options+=' -q --quiet --force' ;;
     help | explain) ;;
     *) options+=' -q --quiet' ;;
     esac
     _cedunmi_words "$options"
 }
 
-# _cedunmi_argument COMMAND PLACE: an argument of a command, its first at place 0.
+# _cedunmi_argument COMMAND PLACE FOR: an argument of a command, its first at place 0; FOR is 1 after --for. Where a depth may stand or be
+# left out, the names of files are more to the point.
 _cedunmi_argument() {
-    local commands='table check-table code root typed sample check-sample check repair check-proof read explain sha256 help'
+    local commands='table check-table code record typed sample check-sample check repair check-proof read explain sha256 help'
     case $1:$2 in
     :* | help:0) _cedunmi_words "$commands" ;;
-    explain:0) _cedunmi_words '0 1 2 3 4 5 6 7 8 9 10 30 31 32 33 64 65 66 70 73 74' ;;
-    root:* | typed:* | sha256:*) ;;
-    help:* | explain:* | sample:1 | check-sample:1) _cedunmi_words '' ;;
-    *:0) _cedunmi_words '1 2 3 4 5 6 7 8 9' ;;
+    explain:0) _cedunmi_words '0 1 2 3 4 5 6 7 8 9 10 11 12 13 30 31 32 33 43 64 65 66 70 73 74' ;;
+    help:* | explain:* | sample:0 | check-sample:0) _cedunmi_words '' ;;
+    table:0) [[ $3 ]] || _cedunmi_words '1 2 3 4 5 6 7 8 9' ;;
     esac
 }
 
 _cedunmi() {
-    local command='' place=0 options=1 i
+    local command='' place=0 options=1 for='' i
     COMPREPLY=()
     for ((i = 1; i < COMP_CWORD; i++)); do
         case $options:${COMP_WORDS[i]} in
         1:--) options=0 ;;
+        1:--for) for=1 ;;
         1:-?*) ;;
         *)
             if [[ $command ]]; then
@@ -50,7 +52,7 @@ _cedunmi() {
     done
     case $options:${COMP_WORDS[COMP_CWORD]} in
     1:-*) _cedunmi_options "$command" ;;
-    *) _cedunmi_argument "$command" "$place" ;;
+    *) _cedunmi_argument "$command" "$place" "$for" ;;
     esac
 }
 
