@@ -95,6 +95,10 @@ pub fn is_house(record: &Record) -> Result<bool, Stop> {
 fn comments(record: &Record) -> Result<String, Stop> {
     let Record { depth, length, .. } = record;
     let (layers, pages, most) = (depth.layers(), depth.symbols(), depth.block_bytes());
+    let filled = match *length < most {
+        true => format!("That depth holds up to {most}; zeros fill up the rest."),
+        false => "That is as much as this depth holds.".to_string(),
+    };
     let tables = match is_house(record)? {
         true => format!(
             "\
@@ -111,7 +115,7 @@ fn comments(record: &Record) -> Result<String, Stop> {
     Ok(format!(
         "\
 # The record of a volume of {length} bytes, coded at depth {layers}: {pages} pages of {SYMBOL_BYTES}
-# bytes. That depth holds up to {most}; zeros fill up the rest.
+# bytes. {filled}
 # Each line ends with its check. Hash T is that of the table, 0 to 15 are those
 # of the pages of the top layer.
 {tables}"

@@ -85,8 +85,9 @@ def test_every_print(room):
             need(lines[len(comments):] == by_hand.printed(record), text)
             need(max(map(len, lines)) <= 80, "a line is longer than 80:", text)
             said = " ".join(line[2:] for line in comments)
+            held = "as much as this depth holds" if length == most else "up to %d; zeros" % most
             for words in ("a volume of %d bytes" % length, "depth %d:" % depth,
-                          " %d pages" % by_hand.first(depth), "up to %d;" % most):
+                          " %d pages" % by_hand.first(depth), held):
                 need(words in said, "not said:", words, text)
             need(("is the house table: cedunmi table %d TABLE" % depth in said) == (not table), text)
             need(("pages 7, 11 and 15 are zero" in said) == (not table), text)
