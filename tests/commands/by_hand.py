@@ -12,6 +12,8 @@ PAGE = 256
 DEPTHS = range(1, 10)
 WHOLE, FAULT, UNAVAILABLE, MISFILLED = 0, 1, 2, 13
 HEAD = 44         # bytes of a record before the root
+MISFILLED_SAID = ("misfilled: every page is held, and the tree agrees with the root and the table, but "
+                  "what fills up the volume isn't zero")
 
 
 def digest(data):
@@ -365,8 +367,7 @@ class Repair:
         if self.end == WHOLE:
             return "whole: every page is held, and the tree agrees with the record and the table"
         if self.end == MISFILLED:
-            return ("misfilled: every page is held, and the tree agrees with the root and the "
-                    "table, but what fills up the volume isn't zero")
+            return MISFILLED_SAID
         if self.end == FAULT:
             there = "the proof would have %d bytes" % len(self.proof)
             if where is not None:

@@ -7,8 +7,6 @@ from by_hand import DEPTHS
 from room import Coded, contents, need, put, slurp, volume_of
 
 WHOLE = ("record", "table", "tree", "marks")
-MISFILLED = ("misfilled: every page is held, and the tree agrees with the root and the table, but "
-             "what fills up the volume isn't zero")
 
 
 def of_depth(depth):
@@ -102,7 +100,7 @@ def misfilled(room, coded):
     for quiet in ((), ("--quiet",)):
         said = room.ends(43, "read", *quiet, *WHOLE, "back").prints("")
         need(slurp("back") == coded.volume, "the volume of a misfilled tree")
-        need((MISFILLED.encode() in said.err) != bool(quiet), str(said))
+        need((by_hand.MISFILLED_SAID.encode() in said.err) != bool(quiet), str(said))
         os.remove("back")
     room.ends(43, "repair", "--in-place", *WHOLE, "proof").prints(expected.report("proof"))
     found = contents(".")
