@@ -9,7 +9,7 @@ const MISFILLED: u8 = 13;
 /// What to do about a status, and about the end that a reader may look for under its own number.
 const TO_DO: &[(u8, &str)] = &[
     (0, "nothing"),
-    (1, "leave DEPTH out: the record, the table or the tree says it"),
+    (1, "give a depth from 1 to 9, or none where a record, a table or a tree is read: that says it"),
     (2, "the lines after it say which file has how many bytes, and how many it should have"),
     (3, "get the table again: another copy, or by cedunmi table where it is the house table"),
     (4, "the marks file is damaged: set that page's mark to 0, and repair"),

@@ -41,13 +41,18 @@ def done(room, words):
 
 
 def test_left_out(room):
-    """Every command at every depth, with the depth and without it, does the same."""
+    """Every command at every depth, with the depth and without it, does the same; but check-table
+    then says which it is."""
     statuses = set()
     for depth in DEPTHS:
         lay(depth, length=700)
         for _, command, after in COMMANDS:
             given = done(room, (*command, depth, *after))
             without = done(room, (*command, *after))
+            if command == ("check-table",):
+                said = b"well-formed at depth %d, " % depth
+                need(said in without[1], "which depth it is, is not said:", without[1])
+                without = (without[0], without[1].replace(said, b"well-formed, "), *without[2:])
             need(given == without, command, "at depth", depth, "ended with", without[:3],
                  "and with the depth", given[:3])
             need(bool(given[3]) == ("OUT" in after), command, "wrote", sorted(given[3]))

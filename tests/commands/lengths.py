@@ -101,6 +101,8 @@ def misfilled(room, coded):
         said = room.ends(43, "read", *quiet, *WHOLE, "back").prints("")
         need(slurp("back") == coded.volume, "the volume of a misfilled tree")
         need((by_hand.MISFILLED_SAID.encode() in said.err) != bool(quiet), str(said))
+        need((b"but the tree is damaged: " in said.err) == (expected.stored > 0 and not quiet),
+             str(said))
         os.remove("back")
     room.ends(43, "repair", "--in-place", *WHOLE, "proof").prints(expected.report("proof"))
     found = contents(".")
