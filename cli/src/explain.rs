@@ -5,6 +5,7 @@ use cedunmi::{explain, explain_end};
 
 /// The end of a repair whose number is no other's.
 const MISFILLED: u8 = 13;
+const FILL_UP: &str = "see that the record's length is the manual's. If it is, every byte of the volume is right, read has written it, and tree and marks are whole; but whoever coded it did not fill it up with zeros, as is the rule: ask for it coded anew";
 
 /// What to do about a status, and about the end that a reader may look for under its own number.
 const TO_DO: &[(u8, &str)] = &[
@@ -21,12 +22,12 @@ const TO_DO: &[(u8, &str)] = &[
     (10, "contributor: put that page into at least two equations of its layer, or take the house table. Shop: ask for the volume coded anew; until then cedunmi read --unverified copies its pages, unchecked, if none of its data pages is lost"),
     (11, "the lines after it say what is wrong with the record, or its depth: leave DEPTH out, and compare the record with the manual, as cedunmi record prints it. A root of 512 bytes, as it was before there were records, is none"),
     (12, "get the table that the record names: the lines after it say its words and its SHA-256, and if it is the house table. By another table a sound volume would seem to have a fault"),
-    (MISFILLED, "as an exit status it is 43: cedunmi explain 43"),
+    (MISFILLED, FILL_UP),
     (DAMAGED, "mend the tree by cedunmi repair"),
     (31, "see that the record is the manual's; then send the proof to others, who strike the volume by it"),
     (32, "bring some of the missing pages from other shops, mark them, and repair again"),
     (33, "keep them, and tell everybody: SHA-256 can't be relied on any more"),
-    (ENDS + MISFILLED, "see that the record's length is the manual's. If it is, every byte of the volume is right, and tree and marks are as they should be; but whoever coded it did not fill it up with zeros, as is the rule: ask for it coded anew"),
+    (ENDS + MISFILLED, FILL_UP),
     (USAGE, "cedunmi help COMMAND shows what it takes"),
     (SLIP, "compare the lines that are named with the print, digit by digit"),
     (UNREADABLE, "look at its name and its rights"),
