@@ -8,7 +8,7 @@ import by_hand
 from by_hand import DEPTHS
 from room import Coded, contents, need, put, slurp, table_leaving, volume_of
 
-STATUSES = [0, 1, 2, 3, 4, 5, 6, 7, 8, 9, 10, 11, 12, 30, 31, 32, 33, 43, 64, 65, 66, 70, 73, 74]
+STATUSES = [*range(13), 30, 31, 32, 33, 43, 64, 65, 66, 70, 73, 74]
 MISFILLED = 13      # the end of a repair, explained as its status 43 is
 COMMANDS = ["table", "check-table", "code", "record", "typed", "sample", "check-sample", "check",
             "repair", "check-proof", "read", "explain", "sha256", "help"]
@@ -158,7 +158,8 @@ def test_lengths(room):
     put("short", bytes(1024))
     put("long", bytes(2049))
     room.refused(2, "code", 2, "table", "long", "none").says(
-        "cedunmi: long has 2049 bytes; depth 2 holds at most 2048: take depth 3, and a table of it\n")
+        "cedunmi: long has 2049 bytes; depth 2 holds at most 2048: take depth 3, "
+        "and a table of it\n")
     room.refused(2, "read", 2, "record", "table", "short", "marks", "none").says(
         "cedunmi: short has 1024 bytes; a tree of depth 2 has 12288\n")
     put("other", bytes(7))
@@ -179,7 +180,7 @@ def test_lengths(room):
 
 
 def test_proofs(room):
-    """A fault proof is accepted for its record and table alone; each way to spoil it has a number."""
+    """A fault proof is accepted for its record and table alone; each way to spoil it is a number."""
     for depth in DEPTHS:
         wrong = Coded(depth, 4).wrong_seven().lay()
         proof = wrong.repair().proof

@@ -12,8 +12,8 @@ PAGE = 256
 DEPTHS = range(1, 10)
 WHOLE, FAULT, UNAVAILABLE, MISFILLED = 0, 1, 2, 13
 HEAD = 44         # bytes of a record before the root
-MISFILLED_SAID = ("misfilled: every page is held, and the tree agrees with the root and the table, but "
-                  "what fills up the volume isn't zero")
+MISFILLED_SAID = ("misfilled: every page is held, and the tree agrees with the root and the table, "
+                  "but what fills up the volume isn't zero")
 
 
 def digest(data):

@@ -64,7 +64,8 @@ def test_long_proof(room):
     put("record", wrong.record)
     with open("proof", "r+b") as file:
         file.truncate(GIGABYTE)
-    soon(room, 2, ("check-proof", 1, "record", "table", "proof")).says("proof has 1073741824 bytes; ")
+    words = ("check-proof", 1, "record", "table", "proof")
+    soon(room, 2, words).says("proof has 1073741824 bytes; ")
 
 
 def test_endless(room):

@@ -1,4 +1,4 @@
-"""The depth, where it is left out: every command as with it; and a depth that is not the record's."""
+"""The depth, where it is left out: every command as with it; a depth that is not the record's."""
 import os
 import shutil
 import struct
@@ -8,7 +8,8 @@ from by_hand import DEPTHS
 from room import Coded, contents, need, put, slurp, table_leaving
 
 WHOLE = ("record", "table", "tree", "marks")
-# Each command that has a depth, with the words after it; OUT is the output. Those after 1 take a record.
+# Each command that has a depth, with the words after it; OUT is the output. Those with a 1 take a
+# record.
 COMMANDS = [(0, ("check-table",), ("table",)), (0, ("code",), ("table", "volume", "OUT")),
             (0, ("sample",), (3, "tree", "marks", "OUT")),
             (1, ("check-sample",), (3, "record", "sample")), (1, ("check",), WHOLE),

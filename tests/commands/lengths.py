@@ -129,7 +129,8 @@ def test_filled(room):
     """A volume may end with any bytes, and a full one has no filling: neither is misfilled."""
     for depth in (1, 3):
         most = by_hand.lengths(depth)["volume"]
-        for volume in (bytes(most), b"\xff" * most, volume_of(depth, 3), b"\0" * 300 + b"\1", b"\0"):
+        for volume in (bytes(most), b"\xff" * most, volume_of(depth, 3), bytes(300) + b"\1",
+                       b"\0"):
             put("volume", volume)
             put("table", by_hand.house_table(depth))
             room.works("code", "table", "volume", "made")

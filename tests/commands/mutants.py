@@ -139,13 +139,17 @@ SCRIPTS = [
     ("whole-paged", "lengths.trim_chart",
      '[ "$command" = code ] && { truncate -s %256 "$3"; exec "$real" "$@"; }'),
     ("filling-with-ones", "lengths.there_and_back",
-     '[ "$command" = code ] && { cp volume filled; head -c 1024 /dev/zero | tr "\\0" "\\377" >>filled; '
-     'truncate -s 1024 filled; exec "$real" code table filled made; }'),
+     '[ "$command" = code ] && { "$real" "$@"; cp volume filled; '
+     'head -c 1024 /dev/zero | tr "\\0" "\\377" >>filled; truncate -s 1024 filled; '
+     '"$real" code table filled kept; mv kept/tree made; '
+     '{ head -c 44 made/record; tail -c 512 kept/record; } >new; mv new made/record; '
+     'rm -r kept filled; exit 0; }'),
     ("reading-the-filling", "lengths.there_and_back",
      '[ "$command" = read ] && { "$real" "$@"; status=$?; truncate -s %256 "$last"; '
      'exit $status; }'),
     ("empty-refusing", "lengths.there_and_back",
-     '[ "$command" != code ] || [ -s volume ] || { echo "cedunmi: a length is wrong" >&2; exit 2; }'),
+     '[ "$command" != code ] || [ -s volume ] || '
+     '{ echo "cedunmi: a length is wrong" >&2; exit 2; }'),
     ("deepest-taking", "lengths.too_long", saying("s/: take depth [0-9]*/: take depth 9/")),
     ("filling-trusting", "lengths.misfilled",
      '"$real" "$@"; status=$?; [ $status != 43 ] || exit 0; exit $status'),
@@ -161,7 +165,8 @@ SCRIPTS = [
      '[ "$command" != sample ] || [ $# -gt 5 ] || { echo "cedunmi: no DEPTH" >&2; exit 64; }'),
     ("depth-believing", "depths.another",
      '[ "$command" = check ] && { shift 2; exec "$real" check "$@"; }'),
-    ("one-depth-saying", "depths.another", saying("s/ is of depth 3, and DEPTH is/ is not of depth/")),
+    ("one-depth-saying", "depths.another",
+     saying("s/ is of depth 3, and DEPTH is/ is not of depth/")),
     ("first-depth-taking", "depths.wrong_tables",
      '[ "$1 $#" = "check-table 2" ] && exec "$real" check-table 1 "$2"'),
     ("large-tabled", "depths.house_tables",

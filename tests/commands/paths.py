@@ -128,8 +128,8 @@ def test_proofs(room):
 
 
 def test_first_member(room):
-    """Of several members whose ways break, and with another record, the first in the proof's order is
-    named; in a proof of layer 0 the withheld one has no path."""
+    """Of several members whose ways break, and with another record, the first in the proof's order
+    is named; in a proof of layer 0 the withheld one has no path."""
     for depth in DEPTHS:
         wrong = laid(Coded(depth, 19).wrong_seven())
         proof = wrong.repair().proof

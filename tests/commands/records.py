@@ -33,16 +33,16 @@ def changed(record, word, value):
 
 
 def test_kinds(room):
-    """A word of another kind is 11 in every command, with and without a depth; the word is named."""
+    """A word of another kind is 11 in every command, with a depth or without; it is named."""
     coded = lay(2)
     for word in range(3):
         value = struct.unpack(">3I", coded.record[:12])[word]
         for kind in {0, 1, 2, 3} - {word + 1}:
             put("record", changed(coded.record, word, value & (1 << 30) - 1 | kind << 30))
-            wanted = "record is no record, or damaged: bytes %d to %d, its %s, are %s, of kind %s, " \
-                "not %s\n" % (4 * word, 4 * word + 3, KINDS[word],
-                              slurp("record")[4 * word:4 * word + 4].hex(), format(kind, "02b"),
-                              format(word + 1, "02b"))
+            wanted = "record is no record, or damaged: bytes %d to %d, its %s, are %s, of kind " \
+                "%s, not %s\n" % (4 * word, 4 * word + 3, KINDS[word],
+                                  slurp("record")[4 * word:4 * word + 4].hex(),
+                                  format(kind, "02b"), format(word + 1, "02b"))
             for words in BY_RECORD + BY_TABLE + [("record", "record")]:
                 room.refused(11, *words).says(wanted)
                 if words[0] != "record":
@@ -90,7 +90,8 @@ def test_roots(room):
             room.refused(2, *with_depth(words, 1)).says("before there were records")
     for length in (0, 44, 511, 513, 555, 557):
         put("record", coded.record[:length].ljust(length, b"\0"))
-        said = room.refused(2, "record", "record").says("record has %d bytes; a record has 556\n" % length)
+        said = room.refused(2, "record", "record").says(
+            "record has %d bytes; a record has 556\n" % length)
         need(b"before" not in said.err, str(said))
     put("record", slurp("text"))
     room.refused(2, "record", "record")
@@ -111,7 +112,8 @@ def test_other_tables(room):
         for named, lent in ((house, other), (other, house)):
             lay(depth, table=named)
             put("table", lent)
-            known = ", the house table of depth %d: cedunmi table %d FILE writes it" % (depth, depth)
+            known = ", the house table of depth %d: cedunmi table %d FILE writes it" % (
+                depth, depth)
             for words in BY_TABLE if depth in (1, 3) else BY_TABLE[:1]:
                 said = room.refused(12, *words)
                 said.says("cedunmi: record names a table of %s%s\n" % (

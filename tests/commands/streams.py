@@ -13,7 +13,8 @@ WHOLE = ("record", "table", "tree", "marks")
 READERS = [(0, ("check-table", 1, "table")), (0, ("record", "record")), (0, ("sha256", "volume")),
            (0, ("check-sample", 1, 3, "record", "sample")), (0, ("check", 1, *WHOLE)),
            (0, ("check-proof", 1, "wrong", "table", "proof")),
-           (0, ("read", 1, *WHOLE, "-")), (0, ("read", "--unverified", 1, "record", "tree", "marks", "-")),
+           (0, ("read", 1, *WHOLE, "-")),
+           (0, ("read", "--unverified", 1, "record", "tree", "marks", "-")),
            (0, ("sample", 1, 3, "tree", "marks", "-")), (0, ("typed", "text", "-"))]
 INPUTS = ("table", "record", "volume", "sample", "tree", "marks", "text", "wrong", "proof")
 
@@ -78,7 +79,8 @@ def test_standard_output(room):
     for words, data in [(("table", 1, "-"), coded.table), (("typed", "text", "-"), coded.record),
                         (("sample", 1, 3, "tree", "marks", "-"), slurp("sample")),
                         (("read", 1, *WHOLE, "-"), coded.volume),
-                        (("read", "--unverified", 1, "record", "tree", "marks", "-"), coded.volume)]:
+                        (("read", "--unverified", 1, "record", "tree", "marks", "-"),
+                         coded.volume)]:
         for options in ((), ("--force",), ("-q",)):
             said = room.ends(0, *options, *words).prints(data)
             need(said.err == b"", str(said))

@@ -89,7 +89,8 @@ def test_every_print(room):
             for words in ("a volume of %d bytes" % length, "depth %d:" % depth,
                           " %d pages" % by_hand.first(depth), held):
                 need(words in said, "not said:", words, text)
-            need(("is the house table: cedunmi table %d TABLE" % depth in said) == (not table), text)
+            house = "is the house table: cedunmi table %d TABLE" % depth
+            need((house in said) == (not table), text)
             need(("pages 7, 11 and 15 are zero" in said) == (not table), text)
             need(("not the house table" in said) == bool(table), text)
             need(typed(room, text) == (record, b""), "not typed back:", text)
