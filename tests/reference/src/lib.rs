@@ -7,6 +7,7 @@ pub mod cover;
 pub mod listing;
 pub mod path;
 pub mod proof;
+pub mod record;
 pub mod repair;
 pub mod sample;
 pub mod sha256;

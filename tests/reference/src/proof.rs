@@ -1,13 +1,14 @@
 //! Fault proofs, written from the sections "Sample and fault proof" and "What
-//! stops a call" of 01 and from CR 4 of 02.
+//! stops a call" of 01 and from CRs 4 and 5 of 02.
 
 use crate::path::unbroken;
+use crate::record::{self, RECORD};
 use crate::sha256::sha256;
 use crate::stop::Stop;
 use crate::table::{self, byte_length, data_symbols, layers_of, word, Layers};
 use crate::table::{END, EQUATION, LAYER};
 use crate::tree::{committed, exactly, exclusive_or, place, symbol_at};
-use crate::tree::{Committed, HASH, ROOT, SYMBOL};
+use crate::tree::{Committed, HASH, SYMBOL};
 
 /// The bytes of a head: three words.
 pub const HEAD: usize = 12;
@@ -86,14 +87,17 @@ pub fn write(head: Head, members: &[usize], tree: &[u8]) -> Vec<u8> {
 }
 
 /// Whether a proof shows a fault.
-pub fn check(depth: u64, root: &[u8], table: &[u8], proof: &[u8]) -> Result<(), Stop> {
-    layers_of(depth)?;
-    exactly(root.len(), ROOT)?;
+pub fn check(depth: u64, record: &[u8], table: &[u8], proof: &[u8]) -> Result<(), Stop> {
+    let layers = layers_of(depth)?;
+    exactly(record.len(), RECORD)?;
     byte_length(table)?;
     if proof.len() < HEAD {
         return Err(Stop::Length);
     }
-    judge(&table::equations(depth, table)?, root, proof)
+    let head = record::Head::read(layers, record)?;
+    let equations = table::equations(depth, table)?;
+    head.names(table)?;
+    judge(&equations, record::root(record), proof)
 }
 
 /// Whether a proof of at least twelve bytes shows a fault by these equations.

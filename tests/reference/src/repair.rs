@@ -1,11 +1,13 @@
-//! Repair, written from the sections "Repair" and "What stops a call" of 01.
+//! Repair, written from the sections "Repair" and "What stops a call" of 01 and
+//! from CR 5 of 02.
 
 use crate::proof::{self, Head, HEAD};
+use crate::record::{self, RECORD};
 use crate::sha256::sha256;
 use crate::stop::Stop;
 use crate::table::{self, byte_length, layers_of, Layers};
-use crate::tree::{committed_hash, exactly, exclusive_or, marks_in_form, place, symbol_at};
-use crate::tree::{symbols, tree_symbols, Symbol, HASH, ROOT, SYMBOL};
+use crate::tree::{base_data, committed_hash, exactly, exclusive_or, marks_in_form, place};
+use crate::tree::{symbol_at, symbols, tree_symbols, Symbol, HASH, SYMBOL};
 use std::collections::BTreeSet;
 
 /// How a repair ends.
@@ -17,6 +19,8 @@ pub enum End {
     /// With the layer.
     Unavailable(usize),
     Twins,
+    /// As whole, but what fills up the block is not zero.
+    Misfilled,
 }
 
 /// An end, with the number of symbols that were stored.
@@ -34,24 +38,31 @@ pub fn output_len(depth: usize) -> usize {
 /// Repairs a tree as far as it can be.
 pub fn repair(
     depth: u64,
-    root: &[u8],
+    record: &[u8],
     table: &[u8],
     tree: &mut [u8],
     marks: &mut [u8],
     output: &mut [u8],
 ) -> Result<Repaired, Stop> {
     let layers = layers_of(depth)?;
-    exactly(root.len(), ROOT)?;
+    exactly(record.len(), RECORD)?;
     byte_length(table)?;
     exactly(tree.len(), SYMBOL * tree_symbols(layers))?;
     exactly(marks.len(), tree_symbols(layers))?;
     exactly(output.len(), output_len(layers))?;
+    let head = record::Head::read(layers, record)?;
     let equations = table::equations(depth, table)?;
+    head.names(table)?;
     marks_in_form(marks)?;
 
+    let root = record::root(record);
     let mut repair = Repair { hash: sha256, root, tree, marks, output, stored: 0 };
-    let end = repair.run(&equations);
+    let end = repair.ended(&equations, head.length);
     Ok(Repaired { end, stored: repair.stored })
+}
+
+fn zero(bytes: &[u8]) -> bool {
+    bytes.iter().all(|&byte| byte == 0)
 }
 
 /// For each of so many symbols the equations that it is a member of.
@@ -74,6 +85,14 @@ struct Repair<'a> {
 }
 
 impl Repair<'_> {
+    /// The end, where the block has so many bytes.
+    fn ended(&mut self, equations: &Layers, length: usize) -> End {
+        match self.run(equations) {
+            End::Whole if !zero(&base_data(equations.len(), self.tree)[length..]) => End::Misfilled,
+            end => end,
+        }
+    }
+
     /// Layers from the top.
     fn run(&mut self, equations: &Layers) -> End {
         for (layer, equations) in equations.iter().enumerate() {

@@ -1,12 +1,13 @@
 //! Samples, written from the sections "Sample and fault proof" and "What stops
-//! a call" of 01 and from CR 4 of 02.
+//! a call" of 01 and from CRs 4 and 5 of 02.
 
 use crate::path::unbroken;
+use crate::record::{self, RECORD};
 use crate::sha256::sha256;
 use crate::stop::Stop;
 use crate::table::{data_symbols, layers_of};
 use crate::tree::{committed, exactly, marks_in_form, place, symbol_at, symbols, tree_symbols};
-use crate::tree::{Committed, HASH, ROOT, SYMBOL};
+use crate::tree::{Committed, HASH, SYMBOL};
 
 /// The bytes of a sample of a depth.
 pub fn sample_len(depth: usize) -> usize {
@@ -54,16 +55,17 @@ pub fn take(
     Ok(())
 }
 
-/// Whether every hash of a sample leads to the root.
-pub fn check(depth: u64, number: u64, root: &[u8], sample: &[u8]) -> Result<(), Stop> {
+/// Whether every hash of a sample leads to the root inside a record.
+pub fn check(depth: u64, number: u64, record: &[u8], sample: &[u8]) -> Result<(), Stop> {
     let layers = layers_of(depth)?;
-    exactly(root.len(), ROOT)?;
+    exactly(record.len(), RECORD)?;
     exactly(sample.len(), sample_len(layers))?;
+    record::Head::read(layers, record)?;
     let number = base_number(layers, number)?;
     let members = members(layers, number).into_iter().enumerate();
     let broken = members.filter(|&(index, (layer, symbol))| {
         let (holder, at) = match committed(layer, symbol) {
-            Committed::Root { at } => (root, at),
+            Committed::Root { at } => (record::root(record), at),
             Committed::Above { at, .. } => (symbol_at(sample, data_index(layers, layer - 1)), at),
         };
         sha256(symbol_at(sample, index)) != holder[at..at + HASH]

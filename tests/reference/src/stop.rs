@@ -1,5 +1,5 @@
 //! What stops a call, written from the section "What stops a call" of 01 and from
-//! CRs 1 and 4 of 02.
+//! CRs 1, 4 and 5 of 02.
 
 /// A cause, with the values that are returned beside its number.
 #[derive(Clone, Copy, Debug, PartialEq, Eq)]
@@ -26,6 +26,10 @@ pub enum Stop {
         layer: usize,
         symbol: usize,
     },
+    /// A record's head is out of form, or for another depth.
+    WrongRecord,
+    /// A table is not the one that the record names.
+    OtherTable,
 }
 
 impl Stop {
@@ -42,6 +46,8 @@ impl Stop {
             Stop::NoFault => (8, vec![]),
             Stop::Absent(index) => (9, vec![index]),
             Stop::Uncovered { layer, symbol } => (10, vec![layer, symbol]),
+            Stop::WrongRecord => (11, vec![]),
+            Stop::OtherTable => (12, vec![]),
         }
     }
 }

@@ -1,6 +1,7 @@
 //! The coded Merkle tree, written from the sections "Layers", "Parity table"
-//! and "What stops a call" of 01.
+//! and "What stops a call" of 01 and from CR 5 of 02.
 
+use crate::record::{Head, RECORD};
 use crate::sha256::sha256;
 use crate::stop::Stop;
 use crate::table::{self, byte_length, data_symbols, layers_of, Layers};
@@ -32,7 +33,7 @@ pub fn symbol_at(bytes: &[u8], index: usize) -> &[u8] {
     &bytes[SYMBOL * index..SYMBOL * (index + 1)]
 }
 
-/// The bytes of the block of a depth.
+/// The bytes of the longest block of a depth.
 pub fn block_len(depth: usize) -> usize {
     SYMBOL * data_symbols(depth - 1)
 }
@@ -65,30 +66,39 @@ pub fn committed_hash<'a>(root: &'a [u8], tree: &'a [u8], layer: usize, symbol: 
     }
 }
 
-/// Codes a block: fills the tree, its marks and its root.
+/// Codes a block: fills the tree, its marks and its record.
 pub fn write(
     depth: u64,
     table: &[u8],
     block: &[u8],
     tree: &mut [u8],
     marks: &mut [u8],
-    root: &mut [u8],
+    record: &mut [u8],
 ) -> Result<(), Stop> {
     let layers = layers_of(depth)?;
     byte_length(table)?;
-    exactly(block.len(), block_len(layers))?;
+    if block.len() > block_len(layers) {
+        return Err(Stop::Length);
+    }
     exactly(tree.len(), SYMBOL * tree_symbols(layers))?;
     exactly(marks.len(), tree_symbols(layers))?;
-    exactly(root.len(), ROOT)?;
+    exactly(record.len(), RECORD)?;
     let equations = table::equations(depth, table)?;
-    let coded = code_tree(&equations, block, |_, _| ());
-    tree.copy_from_slice(&coded.0);
-    root.copy_from_slice(&coded.1);
+    let (coded, root) = code_tree(&equations, &filled(layers, block), |_, _| ());
+    tree.copy_from_slice(&coded);
+    record.copy_from_slice(&Head::of(layers, block.len(), table).before(&root));
     marks.fill(1);
     Ok(())
 }
 
-/// The tree and the root of a block. The symbols of each layer, which are
+/// A block with zeros after it, up to the bytes of the longest.
+pub fn filled(depth: usize, block: &[u8]) -> Vec<u8> {
+    let mut filled = block.to_vec();
+    filled.resize(block_len(depth), 0);
+    filled
+}
+
+/// The tree and the root of a block that is filled up. The symbols of each layer, which are
 /// coded from the base up, go through `alter` before they are hashed.
 pub fn code_tree(
     equations: &Layers,
@@ -112,21 +122,32 @@ pub fn code_tree(
     (tree, root)
 }
 
-/// Copies the block out of a tree.
-pub fn read_block(depth: u64, tree: &[u8], marks: &[u8], block: &mut [u8]) -> Result<(), Stop> {
+/// Copies the block out of a tree, as many bytes as the record says.
+pub fn read_block(
+    depth: u64,
+    record: &[u8],
+    tree: &[u8],
+    marks: &[u8],
+    block: &mut [u8],
+) -> Result<(), Stop> {
     let layers = layers_of(depth)?;
+    exactly(record.len(), RECORD)?;
     exactly(tree.len(), SYMBOL * tree_symbols(layers))?;
     exactly(marks.len(), tree_symbols(layers))?;
     exactly(block.len(), block_len(layers))?;
+    let head = Head::read(layers, record)?;
     marks_in_form(marks)?;
     let base = layers - 1;
     if let Some(absent) = (0..data_symbols(base)).find(|&i| marks[place(base, i)] == 0) {
         return Err(Stop::Absent(absent));
     }
-    for (i, data) in block.chunks_mut(SYMBOL).enumerate() {
-        data.copy_from_slice(symbol_at(tree, place(base, i)));
-    }
+    block[..head.length].copy_from_slice(&base_data(layers, tree)[..head.length]);
     Ok(())
+}
+
+/// The bytes of the base's data symbols in order: the block, and what fills it up.
+pub fn base_data(depth: usize, tree: &[u8]) -> &[u8] {
+    &tree[SYMBOL * place(depth - 1, 0)..][..block_len(depth)]
 }
 
 /// A length is the one that it must be.

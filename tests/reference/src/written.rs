@@ -1,7 +1,8 @@
 //! Trees to test with.
 
+use crate::record::{self, Head, RECORD};
 use crate::table::{equations, house, listed, to_bytes, write as write_table, Layers};
-use crate::tree::{block_len, code_tree, tree_symbols, write, Symbol, ROOT, SYMBOL};
+use crate::tree::{block_len, code_tree, filled, tree_symbols, write, Symbol, SYMBOL};
 
 /// A written tree with the buffers that hold it.
 #[derive(Clone)]
@@ -10,7 +11,7 @@ pub struct Written {
     pub table: Vec<u8>,
     pub tree: Vec<u8>,
     pub marks: Vec<u8>,
-    pub root: Vec<u8>,
+    pub record: Vec<u8>,
 }
 
 impl Written {
@@ -21,13 +22,13 @@ impl Written {
             table: to_bytes(words),
             tree: vec![0xaa; SYMBOL * tree_symbols(depth)],
             marks: vec![0xbb; tree_symbols(depth)],
-            root: vec![0xcc; ROOT],
+            record: vec![0xcc; RECORD],
         }
     }
 
     pub fn new(depth: usize, words: &[u32], block: &[u8]) -> Written {
         let mut w = Written::lent(depth, words);
-        write(w.depth, &w.table, block, &mut w.tree, &mut w.marks, &mut w.root).unwrap();
+        write(w.depth, &w.table, block, &mut w.tree, &mut w.marks, &mut w.record).unwrap();
         w
     }
 
@@ -39,10 +40,24 @@ impl Written {
         alter: impl FnMut(usize, &mut [Symbol]),
     ) -> Written {
         let mut w = Written::new(depth, words, block);
-        let (tree, root) = code_tree(&w.equations(), block, alter);
+        let (tree, root) = code_tree(&w.equations(), &filled(depth, block), alter);
         w.tree = tree;
-        w.root = root;
+        w.record = Head::of(depth, block.len(), &w.table).before(&root);
         w
+    }
+
+    pub fn root(&self) -> &[u8] {
+        record::root(&self.record)
+    }
+
+    /// What the head says.
+    pub fn head(&self) -> Head {
+        Head::read(self.depth as usize, &self.record).unwrap()
+    }
+
+    /// Gives the record another head, and leaves its root.
+    pub fn put(&mut self, head: Head) {
+        self.record = head.before(self.root());
     }
 
     pub fn equations(&self) -> Layers {

@@ -1,5 +1,6 @@
 use super::*;
 use crate::table::{house, to_bytes, MAX_DEPTH};
+use crate::tree::ROOT;
 use crate::written::{block_of, cases_block, without, Written};
 
 /// The tree of 01's case 7.
@@ -22,7 +23,7 @@ fn proof_of(w: &Written, layer: usize, equation: usize, withheld: usize) -> Vec<
 }
 
 fn check_of(w: &Written, proof: &[u8]) -> Result<(), Stop> {
-    check(w.depth, &w.root, &w.table, proof)
+    check(w.depth, &w.record, &w.table, proof)
 }
 
 #[test]
@@ -132,11 +133,11 @@ fn a_damaged_root() {
     let w = case_7();
     let proof = proof_of(&w, 0, 3, 7);
     for hash in 0..16 {
-        let mut root = w.root.clone();
-        root[HASH * hash + 31 - hash] ^= 0x80;
+        let mut record = w.record.clone();
+        record[record::HEAD + HASH * hash + 31 - hash] ^= 0x80;
         let given = [0, 3, 6].iter().position(|&member| member == hash);
         let expected = given.map_or(Ok(()), |position| breaks_in(0, position));
-        assert_eq!(check(1, &root, &w.table, &proof), expected);
+        assert_eq!(check(1, &record, &w.table, &proof), expected);
     }
 }
 
@@ -174,30 +175,36 @@ fn tests_in_their_order() {
     let w = case_7();
     let proof = proof_of(&w, 0, 3, 7);
     let no_table = to_bytes(&house(2));
-    let check = |depth, root: &[u8], table: &[u8], proof: &[u8]| check(depth, root, table, proof);
-    assert_eq!(check(1 << 32 | 1, &w.root[1..], &[1], &[]), Err(Stop::Depth));
-    assert_eq!(check(1, &w.root[1..], &w.table, &proof), Err(Stop::Length));
-    assert_eq!(check(1, &w.root, &no_table[1..], &proof), Err(Stop::Length));
-    assert_eq!(check(1, &w.root, &no_table, &proof[..11]), Err(Stop::Length));
-    assert_eq!(check(1, &w.root, &no_table, &[0; 12]), Err(Stop::Word(60)));
+    assert_eq!(check(1 << 32 | 1, &w.record[1..], &[1], &[]), Err(Stop::Depth));
+    assert_eq!(check(1, &w.record[1..], &w.table, &proof), Err(Stop::Length));
+    assert_eq!(check(1, &w.record, &no_table[1..], &proof), Err(Stop::Length));
+    assert_eq!(check(1, &w.record, &no_table, &proof[..11]), Err(Stop::Length));
+    assert_eq!(check(1, &w.record, &no_table, &[0; 12]), Err(Stop::Word(60)));
     let uncovered = to_bytes(&without(1, 0, 3));
     let stop = Err(Stop::Uncovered { layer: 0, symbol: 3 });
-    assert_eq!(check(1, &w.root, &uncovered, &[0; 11]), Err(Stop::Length));
-    assert_eq!(check(1, &w.root, &uncovered[..40], &[0; 12]), Err(Stop::Word(10)));
-    assert_eq!(check(1, &w.root, &uncovered, &[0; 12]), stop);
-    assert_eq!(check(1, &w.root, &uncovered, &proof), stop);
-    assert_eq!(check(1, &w.root, &w.table, &[0; 12]), Err(Stop::Head));
-    assert_eq!(check(1, &w.root, &w.table, &[0; 780]), Err(Stop::Head));
-    assert_eq!(check(1, &w.root, &w.table, &proof[..12]), Err(Stop::Length));
-    assert_eq!(check(1, &w.root, &w.table, &[&proof[..], &[0]].concat()), Err(Stop::Length));
-    assert_eq!(check(1, &[0; ROOT], &w.table, &proof), breaks_in(0, 0));
+    assert_eq!(check(1, &w.record, &uncovered, &[0; 11]), Err(Stop::Length));
+    assert_eq!(check(1, &w.record, &uncovered[..40], &[0; 12]), Err(Stop::Word(10)));
+    assert_eq!(check(1, &w.record, &uncovered, &[0; 12]), stop);
+    assert_eq!(check(1, &w.record, &uncovered, &proof), stop);
+    assert_eq!(check(1, &w.record, &w.table, &[0; 12]), Err(Stop::Head));
+    assert_eq!(check(1, &w.record, &w.table, &[0; 780]), Err(Stop::Head));
+    assert_eq!(check(1, &w.record, &w.table, &proof[..12]), Err(Stop::Length));
+    assert_eq!(check(1, &w.record, &w.table, &[&proof[..], &[0]].concat()), Err(Stop::Length));
+    let no_root = w.head().before(&[0; ROOT]);
+    assert_eq!(check(1, &no_root, &w.table, &proof), breaks_in(0, 0));
 }
 
-/// The root says nothing of the depth.
+/// A record says its depth: a proof that another depth's upper layers would show is not looked
+/// at there.
 #[test]
-fn a_proof_passes_at_another_depth_with_the_same_upper_layers() {
+fn a_proof_is_for_the_depth_of_its_record() {
     let w = replaced(2, 1, 8);
     let proof = proof_of(&w, 1, 0, 8);
-    assert_eq!(check(3, &w.root, &to_bytes(&house(3)), &proof), Ok(()));
-    assert_eq!(check(1, &w.root, &to_bytes(&house(1)), &proof), Err(Stop::Head));
+    assert_eq!(check_of(&w, &proof), Ok(()));
+    let deeper = to_bytes(&house(3));
+    for table in [&w.table, &deeper] {
+        assert_eq!(check(3, &w.record, table, &proof), Err(Stop::WrongRecord));
+    }
+    let record = record::Head::of(3, 0, &deeper).before(w.root());
+    assert_eq!(check(3, &record, &deeper, &proof), Ok(()));
 }

@@ -1,6 +1,8 @@
 use super::*;
 use crate::proof::check;
-use crate::table::{house, to_bytes, write as write_table};
+use crate::record::Head as RecordHead;
+use crate::table::{data_symbols, house, to_bytes, write as write_table};
+use crate::tree::{block_len, ROOT};
 use crate::written::{block_of, cases_block, without, Written};
 
 const LENT: u8 = 0xdd;
@@ -8,7 +10,7 @@ const LENT: u8 = 0xdd;
 /// Repairs a tree, and gives its output too.
 fn repaired(w: &mut Written) -> (Result<Repaired, Stop>, Vec<u8>) {
     let mut output = vec![LENT; output_len(w.depth as usize)];
-    let result = repair(w.depth, &w.root, &w.table, &mut w.tree, &mut w.marks, &mut output);
+    let result = repair(w.depth, &w.record, &w.table, &mut w.tree, &mut w.marks, &mut output);
     (result, output)
 }
 
@@ -82,7 +84,7 @@ fn a_miscoded_symbol() {
         let (result, output) = repaired(&mut w);
         assert_eq!(result, Ok(Repaired { end: End::Fault(780), stored: 0 }));
         assert_eq!(output[..HEAD], [0x40, 0, 0, 0, 0x80, 0, 0, 3, 0xc0, 0, 0, 7]);
-        assert_eq!(check(1, &w.root, &w.table, &output[..780]), Ok(()));
+        assert_eq!(check(1, &w.record, &w.table, &output[..780]), Ok(()));
         assert!(output[780..].iter().all(|&byte| byte == LENT));
         assert_eq!(symbol_at(&w.tree, 7), if held { [1; SYMBOL] } else { [0; SYMBOL] });
         assert_eq!(w.marks[7], u8::from(held));
@@ -154,7 +156,7 @@ fn faults_of_each_layer() {
                 let (result, output) = repaired(&mut w);
                 let len = proof::proof_len(layer, 3);
                 assert_eq!(result, Ok(Repaired { end: End::Fault(len), stored: 0 }));
-                assert_eq!(check(w.depth, &w.root, &w.table, &output[..len]), Ok(()));
+                assert_eq!(check(w.depth, &w.record, &w.table, &output[..len]), Ok(()));
                 let withheld = lost.map_or(k, |lost| lost - place(layer, 0));
                 let head = Head { layer, equation: 0, withheld };
                 assert_eq!(output[..HEAD], head.bytes());
@@ -220,7 +222,7 @@ fn equations_are_taken_in_the_order_of_a_plain_search() {
             let results = [true, false].map(|plain| {
                 let mut w = w.clone();
                 let mut output = vec![LENT; output_len(depth)];
-                let (root, tree, marks) = (&w.root, &mut w.tree, &mut w.marks);
+                let (root, tree, marks) = (record::root(&w.record), &mut w.tree, &mut w.marks);
                 let mut repair =
                     Repair { hash: sha256, root, tree, marks, output: &mut output, stored: 0 };
                 repair.sweep(base);
@@ -255,10 +257,86 @@ fn twins_of_a_poor_hash() {
     let (root, hash) = ([0; ROOT], |_: &[u8]| [0; HASH]);
     let Written { tree, marks, .. } = &mut w;
     let mut repair = Repair { hash, root: &root, tree, marks, output: &mut output, stored: 0 };
-    assert_eq!(repair.run(&layers), End::Twins);
+    // Its block is not zero either.
+    assert_eq!(repair.ended(&layers, 0), End::Twins);
     assert_eq!(repair.stored, 1);
     assert_eq!(output[..2 * SYMBOL], [[0x66; SYMBOL], [0x04 ^ 0x08 ^ 0x05; SYMBOL]].concat());
     assert!(output[2 * SYMBOL..].iter().all(|&byte| byte == LENT));
+}
+
+/// The tree of a block that is zero from a byte on, but for one byte, and whose record says
+/// this length.
+fn misfilled(depth: usize, length: usize, but: Option<usize>) -> Written {
+    let mut block = block_of(depth);
+    block[length..].fill(0);
+    but.into_iter().for_each(|at| block[at] = 0x80);
+    let mut w = Written::new(depth, &house(depth), &block);
+    w.put(RecordHead { length, ..w.head() });
+    w
+}
+
+/// Lengths of a block: none, beside the ends of a symbol, beside the longest.
+fn lengths(depth: usize) -> [usize; 7] {
+    let longest = block_len(depth);
+    [0, 1, 255, 256, 257, longest - 1, longest]
+}
+
+/// Losses that come back, by their places: none, a data symbol of the base and its last, its
+/// first parity symbol and one of the top.
+fn losses(depth: usize) -> [Vec<usize>; 3] {
+    let base = depth - 1;
+    let k = data_symbols(base);
+    [vec![], vec![place(base, 1), place(base, k - 1)], vec![2, place(base, k)]]
+}
+
+/// Zero, and one other byte: the first that fills up, a middle one, the last.
+#[test]
+fn what_fills_up_must_be_zero() {
+    for depth in 1..=4 {
+        for (length, last) in lengths(depth).map(|length| (length, block_len(depth) - 1)) {
+            let others = [length, (length + last) / 2, last].map(Some);
+            for but in [None].into_iter().chain(others).filter(|_| length <= last) {
+                let right = misfilled(depth, length, but);
+                let end = but.map_or(End::Whole, |_| End::Misfilled);
+                for lost in losses(depth) {
+                    let mut w = right.clone();
+                    lose(&mut w, &lost);
+                    let (result, output) = repaired(&mut w);
+                    assert_eq!(result, Ok(Repaired { end, stored: lost.len() }));
+                    assert!(w.tree == right.tree && w.marks == right.marks);
+                    assert!(output.iter().all(|&byte| byte == LENT));
+                }
+            }
+        }
+        let mut w = written(depth);
+        assert_eq!(repaired(&mut w).0, Ok(Repaired { end: End::Whole, stored: 0 }));
+    }
+}
+
+/// The byte before what fills up may be any.
+#[test]
+fn the_last_byte_of_a_block_does_not_fill_up() {
+    for length in [1, 255, 256, 257, 1024] {
+        let mut w = misfilled(1, length, Some(length - 1));
+        assert_eq!(repaired(&mut w).0, Ok(Repaired { end: End::Whole, stored: 0 }));
+    }
+}
+
+/// Where a repair is not whole, what fills up is not looked at.
+#[test]
+fn other_ends_of_misfilled_trees() {
+    let right = misfilled(2, 256, Some(2047));
+    let mut w = right.clone();
+    lose(&mut w, &(16..48).collect::<Vec<_>>());
+    assert_eq!(repaired(&mut w).0, Ok(Repaired { end: End::Unavailable(1), stored: 0 }));
+    let mut w = Written::altered(2, &house(2), &block_of(2), |layer, symbols| {
+        if layer == 1 {
+            symbols[8][0] ^= 1;
+        }
+    });
+    w.put(RecordHead { length: 256, ..w.head() });
+    let len = proof::proof_len(1, 3);
+    assert_eq!(repaired(&mut w).0, Ok(Repaired { end: End::Fault(len), stored: 0 }));
 }
 
 /// A table that is not covered, and a mark that is none: 10 comes first, and
@@ -277,18 +355,18 @@ fn uncovered_tables_are_not_repaired_by() {
     }
 }
 
-/// What a repair stops with for these lengths of root, table, tree, marks and
+/// What a repair stops with for these lengths of record, table, tree, marks and
 /// output at depth 1, and for these marks. A table of another length is none.
 fn stop_of(depth: u64, lens: [usize; 5], mark: u8) -> Option<Stop> {
     let mut w = cases_tree();
     let mut output = vec![LENT; lens[4]];
-    w.root.resize(lens[0], 0);
+    w.record.resize(lens[0], 0);
     w.table.resize(lens[1], 0);
     w.tree.resize(lens[2], 0);
     w.marks.resize(lens[3], 1);
     w.marks[9] = mark;
     let before = w.clone();
-    let result = repair(depth, &w.root, &w.table, &mut w.tree, &mut w.marks, &mut output);
+    let result = repair(depth, &w.record, &w.table, &mut w.tree, &mut w.marks, &mut output);
     if result.is_err() {
         assert!(w.tree == before.tree && w.marks == before.marks);
         assert!(output.iter().all(|&byte| byte == LENT));
@@ -298,11 +376,11 @@ fn stop_of(depth: u64, lens: [usize; 5], mark: u8) -> Option<Stop> {
 
 #[test]
 fn tests_in_their_order() {
-    let right = [512, 244, 4096, 16, output_len(1)];
+    let right = [556, 244, 4096, 16, output_len(1)];
     assert_eq!(output_len(1), 1804);
     assert_eq!(stop_of(1, right, 1), None);
     assert_eq!(stop_of(1, right, 2), Some(Stop::Mark(9)));
-    assert_eq!(stop_of(1, [512, 240, 4096, 16, 1804], 2), Some(Stop::Word(60)));
+    assert_eq!(stop_of(1, [556, 240, 4096, 16, 1804], 2), Some(Stop::Word(60)));
     for buffer in 0..5 {
         for other in [right[buffer] - 1, right[buffer] + 1] {
             let mut lens = right;

@@ -1,5 +1,7 @@
 use super::*;
+use crate::record::HEAD;
 use crate::table::{house, MAX_DEPTH};
+use crate::tree::ROOT;
 use crate::written::{block_of, Written};
 
 /// The depths that there are.
@@ -44,10 +46,10 @@ fn samples_of_a_written_tree_pass() {
         let w = written(depth);
         for number in 0..symbols(depth - 1) {
             let sample = sample_of(&w, depth, number);
-            assert_eq!(check(depth as u64, number as u64, &w.root, &sample), Ok(()));
+            assert_eq!(check(depth as u64, number as u64, &w.record, &sample), Ok(()));
         }
         let (n, sample) = (symbols(depth - 1), vec![0; sample_len(depth)]);
-        assert_eq!(check(depth as u64, n as u64, &w.root, &sample), Err(Stop::Number));
+        assert_eq!(check(depth as u64, n as u64, &w.record, &sample), Err(Stop::Number));
     }
 }
 
@@ -73,7 +75,7 @@ fn a_damaged_sample_is_refused() {
             let expected = if members.iter().any(holds) { layer + 1 } else { layer };
             let mut damaged = sample.clone();
             damaged[at] ^= 1 << (at % 8);
-            let result = check(depth as u64, number as u64, &w.root, &damaged);
+            let result = check(depth as u64, number as u64, &w.record, &damaged);
             assert_eq!(result, breaks_in(expected));
         }
     }
@@ -89,7 +91,7 @@ fn first_broken_layer_going_up() {
     let check_with = |bytes: &[(usize, usize)]| {
         let mut damaged = sample.clone();
         bytes.iter().for_each(|&(index, byte)| damaged[SYMBOL * index + byte] ^= 1);
-        check(3, 61, &w.root, &damaged)
+        check(3, 61, &w.record, &damaged)
     };
     let (base, data, parity, top_data, top_parity) = (0, 1, 2, 3, 4);
     assert_eq!(check_with(&[(base, 0)]), breaks_in(2));
@@ -113,8 +115,8 @@ fn a_damaged_root() {
     let w = written(2);
     let sample = sample_of(&w, 2, 31);
     for at in 0..ROOT {
-        let mut damaged = w.root.clone();
-        damaged[at] ^= 0x10;
+        let mut damaged = w.record.clone();
+        damaged[HEAD + at] ^= 0x10;
         let counts = at / HASH == 3 || at / HASH == 11;
         let expected = if counts { breaks_in(0) } else { Ok(()) };
         assert_eq!(check(2, 31, &damaged, &sample), expected);
@@ -148,10 +150,10 @@ fn tests_of_the_check_in_their_order() {
     let w = written(2);
     let mut sample = sample_of(&w, 2, 31);
     sample[0] ^= 1;
-    assert_eq!(check(2, 31, &w.root, &sample), breaks_in(1));
-    assert_eq!(check(2, 32, &w.root, &sample), Err(Stop::Number));
-    assert_eq!(check(2, 1 << 32 | 31, &w.root, &sample), Err(Stop::Number));
-    assert_eq!(check(2, 32, &w.root[1..], &sample), Err(Stop::Length));
-    assert_eq!(check(2, 32, &w.root, &sample[1..]), Err(Stop::Length));
-    assert_eq!(check(0, 32, &w.root, &sample[1..]), Err(Stop::Depth));
+    assert_eq!(check(2, 31, &w.record, &sample), breaks_in(1));
+    assert_eq!(check(2, 32, &w.record, &sample), Err(Stop::Number));
+    assert_eq!(check(2, 1 << 32 | 31, &w.record, &sample), Err(Stop::Number));
+    assert_eq!(check(2, 32, &w.record[1..], &sample), Err(Stop::Length));
+    assert_eq!(check(2, 32, &w.record, &sample[1..]), Err(Stop::Length));
+    assert_eq!(check(0, 32, &w.record, &sample[1..]), Err(Stop::Depth));
 }

@@ -16,9 +16,9 @@ fn symbols_of_the_cases_tree() {
 fn depths() {
     for depth in [0, 10, 1 << 32 | 1, 1 << 32 | 9, u64::MAX] {
         let mut w = Written::lent(1, &house(1));
-        let stop = write(depth, &w.table, &cases_block(), &mut w.tree, &mut w.marks, &mut w.root);
+        let stop = write(depth, &w.table, &cases_block(), &mut w.tree, &mut w.marks, &mut w.record);
         assert_eq!(stop, Err(Stop::Depth));
-        assert_eq!(read_block(depth, &w.tree, &w.marks, &mut [0; 3]), Err(Stop::Depth));
+        assert_eq!(read_block(depth, &[], &w.tree, &w.marks, &mut [0; 3]), Err(Stop::Depth));
     }
     assert_eq!([tree_symbols(5), tree_symbols(9)], [496, 8176]);
     assert_eq!(data_symbols(8), 1024);
@@ -53,12 +53,12 @@ fn written_trees_are_correctly_coded() {
             }
             for symbol in 0..symbols(layer) {
                 let hash = sha256(symbol_at(&w.tree, place(layer, symbol)));
-                assert_eq!(hash, committed_hash(&w.root, &w.tree, layer, symbol));
+                assert_eq!(hash, committed_hash(w.root(), &w.tree, layer, symbol));
             }
         }
         assert!(w.marks.iter().all(|&mark| mark == 1));
         let mut back = vec![0; block.len()];
-        read_block(depth as u64, &w.tree, &w.marks, &mut back).unwrap();
+        read_block(depth as u64, &w.record, &w.tree, &w.marks, &mut back).unwrap();
         assert_eq!(back, block);
     }
 }
@@ -81,7 +81,7 @@ fn roots_by_another_implementation() {
     assert_eq!(expected.len() as u64, MAX_DEPTH);
     for (depth, expected) in (1..).zip(expected) {
         let w = Written::new(depth, &house(depth), &block_of(depth));
-        let digest: String = sha256(&w.root).iter().map(|byte| format!("{byte:02x}")).collect();
+        let digest: String = sha256(w.root()).iter().map(|byte| format!("{byte:02x}")).collect();
         assert_eq!(digest, expected);
     }
 }
@@ -97,25 +97,27 @@ fn the_table_decides_the_parity() {
 }
 
 /// What the writer stops with for these lengths of table, block, tree, marks
-/// and root at depth 1. A table of another length is no table.
+/// and record at depth 1. A table of another length is no table.
 fn stop_of(depth: u64, lens: [usize; 5]) -> Option<Stop> {
     let mut table = to_bytes(&house(1));
     table.resize(lens[0], 0);
     let mut tree = vec![1; lens[2]];
     let mut marks = vec![2; lens[3]];
-    let mut root = vec![3; lens[4]];
-    let result = write(depth, &table, &vec![0; lens[1]], &mut tree, &mut marks, &mut root);
+    let mut record = vec![3; lens[4]];
+    let result = write(depth, &table, &vec![0; lens[1]], &mut tree, &mut marks, &mut record);
     if result.is_err() {
         let kept = tree.iter().all(|&b| b == 1) && marks.iter().all(|&b| b == 2);
-        assert!(kept && root.iter().all(|&b| b == 3));
+        assert!(kept && record.iter().all(|&b| b == 3));
     }
     result.err()
 }
 
 #[test]
 fn tests_of_the_writer_in_their_order() {
-    let right = [244, 1024, 4096, 16, 512];
-    assert_eq!(stop_of(1, right), None);
+    let right = [244, 1024, 4096, 16, 556];
+    for block in [0, 1, 255, 256, 257, 1023, 1024] {
+        assert_eq!(stop_of(1, [244, block, 4096, 16, 556]), None);
+    }
     for buffer in 0..5 {
         let mut lens = right;
         lens[buffer] += 1;
@@ -125,7 +127,8 @@ fn tests_of_the_writer_in_their_order() {
         let last = if buffer == 0 { Stop::Word(61) } else { Stop::Length };
         assert_eq!(stop_of(1, lens), Some(last));
     }
-    assert_eq!(stop_of(1, [0, 1024, 4096, 16, 512]), Some(Stop::Word(0)));
+    assert_eq!(stop_of(1, [0, 1024, 4096, 16, 556]), Some(Stop::Word(0)));
+    assert_eq!(stop_of(1, [244, 1024, 4096, 16, 512]), Some(Stop::Length));
 }
 
 /// A table that is not covered: the buffers stay as they are.
@@ -134,16 +137,16 @@ fn uncovered_tables_are_not_written_by() {
     let lent = Written::lent(2, &without(2, 1, 5));
     let mut w = lent.clone();
     let block = block_of(2);
-    let result = write(2, &w.table, &block, &mut w.tree, &mut w.marks, &mut w.root);
+    let result = write(2, &w.table, &block, &mut w.tree, &mut w.marks, &mut w.record);
     assert_eq!(result, Err(Stop::Uncovered { layer: 1, symbol: 5 }));
-    assert!(w.tree == lent.tree && w.marks == lent.marks && w.root == lent.root);
+    assert!(w.tree == lent.tree && w.marks == lent.marks && w.record == lent.record);
 }
 
 #[test]
 fn tests_of_reading_back_in_their_order() {
     let w = Written::new(2, &house(2), &block_of(2));
     let mut block = vec![7; block_len(2)];
-    let mut read = |marks: &[u8]| read_block(2, &w.tree, marks, &mut block);
+    let mut read = |marks: &[u8]| read_block(2, &w.record, &w.tree, marks, &mut block);
     let mut marks = w.marks.clone();
     marks[place(1, 8)] = 0;
     marks[place(0, 3)] = 0;
@@ -156,6 +159,52 @@ fn tests_of_reading_back_in_their_order() {
     marks[5] = 2;
     assert_eq!(read(&marks), Err(Stop::Mark(5)));
     assert_eq!(read(&marks[1..]), Err(Stop::Length));
-    assert_eq!(read_block(2, &w.tree, &marks, &mut [0; 2047]), Err(Stop::Length));
-    assert_eq!(read_block(2, &w.tree[1..], &marks, &mut [0; 2048]), Err(Stop::Length));
+    let record = &w.record;
+    assert_eq!(read_block(2, record, &w.tree, &marks, &mut [0; 2047]), Err(Stop::Length));
+    assert_eq!(read_block(2, record, &w.tree[1..], &marks, &mut [0; 2048]), Err(Stop::Length));
+    assert_eq!(read_block(2, w.root(), &w.tree, &marks, &mut [0; 2048]), Err(Stop::Length));
+}
+
+/// Lengths of a block: none, beside the ends of a symbol, beside the longest.
+fn lengths(depth: usize) -> [usize; 7] {
+    let longest = block_len(depth);
+    [0, 1, 255, 256, 257, longest - 1, longest]
+}
+
+/// A shorter block gives the tree of the same block with zeros after it, and its own length.
+#[test]
+fn blocks_are_filled_up_with_zeros() {
+    for depth in 1..=5 {
+        for length in lengths(depth) {
+            let block = &block_of(depth)[..length];
+            let w = Written::new(depth, &house(depth), block);
+            let full = Written::new(depth, &house(depth), &filled(depth, block));
+            assert!(w.tree == full.tree && w.marks == full.marks && w.root() == full.root());
+            assert_eq!(base_data(depth, &w.tree)[..length], *block);
+            assert!(base_data(depth, &w.tree)[length..].iter().all(|&byte| byte == 0));
+            assert_eq!(w.head(), Head { length, ..full.head() });
+            assert_eq!(w.head(), Head::of(depth, length, &w.table));
+        }
+    }
+}
+
+/// Whatever the length and what fills up, the first bytes come back, and no other is touched.
+#[test]
+fn as_many_bytes_as_the_record_says() {
+    for depth in 1..=5 {
+        let mut w = Written::new(depth, &house(depth), &block_of(depth));
+        for length in lengths(depth) {
+            w.put(Head { length, words: 9, hash: [9; HASH], ..w.head() });
+            let mut block = vec![0xdd; block_len(depth)];
+            read_block(depth as u64, &w.record, &w.tree, &w.marks, &mut block).unwrap();
+            assert_eq!(block[..length], block_of(depth)[..length]);
+            assert!(block[length..].iter().all(|&byte| byte == 0xdd));
+            // A symbol that holds none of the block is needed too.
+            let mut marks = w.marks.clone();
+            marks[place(depth - 1, data_symbols(depth - 1) - 1)] = 0;
+            let stop = Stop::Absent(data_symbols(depth - 1) - 1);
+            let read = read_block(depth as u64, &w.record, &w.tree, &marks, &mut block);
+            assert_eq!(read, Err(stop));
+        }
+    }
 }

@@ -1,0 +1,84 @@
+//! The root record, written from CR 5 of 02.
+
+use crate::sha256::sha256;
+use crate::stop::Stop;
+use crate::table::{to_bytes, word, END, EQUATION, LAYER};
+use crate::tree::{block_len, HASH, ROOT};
+
+/// The bytes of a head, which is three words and a hash, and of a record.
+pub const HEAD: usize = 12 + HASH;
+pub const RECORD: usize = HEAD + ROOT;
+
+/// The kinds of the three words.
+pub const KINDS: [u32; 3] = [LAYER, EQUATION, END];
+
+/// What a head says.
+#[derive(Clone, Copy, Debug, PartialEq, Eq)]
+pub struct Head {
+    pub depth: usize,
+    /// The bytes of the block.
+    pub length: usize,
+    /// The words of the table, its end word too.
+    pub words: usize,
+    /// The SHA-256 of the table.
+    pub hash: [u8; HASH],
+}
+
+impl Head {
+    /// The head for a block of so many bytes and the table that codes it.
+    pub fn of(depth: usize, length: usize, table: &[u8]) -> Head {
+        Head { depth, length, words: table.len() / 4, hash: sha256(table) }
+    }
+
+    /// The head of a record of at least as many bytes as a head has, where it is in form for a
+    /// depth.
+    pub fn read(depth: usize, record: &[u8]) -> Result<Head, Stop> {
+        let mut hash = [0; HASH];
+        hash.copy_from_slice(&record[12..HEAD]);
+        let [first, second, third] = [0, 1, 2].map(|index| value(record, index));
+        let head = Head { depth: first?, length: second?, words: third?, hash };
+        if head.depth != depth || head.length > block_len(depth) {
+            return Err(Stop::WrongRecord);
+        }
+        Ok(head)
+    }
+
+    pub fn bytes(self) -> Vec<u8> {
+        let values = [self.depth, self.length, self.words];
+        let words: Vec<u32> = KINDS.into_iter().zip(values).map(|(k, v)| word(k, v)).collect();
+        [to_bytes(&words), self.hash.to_vec()].concat()
+    }
+
+    /// The record with this head and a root.
+    pub fn before(self, root: &[u8]) -> Vec<u8> {
+        [&self.bytes(), root].concat()
+    }
+
+    /// A table has as many words as the head says, and the hash.
+    pub fn names(self, table: &[u8]) -> Result<(), Stop> {
+        if table.len() == 4 * self.words && sha256(table) == self.hash {
+            Ok(())
+        } else {
+            Err(Stop::OtherTable)
+        }
+    }
+}
+
+/// The root inside a record: the hashes of layer 0.
+pub fn root(record: &[u8]) -> &[u8] {
+    &record[HEAD..]
+}
+
+/// The value of a word of the head, which must have its kind.
+fn value(record: &[u8], index: usize) -> Result<usize, Stop> {
+    let b = &record[4 * index..4 * index + 4];
+    let word = u32::from_be_bytes([b[0], b[1], b[2], b[3]]);
+    if word >> 30 == KINDS[index] {
+        Ok((word & 0x3fff_ffff) as usize)
+    } else {
+        Err(Stop::WrongRecord)
+    }
+}
+
+#[cfg(test)]
+mod tests;
