@@ -9,6 +9,7 @@ use crate::random::Random;
 use crate::results::values;
 use cedunmi_sys::{Lent, Word};
 use reference::stop::Stop;
+use reference::tree::SYMBOL;
 
 pub struct Call {
     /// Its name in the header, after `cmt_`.
@@ -65,6 +66,8 @@ pub enum Argument {
 pub enum Length {
     /// The one that the size asks for.
     Of(fn(usize) -> usize),
+    /// Any up to the one that the size has.
+    UpTo(fn(usize) -> usize),
     /// Any multiple of a step, from the least to the most.
     Within { least: usize, most: usize, step: usize },
 }
@@ -174,17 +177,27 @@ impl Length {
     pub fn fits(self, size: Option<usize>, len: usize) -> bool {
         match self {
             Length::Of(right) => size.map_or(true, |size| len == right(size)),
+            Length::UpTo(most) => size.map_or(true, |size| len <= most(size)),
             Length::Within { least, most, step } => {
                 (least..=most).contains(&len) && len % step == 0
             }
         }
     }
 
+    /// The right lengths that are limits.
+    pub fn limits(self, size: usize) -> Vec<usize> {
+        match self {
+            Length::Of(_) => vec![],
+            Length::UpTo(most) => vec![0, most(size)],
+            Length::Within { least, most, .. } => vec![least, most],
+        }
+    }
+
     /// The longest right length that is not longer, if there is one.
     pub fn cut(self, size: Option<usize>, len: usize) -> usize {
         match (self, size) {
-            (Length::Of(right), Some(size)) => len.min(right(size)),
-            (Length::Of(_), None) => len,
+            (Length::Of(most) | Length::UpTo(most), Some(size)) => len.min(most(size)),
+            (Length::Of(_) | Length::UpTo(_), None) => len,
             (Length::Within { most, step, .. }, _) => len.min(most) / step * step,
         }
     }
@@ -193,6 +206,10 @@ impl Length {
     pub fn edges(self, sizes: &[usize]) -> Vec<usize> {
         match self {
             Length::Of(right) => sizes.iter().map(|&size| right(size)).collect(),
+            Length::UpTo(most) => {
+                let near = |&size: &usize| [most(size) - 1, most(size), most(size) + 1];
+                sizes.iter().flat_map(near).chain([1, SYMBOL - 1, SYMBOL, SYMBOL + 1]).collect()
+            }
             Length::Within { least, most, step } => {
                 let near = |limit: usize| [limit.wrapping_sub(1), limit, limit.wrapping_add(1)];
                 let beyond = (1..step).map(|more| least + more).chain([most.wrapping_add(step)]);
@@ -202,9 +219,12 @@ impl Length {
         }
     }
 
-    /// Gives a buffer another length than it may have.
-    pub fn spoil(self, buffer: &mut Vec<u8>, random: &mut Random) {
+    /// Gives a buffer another length than it may have at a size.
+    pub fn spoil(self, size: usize, buffer: &mut Vec<u8>, random: &mut Random) {
         match self {
+            Length::UpTo(most) => {
+                buffer.resize(most(size) + [1, SYMBOL, most(size)][random.below(3)], 1)
+            }
             Length::Within { least, .. } if least > 0 => buffer.truncate(random.below(least)),
             Length::Within { most, step: 1, .. } => buffer.resize(most + 1, 1),
             _ if random.below(2) == 0 || buffer.pop().is_none() => buffer.push(1),

@@ -1,6 +1,8 @@
 //! What a call is lent.
 
 use crate::call::{Call, Length};
+use crate::records;
+use reference::record::Head;
 use reference::table::{house, to_bytes};
 use std::ops::{Index, IndexMut};
 
@@ -69,14 +71,17 @@ impl Input {
     }
 
     /// Gives buffers the lengths of a size, whether there is that size or not, and
-    /// the call a table of it.
+    /// the call a table of it and a record of that.
     pub fn make_for(&mut self, size: usize) {
         for (buffer, bytes) in self.call.buffers().zip(&mut self.buffers) {
             match buffer.length {
-                Length::Of(right) => bytes.resize(right(size), 1),
+                Length::Of(right) | Length::UpTo(right) => bytes.resize(right(size), 1),
                 Length::Within { .. } if buffer.name == "table" => *bytes = to_bytes(&house(size)),
                 Length::Within { .. } => {}
             }
+        }
+        if records::is_lent(self.call) {
+            records::put_head(self, &Head::of(size, 0, &to_bytes(&house(size))));
         }
     }
 

@@ -19,6 +19,7 @@ mod mutants;
 mod programs;
 pub mod proofs;
 pub mod random;
+pub mod records;
 pub mod repairs;
 pub mod results;
 pub mod samples;

@@ -15,17 +15,20 @@ use crate::comparisons::Comparisons;
 use crate::difference::Compared;
 use crate::input::Input;
 use crate::random::Random;
+use crate::records::heads::RECORD;
+use crate::records::named::NAMED;
+use crate::records::{root, RECORD_LEN};
 use crate::results::number;
 use crate::stops::{DEEP, DEPTH, DEPTHS, LENGTHS};
 use crate::tables::cover::COVER;
 use crate::tables::{TABLE_LEN, WORDS};
-use crate::trees::ROOT_LEN;
 use crate::volumes::{equation_of, Volume};
 use reference::proof::{self, hash_for, proof_len, Head, HEAD};
+use reference::record;
 use reference::sha256::sha256;
 use reference::stop::Stop;
 use reference::table::{self, to_words, Layers, END, EQUATION, LAYER};
-use reference::tree::{exactly, exclusive_or, symbol_at, ROOT, SYMBOL};
+use reference::tree::{exactly, exclusive_or, symbol_at, SYMBOL};
 use std::cell::RefCell;
 use std::rc::Rc;
 
@@ -34,17 +37,17 @@ pub static PROOF_CHECK: Call = Call {
     sizes: &DEPTHS,
     arguments: &[
         Number("depth"),
-        Read("root", ROOT_LEN),
+        Read("record", RECORD_LEN),
         Read("table", TABLE_LEN),
         Read("proof", Length::Within { least: HEAD, most: usize::MAX, step: 1 }),
     ],
-    tests: &[DEPTH, LENGTHS, WORDS, COVER, HEADS, BODIES, HASHES, FAULT],
+    tests: &[DEPTH, LENGTHS, RECORD, WORDS, COVER, NAMED, HEADS, BODIES, HASHES, FAULT],
     apart: &[(3, 7), (3, 8)],
     good: |depth, random| {
         let layer = random.below(depth);
         of_fault(depth, layer, random).0
     },
-    reference: |i| number(proof::check(i.number("depth"), &i["root"], &i["table"], &i["proof"])),
+    reference: |i| number(proof::check(i.number("depth"), &i["record"], &i["table"], &i["proof"])),
     own: &[
         shown::longest_proofs,
         heads::heads_before_bodies,
@@ -78,6 +81,8 @@ pub static PROOF_CHECK: Call = Call {
         ("7", 10_000),
         ("8", 5000),
         ("10", 1000),
+        ("11", 1000),
+        ("12", 2000),
         ("nothing damaged", 300),
         ("a symbol damaged", 3000),
         ("one of some copies", 1000),
@@ -94,6 +99,8 @@ pub static PROOF_CHECK: Call = Call {
         ("7", 2000),
         ("8", 200),
         ("10", 50),
+        ("11", 150),
+        ("12", 150),
         ("nothing damaged", 200),
         ("a symbol damaged", 1600),
         ("two symbols damaged", 100),
@@ -137,7 +144,7 @@ const BODIES: Test = Test {
 const HASHES: Test = Test {
     number: 7,
     ask: |i| match (table(i), cut(i)) {
-        (Some(table), Some((cut, ..))) => match proof::judge(&table, &cut["root"], &cut["proof"]) {
+        (Some(table), Some((cut, ..))) => match proof::judge(&table, root(&cut), &cut["proof"]) {
             Err(Stop::NoFault) => Ok(()),
             judged => judged,
         },
@@ -210,7 +217,7 @@ fn cut(input: &Input) -> Option<(Input, Head, usize)> {
     let mut cut = input.cut(|_| true);
     cut["proof"].truncate(len);
     cut["proof"].splice(..HEAD, head.bytes());
-    let whole = cut["proof"].len() == len && cut["root"].len() == ROOT;
+    let whole = cut["proof"].len() == len && cut["record"].len() == record::RECORD;
     whole.then_some((cut, head, members))
 }
 
@@ -218,13 +225,13 @@ fn cut(input: &Input) -> Option<(Input, Head, usize)> {
 fn fits(input: &Input, head: Head, members: usize) -> bool {
     let (given, height, others) = (&input["proof"][HEAD..], head.layer + 1, members - 1);
     let sum = exclusive_or((0..others).map(|other| symbol_at(given, other * height)));
-    sha256(&sum) == hash_for(&input["root"], given, head.layer, head.withheld, others * height)
+    sha256(&sum) == hash_for(root(input), given, head.layer, head.withheld, others * height)
 }
 
-/// A proof for the root and the table of a tree.
+/// A proof for the record and the table of a tree.
 pub fn of(volume: &Volume, proof: Vec<u8>) -> Input {
-    let (root, table) = (volume.root.clone(), volume.table.clone());
-    Input::new(&PROOF_CHECK, [volume.depth as u64], [root, table, proof])
+    let (record, table) = (volume.record.clone(), volume.table.clone());
+    Input::new(&PROOF_CHECK, [volume.depth as u64], [record, table, proof])
 }
 
 /// The proof of a fault that a miscoded tree shows in a layer, with its tree
@@ -252,7 +259,7 @@ fn each_fault(
     Ok(())
 }
 
-/// A call with the root and the table of a correctly coded tree: whatever the
+/// A call with the record and the table of a correctly coded tree: whatever the
 /// proof, it must not pass.
 fn make_for_right_tree(c: &mut Comparisons, what: &str, input: &Input) -> Compared {
     let result = c.make(what, input)?;

@@ -2,6 +2,7 @@
 //! beside both checkers.
 
 mod deep;
+mod filling;
 mod losses;
 mod miscoded;
 mod promises;
@@ -17,12 +18,15 @@ use crate::input::Input;
 use crate::marks::MARKS;
 use crate::proofs::PROOF_CHECK;
 use crate::random::Random;
+use crate::records::heads::RECORD;
+use crate::records::named::NAMED;
+use crate::records::RECORD_LEN;
 use crate::results::{ended, repaired};
 use crate::stops::{DEPTH, DEPTHS, LENGTHS};
 use crate::tables::cover::COVER;
 use crate::tables::lists::some_table;
 use crate::tables::{TABLE_LEN, WORDS};
-use crate::trees::{MARKS_LEN, ROOT_LEN, TREE_LEN};
+use crate::trees::{MARKS_LEN, TREE_LEN};
 use crate::volumes::{some_parity, Volume};
 use reference::repair::{self, repair, End, Repaired};
 use reference::tree::{place, tree_symbols, SYMBOL};
@@ -32,18 +36,18 @@ pub static REPAIR: Call = Call {
     sizes: &DEPTHS,
     arguments: &[
         Number("depth"),
-        Read("root", ROOT_LEN),
+        Read("record", RECORD_LEN),
         Read("table", TABLE_LEN),
         Written("tree", TREE_LEN),
         Written("marks", MARKS_LEN),
         Written("output", Length::Of(output_len)),
     ],
-    tests: &[DEPTH, LENGTHS, WORDS, COVER, MARKS],
+    tests: &[DEPTH, LENGTHS, RECORD, WORDS, COVER, NAMED, MARKS],
     good: some_repair,
     reference: |i| {
         let depth = i.number("depth");
-        let [root, table, tree, marks, output] = i.all();
-        repaired(repair(depth, root, table, tree, marks, output))
+        let [record, table, tree, marks, output] = i.all();
+        repaired(repair(depth, record, table, tree, marks, output))
     },
     also: |c, before, after, result| {
         let result = ended(result);
@@ -58,6 +62,9 @@ pub static REPAIR: Call = Call {
         deep::losses,
         deep::longest_proofs,
         deep::far_faults,
+        filling::one_byte,
+        filling::more_bytes,
+        filling::other_ends,
         losses::known_stopping_sets,
         losses::lost_parity,
         miscoded::one_fault,
@@ -72,11 +79,12 @@ pub static REPAIR: Call = Call {
         miscoded::other_hashes,
         losses::junk,
     ],
-    // Whole, fault, unavailable; a lone fault in each layer; the numbers.
+    // Whole, fault, unavailable, misfilled; a lone fault in each layer; the numbers.
     least: &[
         ("end 0", 5000),
         ("end 1", 5000),
         ("end 2", 3000),
+        ("end 13", 1000),
         ("layer 0", 500),
         ("layer 1", 300),
         ("layer 2", 150),
@@ -87,11 +95,14 @@ pub static REPAIR: Call = Call {
         ("3", 1000),
         ("4", 1000),
         ("10", 2000),
+        ("11", 1000),
+        ("12", 1000),
     ],
     least_deep: &[
         ("end 0", 100),
         ("end 1", 150),
         ("end 2", 40),
+        ("end 13", 40),
         ("layer 5", 4),
         ("layer 6", 4),
         ("layer 7", 4),
@@ -101,6 +112,8 @@ pub static REPAIR: Call = Call {
         ("3", 50),
         ("4", 100),
         ("10", 50),
+        ("11", 150),
+        ("12", 150),
         ("a chain", 16),
         ("the longest proof of 18188 bytes", 3),
     ],
@@ -114,9 +127,9 @@ fn output_len(depth: usize) -> usize {
 
 /// A tree with every symbol held. The output buffer holds random bytes.
 pub fn of(volume: &Volume, random: &mut Random) -> Input {
-    let Volume { depth, table, tree, root, .. } = volume.clone();
+    let Volume { depth, table, tree, record, .. } = volume.clone();
     let (marks, output) = (vec![1; tree_symbols(depth)], random.bytes(output_len(depth)));
-    Input::new(&REPAIR, [depth as u64], [root, table, tree, marks, output])
+    Input::new(&REPAIR, [depth as u64], [record, table, tree, marks, output])
 }
 
 /// A tree of which few symbols are absent, and perhaps one is miscoded.
@@ -135,7 +148,7 @@ fn some_repair(depth: usize, random: &mut Random) -> Input {
 /// reference.
 fn check_proof(c: &mut Comparisons, after: &Input, len: usize) -> Compared {
     let proof = after["output"][..len].to_vec();
-    let buffers = [after["root"].clone(), after["table"].clone(), proof];
+    let buffers = [after["record"].clone(), after["table"].clone(), proof];
     let input = Input::new(&PROOF_CHECK, [after.number("depth")], buffers);
     let random = Random::new(c.random.next());
     Comparisons::of(&PROOF_CHECK, &c.library, random).make_done("a repair's proof", &input)

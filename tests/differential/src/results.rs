@@ -31,6 +31,7 @@ pub fn repaired(result: Result<Repaired, Stop>) -> u64 {
         End::Fault(len) => (1, len),
         End::Unavailable(layer) => (2, layer),
         End::Twins => (3, 0),
+        End::Misfilled => (13, 0),
     };
     end << 8 | (stored as u64) << 32 | (more as u64) << 48
 }
@@ -43,6 +44,7 @@ pub fn ended(result: u64) -> Option<Repaired> {
         0x100 => End::Fault(more),
         0x200 => End::Unavailable(more),
         0x300 => End::Twins,
+        0xd00 => End::Misfilled,
         _ => return None,
     };
     Some(Repaired { end, stored: (result >> 32 & 0xffff) as usize })
@@ -86,5 +88,27 @@ mod tests {
         assert_eq!(number(Err(stop)), 7 + 256 * 4);
         let stop = Stop::Hash { layer: 3, position: Some(7) };
         assert_eq!(number(Err(stop)), 7 + 256 * 3 + (7 << 32));
+        assert_eq!(number(Err(Stop::WrongRecord)), 11);
+        assert_eq!(number(Err(Stop::OtherTable)), 12);
+    }
+
+    /// 13 is an end, with number 0.
+    #[test]
+    fn ends_and_what_goes_with_them() {
+        let ends = [
+            (End::Whole, 0),
+            (End::Fault(780), 1 | 780 << 40),
+            (End::Unavailable(8), 2 | 8 << 40),
+            (End::Twins, 3),
+            (End::Misfilled, 13),
+        ];
+        for (end, result) in ends {
+            let result = (result | 5 << 24) << 8;
+            assert_eq!(repaired(Ok(Repaired { end, stored: 5 })), result);
+            assert_eq!(ended(result), Some(Repaired { end, stored: 5 }));
+        }
+        assert_eq!(outcome(13 << 8 | 5 << 32), "end 13");
+        assert_eq!(repaired(Err(Stop::OtherTable)), 12);
+        assert_eq!([ended(11), ended(12), ended(13)], [None; 3]);
     }
 }

@@ -53,8 +53,9 @@ pub const LENGTHS: Test = Test {
     ask: |i| if i.lengths_fit(|_| true) { Ok(()) } else { Err(Stop::Length) },
     spoil: |i, random| {
         let some = 1 + random.below((1 << i.buffers.len()) - 1);
+        let size = i.size().expect("a size");
         for (b, buffer) in i.call.buffers().enumerate().filter(|(b, _)| some >> b & 1 == 1) {
-            buffer.length.spoil(&mut i.buffers[b], random);
+            buffer.length.spoil(size, &mut i.buffers[b], random);
         }
     },
     ..TEST

@@ -19,6 +19,7 @@ use crate::comparisons::{large, Comparisons};
 use crate::difference::Compared;
 use crate::input::Input;
 use crate::random::Random;
+use crate::records::put_table;
 use crate::results::number;
 use crate::stops::{sparse, turns, BEYOND, DEEP, DEPTH, DEPTHS, LENGTHS};
 use lists::{alterations, random_damage, random_table, some_table};
@@ -79,9 +80,13 @@ pub const WORDS: Test = Test {
     number: 3,
     ask: |i| i.size().map_or(Ok(()), |depth| check_words(depth as u64, &to_words(&i["table"]))),
     // A word of another kind, or one after the end word.
-    spoil: |i, random| match (i["table"].len() / 4, random.below(4)) {
-        (_, 0) => i["table"].extend([0; 4]),
-        (words, _) => i["table"][4 * random.below(words)] ^= 0xc0,
+    spoil: |i, random| {
+        let mut table = i["table"].clone();
+        match (table.len() / 4, random.below(4)) {
+            (_, 0) => table.extend([0; 4]),
+            (words, _) => table[4 * random.below(words)] ^= 0xc0,
+        }
+        put_table(i, table);
     },
     own: &[damaged_tables],
     #[cfg(test)]

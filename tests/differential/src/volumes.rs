@@ -4,10 +4,11 @@
 use crate::random::Random;
 use crate::tables::lists::some_table;
 use reference::proof::{self, Head};
+use reference::record;
 use reference::sha256::sha256;
 use reference::table::{self, data_symbols, to_bytes, Layers};
-use reference::tree::{block_len, code_tree, committed, place, symbol_at, symbols};
-use reference::tree::{Committed, HASH, SYMBOL};
+use reference::tree::{block_len, code_tree, committed, filled, place, symbol_at, symbols};
+use reference::tree::{Committed, Symbol, HASH, SYMBOL};
 
 #[derive(Clone)]
 pub struct Volume {
@@ -15,7 +16,7 @@ pub struct Volume {
     pub table: Vec<u8>,
     pub equations: Layers,
     pub tree: Vec<u8>,
-    pub root: Vec<u8>,
+    pub record: Vec<u8>,
 }
 
 /// A depth, the smaller ones more often.
@@ -44,6 +45,23 @@ pub fn some_symbol(layer: usize, random: &mut Random) -> usize {
     random.below(symbols(layer))
 }
 
+/// The bytes of a block of a depth: any number, the most, or one beside the ends of a symbol.
+pub fn some_length(depth: usize, random: &mut Random) -> usize {
+    let most = block_len(depth);
+    match random.below(8) {
+        0 | 1 => most,
+        2 => lengths(depth)[random.below(LENGTHS)],
+        _ => random.below(most + 1),
+    }
+}
+
+const LENGTHS: usize = 7;
+
+/// The bytes of blocks of a depth: none, beside the ends of a symbol, and the most.
+pub fn lengths(depth: usize) -> [usize; LENGTHS] {
+    [0, 1, SYMBOL - 1, SYMBOL, SYMBOL + 1, block_len(depth) - 1, block_len(depth)]
+}
+
 impl Volume {
     /// The correctly coded tree of a random block.
     pub fn new(depth: usize, words: &[u32], random: &mut Random) -> Volume {
@@ -58,15 +76,35 @@ impl Volume {
         replaced: &[(usize, usize)],
         random: &mut Random,
     ) -> Volume {
-        let table = to_bytes(words);
-        let equations = table::listed(depth as u64, words).expect("a table");
-        let block = random.bytes(block_len(depth));
-        let (tree, root) = code_tree(&equations, &block, |layer, symbols| {
+        let length = some_length(depth, random);
+        let block = filled(depth, &random.bytes(length));
+        Volume::of_block(depth, words, &block, length, |layer, symbols| {
             for &(_, symbol) in replaced.iter().filter(|replaced| replaced.0 == layer) {
                 symbols[symbol].copy_from_slice(&random.bytes(SYMBOL));
             }
-        });
-        Volume { depth, table, equations, tree, root }
+        })
+    }
+
+    /// The correctly coded tree of a random block that is filled up with these bytes.
+    pub fn filled_with(depth: usize, words: &[u32], filling: &[u8], random: &mut Random) -> Volume {
+        let length = block_len(depth) - filling.len();
+        let block = [&random.bytes(length), filling].concat();
+        Volume::of_block(depth, words, &block, length, |_, _| ())
+    }
+
+    /// The tree of a block that is filled up, whose record says that it has so many bytes.
+    fn of_block(
+        depth: usize,
+        words: &[u32],
+        block: &[u8],
+        length: usize,
+        alter: impl FnMut(usize, &mut [Symbol]),
+    ) -> Volume {
+        let table = to_bytes(words);
+        let equations = table::listed(depth as u64, words).expect("a table");
+        let (tree, root) = code_tree(&equations, block, alter);
+        let record = record::Head::of(depth, length, &table).before(&root);
+        Volume { depth, table, equations, tree, record }
     }
 
     /// A tree of a random table in which one parity symbol of a layer was
@@ -75,6 +113,10 @@ impl Volume {
         let words = some_table(depth, random);
         let parity = some_parity(layer, random);
         (Volume::miscoded(depth, &words, &[(layer, parity)], random), parity)
+    }
+
+    fn root_mut(&mut self) -> &mut [u8] {
+        &mut self.record[record::HEAD..]
     }
 
     /// The words of the table.
@@ -108,7 +150,7 @@ impl Volume {
     /// hash above fit that change: no other hash is wrong.
     pub fn break_hash(&mut self, layer: usize, symbol: usize, byte: usize) {
         match committed(layer, symbol) {
-            Committed::Root { at } => self.root[at + byte] ^= 1,
+            Committed::Root { at } => self.root_mut()[at + byte] ^= 1,
             Committed::Above { symbol: above, at } => {
                 self.tree[SYMBOL * place(layer - 1, above) + at + byte] ^= 1;
                 self.rehash(layer - 1, above);
@@ -120,7 +162,7 @@ impl Volume {
     fn rehash(&mut self, layer: usize, symbol: usize) {
         let hash = sha256(symbol_at(&self.tree, place(layer, symbol)));
         match committed(layer, symbol) {
-            Committed::Root { at } => self.root[at..at + HASH].copy_from_slice(&hash),
+            Committed::Root { at } => self.root_mut()[at..at + HASH].copy_from_slice(&hash),
             Committed::Above { symbol: above, at } => {
                 let start = SYMBOL * place(layer - 1, above) + at;
                 self.tree[start..start + HASH].copy_from_slice(&hash);

@@ -62,10 +62,15 @@ pub fn check(depth: u64, number: u64, record: &[u8], sample: &[u8]) -> Result<()
     exactly(sample.len(), sample_len(layers))?;
     record::Head::read(layers, record)?;
     let number = base_number(layers, number)?;
+    judge(layers, number, record::root(record), sample)
+}
+
+/// Whether every hash of a sample of the right length leads to a root.
+pub fn judge(layers: usize, number: usize, root: &[u8], sample: &[u8]) -> Result<(), Stop> {
     let members = members(layers, number).into_iter().enumerate();
     let broken = members.filter(|&(index, (layer, symbol))| {
         let (holder, at) = match committed(layer, symbol) {
-            Committed::Root { at } => (record::root(record), at),
+            Committed::Root { at } => (root, at),
             Committed::Above { at, .. } => (symbol_at(sample, data_index(layers, layer - 1)), at),
         };
         sha256(symbol_at(sample, index)) != holder[at..at + HASH]

@@ -174,15 +174,18 @@ impl Mutants {
                     });
                 }
             }
-            let limits = match buffer.length {
-                Length::Within { least, most, .. } => vec![least, most],
-                Length::Of(_) => vec![],
-            };
-            for limit in limits.into_iter().filter(|&limit| limit < usize::MAX) {
+            let length = buffer.length;
+            for limit in 0..length.limits(call.sizes[0]).len() {
+                if length.limits(call.sizes[0])[limit] == usize::MAX {
+                    continue;
+                }
                 self.instead(
-                    format!("{name} of {limit} refused"),
+                    format!("{name} of its limit {limit} refused"),
                     Place::As(2),
-                    move |i, result| (i.buffers[b].len() == limit && result != 1).then_some(2),
+                    move |i, result| {
+                        let at = |size| length.limits(size)[limit] == i.buffers[b].len();
+                        (result != 1 && i.size().map_or(false, at)).then_some(2)
+                    },
                 );
             }
         }
@@ -278,7 +281,7 @@ fn wrong_lengths(length: Length) -> Vec<Wrong> {
     let any = Wrong { what: "of any length".into(), least: 0, most: usize::MAX, step: 1, rest: 0 };
     let (least, most, step) = match length {
         Length::Within { least, most, step } => (least, most, step),
-        Length::Of(_) => return vec![any],
+        Length::Of(_) | Length::UpTo(_) => return vec![any],
     };
     let mut ways = Vec::new();
     if least > 0 {

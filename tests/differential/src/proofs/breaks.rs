@@ -6,6 +6,7 @@ use crate::comparisons::Comparisons;
 use crate::damage::{damage, damage_root};
 use crate::difference::Compared;
 use crate::input::Input;
+use crate::records::root_mut;
 use crate::stops::sparse;
 use crate::tables::lists::table_of;
 use crate::tables::uses::MOST;
@@ -213,7 +214,7 @@ pub fn damaged_roots(c: &mut Comparisons) -> Compared {
         let first = proof.head.layer % step;
         for hash in (first..symbols(0)).step_by(step) {
             let mut input = proof.input.clone();
-            damage_root(&mut input["root"], hash, &mut c.random);
+            damage_root(root_mut(&mut input), hash, &mut c.random);
             let position = proof.position_under(hash);
             let stop = Stop::Hash { layer: 0, position };
             c.make_so("a hash of the root", &input, position.map_or(Ok(()), |_| Err(stop)))?;

@@ -3,6 +3,7 @@
 use super::{each_fault, of, of_fault};
 use crate::comparisons::Comparisons;
 use crate::difference::Compared;
+use crate::records::root_mut;
 use crate::stops::{sparse, DEEP};
 use reference::proof::HEAD;
 use reference::tree::{HASH, ROOT, SYMBOL};
@@ -30,7 +31,7 @@ pub fn root_bytes(c: &mut Comparisons) -> Compared {
         let (right, ..) = of_fault(depth, layer, &mut c.random);
         for at in (0..ROOT).step_by(if depth < DEEP { 1 } else { 31 }) {
             let mut input = right.clone();
-            input["root"][at] ^= 1 << c.random.below(8);
+            root_mut(&mut input)[at] ^= 1 << c.random.below(8);
             c.make("a damaged root", &input)?;
         }
     }

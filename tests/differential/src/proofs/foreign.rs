@@ -4,6 +4,7 @@
 use super::{make_for_right_tree, of, of_fault};
 use crate::comparisons::Comparisons;
 use crate::difference::Compared;
+use crate::records::{put_root, put_table};
 use crate::stops::{turns, DEEP};
 use crate::tables::lists::{any_table, random_table};
 use crate::volumes::{some_symbol, Volume};
@@ -22,11 +23,11 @@ pub fn other_volumes(c: &mut Comparisons) -> Compared {
         let other = Volume::new(depth, &words, &mut c.random);
         let mut input = of(&other, right["proof"].clone());
         make_for_right_tree(c, "the root of another tree", &input)?;
-        input["root"] = c.random.bytes(ROOT);
+        put_root(&mut input, &c.random.bytes(ROOT));
         c.make("a random root", &input)?;
         for words in [house(depth), any_table(depth, &mut c.random)] {
             let mut input = right.clone();
-            input["table"] = to_bytes(&words);
+            put_table(&mut input, to_bytes(&words));
             c.make("another table", &input)?;
         }
     }

@@ -4,6 +4,7 @@
 use super::{make_for_right_tree, of};
 use crate::comparisons::Comparisons;
 use crate::difference::Compared;
+use crate::records::{put_table, put_value, DEPTH, LENGTH};
 use crate::results::number;
 use crate::stops::{sparse, DEEP, DEPTHS};
 use crate::tables::lists::{random_table, some_table, table_of};
@@ -75,8 +76,8 @@ pub fn written_by_repair(c: &mut Comparisons) -> Compared {
         let mut marks = vec![1; tree_symbols(depth)];
         marks.fill_with(|| u8::from(c.random.below(16) > 0));
         let mut output = vec![0; output_len(depth)];
-        let Volume { root, table, tree, .. } = &mut volume;
-        let result = repair(depth as u64, root, table, tree, &mut marks, &mut output);
+        let Volume { record, table, tree, .. } = &mut volume;
+        let result = repair(depth as u64, record, table, tree, &mut marks, &mut output);
         if let End::Fault(len) = result.expect("a repair").end {
             let input = of(&volume, output[..len].to_vec());
             c.make_done("a repair's proof", &input)?;
@@ -85,8 +86,8 @@ pub fn written_by_repair(c: &mut Comparisons) -> Compared {
     Ok(())
 }
 
-/// The root says nothing of the depth: a proof passes for any depth whose
-/// table has its layers.
+/// A record is for its depth alone. Where it is made for another, with the same root, a proof
+/// passes whose layer that depth has.
 pub fn other_depths(c: &mut Comparisons) -> Compared {
     for &depth in c.sizes {
         let words = house(depth);
@@ -97,9 +98,14 @@ pub fn other_depths(c: &mut Comparisons) -> Compared {
             let mut input = of(&volume, volume.proof(head));
             for other in DEPTHS {
                 input.set("depth", other as u64);
-                input["table"] = to_bytes(&house(other));
-                let result = c.make("another depth, and its house table", &input)?;
-                assert_eq!(result, if layer < other { 0 } else { 6 });
+                put_table(&mut input, to_bytes(&house(other)));
+                put_value(&mut input, LENGTH, 0);
+                put_value(&mut input, DEPTH, depth as u32);
+                let expected = if other == depth { Ok(()) } else { Err(Stop::WrongRecord) };
+                c.make_so("another depth than the record's", &input, expected)?;
+                put_value(&mut input, DEPTH, other as u32);
+                let expected = if layer < other { Ok(()) } else { Err(Stop::Head) };
+                c.make_so("a record of another depth", &input, expected)?;
             }
         }
     }

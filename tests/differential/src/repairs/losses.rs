@@ -4,6 +4,7 @@ use super::{lose, lose_some, of, spoil, REPAIR};
 use crate::comparisons::Comparisons;
 use crate::difference::Compared;
 use crate::input::Input;
+use crate::records::put_root;
 use crate::results::repaired;
 use crate::stops::{turns, DEEP};
 use crate::tables::lists::{any_table, some_table};
@@ -197,7 +198,7 @@ pub fn junk(c: &mut Comparisons) -> Compared {
             input["marks"].fill_with(|| c.random.below(2) as u8);
         }
         if junk & 4 != 0 {
-            input["root"] = c.random.bytes(ROOT);
+            put_root(&mut input, &c.random.bytes(ROOT));
         }
         c.make("junk", &input)?;
     }
@@ -205,7 +206,7 @@ pub fn junk(c: &mut Comparisons) -> Compared {
 }
 
 /// A call that must end so.
-fn ends(c: &mut Comparisons, what: &str, input: &Input, end: End, stored: usize) -> Compared {
+pub fn ends(c: &mut Comparisons, what: &str, input: &Input, end: End, stored: usize) -> Compared {
     let expected = repaired(Ok(Repaired { end, stored }));
     assert_eq!(c.make(what, input)?, expected, "{what}, {}", input.description());
     Ok(())

@@ -2,16 +2,18 @@
 //! themselves, without the steps.
 
 use crate::input::Input;
+use crate::records::{head, root};
 use reference::repair::{End, Repaired};
 use reference::sha256::sha256;
 use reference::table::equations;
-use reference::tree::{committed_hash, exclusive_or, place, symbol_at, symbols, SYMBOL};
+use reference::tree::SYMBOL;
+use reference::tree::{base_data, committed_hash, exclusive_or, place, symbol_at, symbols};
 
 /// Asserts what 01 says of the buffers after a repair.
 pub fn hold(before: &Input, after: &Input, Repaired { end, stored }: Repaired) {
     let layers = equations(before.number("depth"), &before["table"]).expect("a table");
     let last = match end {
-        End::Whole => layers.len() - 1,
+        End::Whole | End::Misfilled => layers.len() - 1,
         End::Fault(_) => usize::from(after["output"][3]),
         End::Unavailable(layer) => layer,
         End::Twins => panic!("two symbols of equal SHA-256"),
@@ -22,7 +24,7 @@ pub fn hold(before: &Input, after: &Input, Repaired { end, stored }: Repaired) {
         let (gaps, missing) = (entered.gaps(), entered.missing());
         entered.places_hold(&gaps);
         filled += gaps.iter().zip(&missing).filter(|&(&gap, &missing)| gap && !missing).count();
-        if layer < last || end == End::Whole {
+        if layer < last || matches!(end, End::Whole | End::Misfilled) {
             assert!(!missing.contains(&true), "layer {layer} is not complete");
             assert!(equations.iter().all(|members| entered.holds(members)));
         }
@@ -32,6 +34,12 @@ pub fn hold(before: &Input, after: &Input, Repaired { end, stored }: Repaired) {
         }
     }
     assert_eq!(filled, stored, "the gaps now held");
+    if matches!(end, End::Whole | End::Misfilled) {
+        let length = head(before).expect("a head").length;
+        let filling = &base_data(layers.len(), &after["tree"])[length..];
+        let other = filling.iter().any(|&byte| byte != 0);
+        assert_eq!(other, end == End::Misfilled, "what fills up the block");
+    }
     let below = place(last + 1, 0);
     assert!(before["tree"][SYMBOL * below..] == after["tree"][SYMBOL * below..]);
     assert!(before["marks"][below..] == after["marks"][below..]);
@@ -96,7 +104,7 @@ impl Entered<'_> {
     }
 
     fn fits(&self, symbol: usize, bytes: &[u8]) -> bool {
-        let (root, tree) = (&self.after["root"], &self.after["tree"]);
+        let (root, tree) = (root(self.after), &self.after["tree"]);
         sha256(bytes) == committed_hash(root, tree, self.layer, symbol)
     }
 
@@ -110,6 +118,7 @@ impl Entered<'_> {
 mod tests {
     use super::*;
     use crate::random::Random;
+    use crate::records::{put_value, LENGTH};
     use crate::repairs::{lose, of, REPAIR};
     use crate::results::ended;
     use crate::volumes::Volume;
@@ -157,6 +166,33 @@ mod tests {
     fn whole_with_gaps() {
         let (before, after, _) = repaired();
         hold(&before, &after, Repaired { end: End::Whole, stored: 1 });
+    }
+
+    /// A whole tree of depth 2, of whose block the record says this length.
+    fn whole(length: u32) -> (Input, Input) {
+        let mut random = Random::new(2);
+        let volume = Volume::filled_with(2, &house(2), &[], &mut random);
+        let mut before = of(&volume, &mut random);
+        put_value(&mut before, LENGTH, length);
+        let mut after = before.clone();
+        (REPAIR.reference)(&mut after);
+        (before, after)
+    }
+
+    #[test]
+    #[should_panic(expected = "what fills up the block")]
+    fn whole_with_another_filling() {
+        let (before, after) = whole(2047);
+        hold(&before, &after, Repaired { end: End::Misfilled, stored: 0 });
+        hold(&before, &after, Repaired { end: End::Whole, stored: 0 });
+    }
+
+    #[test]
+    #[should_panic(expected = "what fills up the block")]
+    fn misfilled_without_a_filling() {
+        let (before, after) = whole(2048);
+        hold(&before, &after, Repaired { end: End::Whole, stored: 0 });
+        hold(&before, &after, Repaired { end: End::Misfilled, stored: 0 });
     }
 
     #[test]

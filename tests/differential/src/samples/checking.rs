@@ -11,14 +11,14 @@ use crate::comparisons::Comparisons;
 use crate::difference::Compared;
 use crate::input::Input;
 use crate::random::Random;
+use crate::records::heads::RECORD;
+use crate::records::{self, put_root, root_mut, RECORD_LEN};
 use crate::results::number;
 use crate::stops::{turns, DEEP, DEPTH, DEPTHS, LENGTHS};
 use crate::tables::lists::some_table;
-use crate::trees::ROOT_LEN;
 use crate::volumes::Volume;
 use reference::sample::{self, data_index, members};
 use reference::sha256::sha256;
-use reference::stop::Stop;
 use reference::tree::{committed, place, symbol_at, Committed, HASH, ROOT, SYMBOL};
 
 pub static SAMPLE_CHECK: Call = Call {
@@ -27,14 +27,14 @@ pub static SAMPLE_CHECK: Call = Call {
     arguments: &[
         Number("depth"),
         Number("number"),
-        Read("root", ROOT_LEN),
+        Read("record", RECORD_LEN),
         Read("sample", SAMPLE_LEN),
     ],
-    tests: &[DEPTH, LENGTHS, NUMBER, HASHES],
+    tests: &[DEPTH, LENGTHS, RECORD, NUMBER, HASHES],
     good: some_sample,
     reference: |i| {
         let (depth, base) = (i.number("depth"), i.number("number"));
-        number(sample::check(depth, base, &i["root"], &i["sample"]))
+        number(sample::check(depth, base, &i["record"], &i["sample"]))
     },
     own: &[
         every_number,
@@ -49,6 +49,7 @@ pub static SAMPLE_CHECK: Call = Call {
         ("end 0", 2000),
         ("5", 300),
         ("7", 11_000),
+        ("11", 1000),
         ("one wrong hash", 800),
         ("some symbols damaged", 600),
         ("a hash of the root", 400),
@@ -57,6 +58,7 @@ pub static SAMPLE_CHECK: Call = Call {
         ("end 0", 1000),
         ("5", 100),
         ("7", 2000),
+        ("11", 150),
         ("one wrong hash", 100),
         ("some symbols damaged", 500),
         ("a hash of the root", 64),
@@ -67,15 +69,11 @@ pub static SAMPLE_CHECK: Call = Call {
 /// Every hash leads to the root.
 const HASHES: Test = Test {
     number: 7,
-    ask: |i| {
-        let (i, base) = (i.cut(|_| true), base_symbol(i));
-        let check = |(depth, base): (usize, usize)| {
-            sample::check(depth as u64, base as u64, &i["root"], &i["sample"])
-        };
-        match base.map(check) {
-            Some(Err(stop @ Stop::Hash { .. })) => Err(stop),
-            _ => Ok(()),
+    ask: |i| match (i.cut(|_| true), base_symbol(i)) {
+        (cut, Some((depth, base))) if cut.lengths_fit(|_| true) => {
+            sample::judge(depth, base, records::root(&cut), &cut["sample"])
         }
+        _ => Ok(()),
     },
     spoil: |i, random| {
         let index = random.below(i["sample"].len() / SYMBOL);
@@ -91,7 +89,7 @@ pub fn sample_of(volume: &Volume, number: usize) -> Input {
     let symbols = members.map(|(layer, symbol)| symbol_at(&volume.tree, place(layer, symbol)));
     let sample = symbols.collect::<Vec<_>>().concat();
     let numbers = [volume.depth as u64, number as u64];
-    Input::new(&SAMPLE_CHECK, numbers, [volume.root.clone(), sample])
+    Input::new(&SAMPLE_CHECK, numbers, [volume.record.clone(), sample])
 }
 
 /// A random sample of a random tree.
@@ -117,14 +115,14 @@ fn hash_of(input: &Input, index: usize) -> (Option<usize>, usize) {
 fn break_hash(input: &mut Input, index: usize, byte: usize) {
     let (mut holder, at) = hash_of(input, index);
     match holder {
-        None => input["root"][at + byte] ^= 1,
+        None => root_mut(input)[at + byte] ^= 1,
         Some(above) => input["sample"][SYMBOL * above + at + byte] ^= 1,
     }
     while let Some(symbol) = holder {
         let hash = sha256(symbol_at(&input["sample"], symbol));
         let (next, at) = hash_of(input, symbol);
         let holding = match next {
-            None => &mut input["root"][at..],
+            None => &mut root_mut(input)[at..],
             Some(above) => &mut input["sample"][SYMBOL * above + at..],
         };
         holding[..HASH].copy_from_slice(&hash);
@@ -147,7 +145,7 @@ fn every_number(c: &mut Comparisons) -> Compared {
     Ok(())
 }
 
-/// Each byte of a sample and of a root, one bit of it changed.
+/// Each byte of a sample and of a record, one bit of it changed.
 fn every_byte(c: &mut Comparisons) -> Compared {
     for &depth in c.sizes {
         let right = c.good(depth);
@@ -210,9 +208,9 @@ fn other_symbols(c: &mut Comparisons) -> Compared {
         }
         for _ in 0..turns(depth, 20) {
             let mut input = right.clone();
-            input["root"] = c.good(depth)["root"].clone();
+            put_root(&mut input, records::root(&c.good(depth)));
             c.make("another root", &input)?;
-            input["root"] = c.random.bytes(ROOT);
+            put_root(&mut input, &c.random.bytes(ROOT));
             c.make("a random root", &input)?;
             input["sample"] = c.random.bytes(sample_len(depth));
             c.make("random bytes", &input)?;

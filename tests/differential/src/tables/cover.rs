@@ -11,6 +11,7 @@ use crate::comparisons::Comparisons;
 use crate::difference::Compared;
 use crate::input::Input;
 use crate::random::Random;
+use crate::records::put_table;
 use crate::results::number;
 use crate::stops::{sparse, turns, DEEP};
 use reference::cover::covered;
@@ -25,7 +26,7 @@ pub const COVER: Test = Test {
     spoil: |i, random| {
         let mut layers = whole_layers(i);
         uncover(&mut layers, random);
-        i["table"] = to_bytes(&write(&layers));
+        put_table(i, to_bytes(&write(&layers)));
     },
     own: &[few_equations, long_equations, several_symbols, wrong_words, later_tests],
     #[cfg(test)]
@@ -53,7 +54,7 @@ fn make_with(
     layers: &Layers,
     few: Option<(usize, usize)>,
 ) -> Compared {
-    input["table"] = to_bytes(&write(layers));
+    put_table(input, to_bytes(&write(layers)));
     let result = c.make(what, input)?;
     match few {
         Some((layer, symbol)) => {
@@ -166,7 +167,7 @@ fn wrong_words(c: &mut Comparisons, depth: usize) -> Compared {
         of_another_kind[at] ^= 3 << 30;
         let more = [&words[..], &[0]].concat();
         for (at, list) in [(at, &of_another_kind[..]), (at, &words[..at]), (end + 1, &more)] {
-            input["table"] = to_bytes(list);
+            put_table(&mut input, to_bytes(list));
             let result = c.make("a symbol in few equations, and a wrong word", &input)?;
             assert_eq!(result, number(Err(Stop::Word(at))));
         }

@@ -3,6 +3,7 @@
 use super::lists::{any_table, random_damage, random_table, table_of};
 use crate::comparisons::Comparisons;
 use crate::difference::Compared;
+use crate::records::put_table;
 use crate::stops::{turns, DEEP};
 use reference::table::{house, to_bytes};
 
@@ -19,7 +20,7 @@ pub fn damaged_tables(c: &mut Comparisons, depth: usize) -> Compared {
     }
     let mut input = c.good(depth);
     for words in lists {
-        input["table"] = to_bytes(&words);
+        put_table(&mut input, to_bytes(&words));
         c.make("a damaged table", &input)?;
     }
     Ok(())

@@ -2,6 +2,7 @@
 
 use super::uses::{cover, uncover};
 use crate::random::Random;
+use reference::cover::covered;
 use reference::table::{data_symbols, house, listed, word, write, Layers};
 use reference::table::{END, EQUATION, LAYER, MEMBER};
 
@@ -73,6 +74,25 @@ pub fn perhaps_uncovered(depth: usize, words: Vec<u32>, random: &mut Random) -> 
             write(&layers)
         }
         _ => words,
+    }
+}
+
+/// Another table that is taken, of as many words: one member is another.
+pub fn another_of_as_many_words(depth: usize, words: &[u32], random: &mut Random) -> Vec<u32> {
+    let layers = listed(depth as u64, words).expect("a table");
+    loop {
+        let (mut other, layer) = (layers.clone(), random.below(depth));
+        let equation = random.below(layers[layer].len());
+        let members = &mut other[layer][equation];
+        let last = members.len() - 1;
+        let (at, member) = (random.below(last), random.below(members[last]));
+        if !members.contains(&member) {
+            members[at] = member;
+            members.sort_unstable();
+            if covered(&other).is_ok() {
+                return write(&other);
+            }
+        }
     }
 }
 
@@ -200,6 +220,18 @@ mod tests {
             }
             for links in LINKS {
                 assert_eq!(taken(depth, &chained(depth, links)), Ok(()), "{}", links.0);
+            }
+        }
+    }
+
+    #[test]
+    fn tables_of_as_many_words() {
+        let mut random = Random::new(61);
+        for depth in DEPTHS {
+            for words in [house(depth), table_of(depth, 2), random_table(depth, &mut random)] {
+                let other = another_of_as_many_words(depth, &words, &mut random);
+                assert_eq!((other.len(), taken(depth, &other)), (words.len(), Ok(())));
+                assert_ne!(other, words);
             }
         }
     }

@@ -6,6 +6,7 @@ use crate::difference::Difference;
 use crate::input::Input;
 use crate::library::{by_tests, right};
 use crate::mutants::{asked, passes, wrong, wrong_deep};
+use crate::records::put_table;
 use reference::stop::Stop;
 use reference::table::{check_words, house, to_bytes, to_words, MAX_BYTES};
 use reference::table::{END, EQUATION, LAYER, MEMBER};
@@ -48,7 +49,8 @@ pub const WRONG: &[(&str, Ask)] = &[
 /// number.
 pub fn trailing_words_after(number: u64, i: &mut Input) -> u64 {
     let mut shorter = i.clone();
-    shorter["table"].truncate(i["table"].len().saturating_sub(4));
+    let table = &i["table"];
+    put_table(&mut shorter, table[..table.len().saturating_sub(4)].to_vec());
     match (right(i), right(&mut shorter)) {
         (result, later) if result % 256 == 3 && later % 256 == number => later,
         (result, _) => result,

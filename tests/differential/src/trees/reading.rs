@@ -1,4 +1,4 @@
-//! `cmt_block_read`: trees and marks.
+//! `cmt_block_read`: records, trees and marks.
 
 #[cfg(test)]
 mod mutants;
@@ -11,13 +11,16 @@ use crate::difference::Compared;
 use crate::input::Input;
 use crate::marks::{absent, MARKS};
 use crate::random::Random;
+use crate::records::heads::RECORD;
+use crate::records::{put_value, LENGTH, RECORD_LEN};
 use crate::results::number;
 use crate::stops::{turns, DEPTH, DEPTHS, LENGTHS};
 use crate::tables::lists::some_table;
-use crate::volumes::Volume;
+use crate::volumes::{lengths, some_length, Volume};
+use reference::record::Head;
 use reference::stop::Stop;
 use reference::table::data_symbols;
-use reference::tree::{self, place, tree_symbols};
+use reference::tree::{self, place, tree_symbols, ROOT, SYMBOL};
 use std::ops::Range;
 
 pub static BLOCK_READ: Call = Call {
@@ -25,19 +28,20 @@ pub static BLOCK_READ: Call = Call {
     sizes: &DEPTHS,
     arguments: &[
         Number("depth"),
+        Read("record", RECORD_LEN),
         Read("tree", TREE_LEN),
         Read("marks", MARKS_LEN),
         Written("block", BLOCK_LEN),
     ],
-    tests: &[DEPTH, LENGTHS, MARKS, ABSENT],
+    tests: &[DEPTH, LENGTHS, RECORD, MARKS, ABSENT],
     good: |depth, random| to_read(depth, random),
     reference: |i| {
         let depth = i.number("depth");
-        let [tree, marks, block] = i.all();
-        number(tree::read_block(depth, tree, marks, block))
+        let [record, tree, marks, block] = i.all();
+        number(tree::read_block(depth, record, tree, marks, block))
     },
-    own: &[coded_trees, absent, absent_elsewhere],
-    least: &[("end 0", 1000), ("4", 1000), ("9", 500)],
+    own: &[block_lengths, coded_trees, absent, absent_elsewhere],
+    least: &[("end 0", 2000), ("4", 1000), ("9", 500), ("11", 1000)],
     ..CALL
 };
 
@@ -63,10 +67,32 @@ fn needed(depth: usize) -> Range<usize> {
     place(depth - 1, 0)..place(depth - 1, data_symbols(depth - 1))
 }
 
-/// Buffers of the right lengths: random bytes, each symbol held.
+/// Buffers of the right lengths: random bytes, each symbol held, and a record of some length
+/// that names no table.
 pub fn to_read(depth: usize, random: &mut Random) -> Input {
     let (tree, marks) = (random.bytes(tree_len(depth)), vec![1; tree_symbols(depth)]);
-    Input::new(&BLOCK_READ, [depth as u64], [tree, marks, random.bytes(block_len(depth))])
+    let head = Head::of(depth, some_length(depth, random), &random.bytes(4 * depth));
+    let (record, block) = (head.before(&random.bytes(ROOT)), random.bytes(block_len(depth)));
+    Input::new(&BLOCK_READ, [depth as u64], [record, tree, marks, block])
+}
+
+/// Each length at a limit, and, at a small depth, each beside the end of a symbol: the first
+/// bytes come, the rest stays, whatever fills up the block.
+fn block_lengths(c: &mut Comparisons) -> Compared {
+    for &depth in c.sizes {
+        let mut input = to_read(depth, &mut c.random);
+        let ends = (SYMBOL..block_len(depth)).step_by(SYMBOL).filter(|_| depth < 4);
+        let beside = ends.flat_map(|end| [end - 1, end, end + 1]);
+        for length in lengths(depth).into_iter().chain(beside) {
+            put_value(&mut input, LENGTH, length as u32);
+            c.make_done("a length of the block", &input)?;
+            input["marks"][needed(depth)][data_symbols(depth - 1) - 1] = 0;
+            let last = Stop::Absent(data_symbols(depth - 1) - 1);
+            c.make_so("the last symbol absent", &input, Err(last))?;
+            input["marks"].fill(1);
+        }
+    }
+    Ok(())
 }
 
 /// Trees that the reference wrote.
@@ -75,7 +101,8 @@ fn coded_trees(c: &mut Comparisons) -> Compared {
         for _ in 0..turns(depth, 40) {
             let mut input = to_read(depth, &mut c.random);
             let words = some_table(depth, &mut c.random);
-            input["tree"] = Volume::new(depth, &words, &mut c.random).tree;
+            let volume = Volume::new(depth, &words, &mut c.random);
+            (input["record"], input["tree"]) = (volume.record, volume.tree);
             c.make_done("a coded tree", &input)?;
         }
     }

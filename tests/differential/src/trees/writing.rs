@@ -3,21 +3,25 @@
 #[cfg(test)]
 mod mutants;
 
-use super::{block_len, tree_len, BLOCK_LEN, MARKS_LEN, ROOT_LEN, TREE_LEN};
+use super::{block_len, tree_len, MARKS_LEN, TREE_LEN};
 use crate::call::Argument::{Number, Read, Written};
-use crate::call::{Call, CALL};
+use crate::call::{Call, Length, CALL};
 use crate::comparisons::Comparisons;
 use crate::difference::Compared;
 use crate::input::Input;
 use crate::messages::{Content, CONTENTS};
 use crate::random::Random;
+use crate::records::RECORD_LEN;
 use crate::results::number;
 use crate::stops::{turns, DEEP, DEPTH, DEPTHS, LENGTHS};
 use crate::tables::cover::COVER;
 use crate::tables::lists::{random_table, some_table, table_of};
 use crate::tables::{TABLE_LEN, WORDS};
+use crate::volumes::{lengths, some_length};
+use reference::record::RECORD;
+use reference::stop::Stop;
 use reference::table::{house, to_bytes};
-use reference::tree::{self, tree_symbols, ROOT};
+use reference::tree::{self, tree_symbols, SYMBOL};
 
 pub static TREE_WRITE: Call = Call {
     name: "tree_write",
@@ -25,29 +29,54 @@ pub static TREE_WRITE: Call = Call {
     arguments: &[
         Number("depth"),
         Read("table", TABLE_LEN),
-        Read("block", BLOCK_LEN),
+        Read("block", Length::UpTo(block_len)),
         Written("tree", TREE_LEN),
         Written("marks", MARKS_LEN),
-        Written("root", ROOT_LEN),
+        Written("record", RECORD_LEN),
     ],
     tests: &[DEPTH, LENGTHS, WORDS, COVER],
-    good: |depth, random| to_write(depth, &some_table(depth, random), Content::Random, random),
+    good: |depth, random| {
+        let (words, length) = (some_table(depth, random), some_length(depth, random));
+        to_write(depth, &words, Content::Random, length, random)
+    },
     reference: |i| {
         let depth = i.number("depth");
-        let [table, block, tree, marks, root] = i.all();
-        number(tree::write(depth, table, block, tree, marks, root))
+        let [table, block, tree, marks, record] = i.all();
+        number(tree::write(depth, table, block, tree, marks, record))
     },
-    own: &[lent_bytes, blocks],
+    own: &[block_lengths, lent_bytes, blocks],
     least: &[("end 0", 2000), ("3", 1000), ("10", 500)],
     ..CALL
 };
 
-/// Buffers of the right lengths. Those to be written hold random bytes.
-pub fn to_write(depth: usize, words: &[u32], content: Content, random: &mut Random) -> Input {
-    let table = to_bytes(words);
-    let block = content.message(block_len(depth), random);
+/// Buffers of the right lengths, and a block of this one. Those to be written hold random bytes.
+pub fn to_write(
+    depth: usize,
+    words: &[u32],
+    content: Content,
+    length: usize,
+    random: &mut Random,
+) -> Input {
+    let (table, block) = (to_bytes(words), content.message(length, random));
     let (tree, marks) = (random.bytes(tree_len(depth)), random.bytes(tree_symbols(depth)));
-    Input::new(&TREE_WRITE, [depth as u64], [table, block, tree, marks, random.bytes(ROOT)])
+    Input::new(&TREE_WRITE, [depth as u64], [table, block, tree, marks, random.bytes(RECORD)])
+}
+
+/// Each length at a limit, one over it, and, at a small depth, each length beside the end of a
+/// symbol.
+fn block_lengths(c: &mut Comparisons) -> Compared {
+    for &depth in c.sizes {
+        let most = block_len(depth);
+        let ends = (SYMBOL..most).step_by(SYMBOL).filter(|_| depth < 4);
+        let beside = ends.flat_map(|end| [end - 1, end, end + 1]);
+        for length in lengths(depth).into_iter().chain(beside).chain([most + 1, most + SYMBOL]) {
+            let words = some_table(depth, &mut c.random);
+            let input = to_write(depth, &words, Content::Random, length, &mut c.random);
+            let expected = if length > most { Err(Stop::Length) } else { Ok(()) };
+            c.make_so("a length of the block", &input, expected)?;
+        }
+    }
+    Ok(())
 }
 
 /// Each content, with the house table, with the smallest and the largest
@@ -61,7 +90,8 @@ fn blocks(c: &mut Comparisons) -> Compared {
             let contents = CONTENTS.into_iter().enumerate();
             let one = |(at, _): &(usize, Content)| depth < DEEP || at % 4 == number % 4;
             for (_, content) in contents.filter(one) {
-                let input = to_write(depth, &words, content, &mut c.random);
+                let length = some_length(depth, &mut c.random);
+                let input = to_write(depth, &words, content, length, &mut c.random);
                 c.make_done("a block", &input)?;
             }
         }
@@ -74,7 +104,7 @@ fn lent_bytes(c: &mut Comparisons) -> Compared {
     for &depth in c.sizes {
         for byte in [0, 255, 1, 2, 3, 128].into_iter().take(if depth < DEEP { 6 } else { 2 }) {
             let mut input = c.good(depth);
-            ["tree", "marks", "root"].into_iter().for_each(|buffer| input[buffer].fill(byte));
+            ["tree", "marks", "record"].into_iter().for_each(|buffer| input[buffer].fill(byte));
             c.make_done("buffers of one byte", &input)?;
         }
     }

@@ -5,6 +5,7 @@ use crate::input::Input;
 use crate::library::{right, stopped};
 use crate::mutants::{passes, wrong, wrong_deep};
 use crate::proofs::PROOF_CHECK as CALL;
+use crate::records::root;
 use crate::results::number;
 use reference::proof::{hash_for, Head, HEAD};
 use reference::sha256::sha256;
@@ -76,7 +77,7 @@ pub fn check_by(rules: &Rules, i: &mut Input) -> u64 {
     if let Some(result) = stopped(i, in_form) {
         return result;
     }
-    let (root, given) = (&i["root"], &i["proof"][HEAD..]);
+    let (root, given) = (root(i), &i["proof"][HEAD..]);
     let equations = equations(i.number("depth"), &i["table"]).expect("a table");
     let head = Head::read(&equations, &i["proof"]).expect("a head");
     let members = (rules.members)(head, equations[head.layer][head.equation].clone());

@@ -5,6 +5,7 @@ use crate::input::Input;
 use crate::library::right;
 use crate::mutants::{wrong, wrong_deep};
 use crate::proofs::{named, PROOF_CHECK as CALL};
+use crate::records::put_table;
 use crate::tables::mutants::trailing_words_after;
 use reference::proof::{proof_len, HEAD};
 use reference::table::{self, equations};
@@ -66,7 +67,7 @@ fn with_named_member(i: &Input) -> Option<Vec<u8>> {
 wrong!(members_named_in_the_proof, Difference::Result { expected: 6, .. }, |i| match right(i) {
     6 => with_named_member(i).map_or(6, |table| {
         let mut seen = i.clone();
-        seen["table"] = table;
+        put_table(&mut seen, table);
         right(&mut seen)
     }),
     result => result,

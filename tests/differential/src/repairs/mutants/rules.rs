@@ -2,12 +2,15 @@
 
 use crate::input::Input;
 use crate::library::stopped;
+use crate::records::head;
 use crate::results::repaired;
 use reference::proof::{self, Head};
+use reference::record;
 use reference::repair::{End, Repaired};
 use reference::sha256::sha256;
 use reference::table::{data_symbols, equations, Layers};
-use reference::tree::{committed_hash, exclusive_or, place, symbol_at, symbols, Symbol, SYMBOL};
+use reference::tree::{base_data, committed_hash, exclusive_or, place, symbol_at, symbols};
+use reference::tree::{Symbol, SYMBOL};
 
 /// Which bytes of absent symbols become zero.
 #[derive(Clone, Copy, PartialEq)]
@@ -66,6 +69,8 @@ pub struct Rules {
     /// Whether the count of an equation's absent members, in a layer of k data symbols, is
     /// lowered when its member of this position is stored.
     pub lowered: fn(k: usize, equation: usize, position: usize) -> bool,
+    /// The bytes of the base's data that must be zero, where the block has so many bytes.
+    pub filling: fn(data: &[u8], length: usize) -> &[u8],
 }
 
 pub const RULES: Rules = Rules {
@@ -85,6 +90,7 @@ pub const RULES: Rules = Rules {
     back: usize::MAX,
     comes_back: false,
     lowered: |_, _, _| true,
+    filling: |data, length| &data[length..],
 };
 
 /// Repairs by these rules what is not refused.
@@ -94,9 +100,15 @@ pub fn repair_by(rules: &Rules, i: &mut Input) -> u64 {
     }
     let equations = equations(i.number("depth"), &i["table"]).expect("a table");
     let lent = i["tree"].clone();
-    let [root, _, tree, marks, output] = i.all();
+    let length = head(i).expect("a head").length;
+    let [record, _, tree, marks, output] = i.all();
+    let root = record::root(record);
     let mut work = Work { rules, root, lent, tree, marks, output, stored: 0 };
-    let end = work.all_layers(&equations);
+    let mut end = work.all_layers(&equations);
+    let filling = (rules.filling)(base_data(equations.len(), work.tree), length);
+    if end == End::Whole && filling.iter().any(|&byte| byte != 0) {
+        end = End::Misfilled;
+    }
     repaired(Ok(Repaired { end, stored: work.stored }))
 }
 

@@ -7,6 +7,7 @@ use crate::damage::{damage, damage_root};
 use crate::difference::Compared;
 use crate::input::Input;
 use crate::random::Random;
+use crate::records::{root, root_mut};
 use crate::stops::DEEP;
 use reference::sample::{data_index, members};
 use reference::sha256::sha256;
@@ -42,7 +43,7 @@ fn sort(depth: usize, layer: usize, whose: &str) -> String {
 /// Whether the symbol of an index has another hash than the one that stands for it.
 fn broken(input: &Input, index: usize) -> bool {
     let hash = match hash_of(input, index) {
-        (None, at) => &input["root"][at..at + HASH],
+        (None, at) => &root(input)[at..at + HASH],
         (Some(above), at) => &symbol_at(&input["sample"], above)[at..at + HASH],
     };
     sha256(symbol_at(&input["sample"], index)) != hash
@@ -106,7 +107,7 @@ pub fn damaged_roots(c: &mut Comparisons) -> Compared {
                 good = c.good(depth);
             }
             let mut input = good.clone();
-            damage_root(&mut input["root"], hash, &mut c.random);
+            damage_root(root_mut(&mut input), hash, &mut c.random);
             let has = symbols_of(&input).contains(&(0, hash));
             c.make_so("a hash of the root", &input, breaks_in(has.then_some(0)))?;
         }

@@ -4,6 +4,7 @@ use super::{base_symbol, SAMPLE_CHECK as CALL};
 use crate::input::Input;
 use crate::library::right;
 use crate::mutants::{asking, passes, wrong, wrong_deep, wrong_test};
+use crate::records::root;
 use reference::sample::{data_index, members};
 use reference::sha256::sha256;
 use reference::stop::Stop;
@@ -31,7 +32,7 @@ fn broken(i: &Input, bytes: fn(&mut Look) -> Range<usize>) -> Vec<Look> {
     let mut broken = Vec::new();
     for (index, (layer, symbol)) in members(depth, base).into_iter().enumerate() {
         let (holder, at) = match committed(layer, symbol) {
-            Committed::Root { at } => (&i["root"][..], at),
+            Committed::Root { at } => (root(i), at),
             Committed::Above { at, .. } => {
                 (symbol_at(&i["sample"], data_index(depth, layer - 1)), at)
             }

@@ -5,9 +5,10 @@ use crate::difference::Difference;
 use crate::input::Input;
 use crate::library::{right, stopped};
 use crate::mutants::{passes, wrong, wrong_deep};
+use reference::record::Head;
 use reference::sha256::sha256;
 use reference::table::{equations, house, to_bytes};
-use reference::tree::{place, symbols, HASH, SYMBOL};
+use reference::tree::{filled, place, symbols, HASH, SYMBOL};
 
 /// Rules of a writer, 01's or others.
 struct Rules {
@@ -32,7 +33,7 @@ fn write_by(rules: &Rules, i: &mut Input) -> u64 {
         None => i["table"].clone(),
     };
     let layers = equations(depth as u64, &table).expect("a table");
-    let mut data = i["block"].clone();
+    let mut data = filled(depth, &i["block"]);
     for layer in (0..depth).rev() {
         let coded = code(data, &layers[layer]);
         let start = SYMBOL * place(layer, 0);
@@ -48,7 +49,7 @@ fn write_by(rules: &Rules, i: &mut Input) -> u64 {
             data[at..at + HASH].copy_from_slice(&sha256(bytes));
         }
     }
-    i["root"] = data;
+    i["record"] = Head::of(depth, i["block"].len(), &i["table"]).before(&data);
     i["marks"].fill(1);
     0
 }
@@ -140,7 +141,7 @@ wrong_deep!(table_cut_at_16384_bytes, 0 => 3, |i| {
     let mut seen = i.clone();
     seen["table"].truncate(16_384);
     let result = right(&mut seen);
-    ["tree", "marks", "root"].into_iter().for_each(|buffer| i[buffer] = seen[buffer].clone());
+    ["tree", "marks", "record"].into_iter().for_each(|buffer| i[buffer] = seen[buffer].clone());
     result
 });
 
