@@ -20,7 +20,7 @@ const SEED: u64 = 3141;
 const SETS: usize = 512;
 
 /// Calls of each size that get other lengths.
-const TURNS: usize = 4;
+const TURNS: usize = 2;
 
 /// How often each result that a description names must come at the shallow sizes, and each
 /// sort. At the deep ones a sort must come at all.

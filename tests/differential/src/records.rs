@@ -62,7 +62,7 @@ fn word(head: &[u8], index: usize) -> u32 {
 }
 
 /// Gives a word of a call's head another kind.
-fn put_kind(input: &mut Input, index: usize, kind: u32) {
+pub fn put_kind(input: &mut Input, index: usize, kind: u32) {
     let byte = &mut input["record"][4 * index];
     *byte = *byte & 0x3f | (kind << 6) as u8;
 }

@@ -1,12 +1,15 @@
-//! Bytes read as a recipe: numbers, depths, tables and volumes. Where the bytes
-//! end, zeros follow.
+//! Bytes read as a recipe: numbers, depths, tables, volumes and changes to records. Where the
+//! bytes end, zeros follow.
 
+use differential::input::Input;
 use differential::random::Random;
+use differential::records::{head, put_kind, put_value, COUNT, DEPTH, LENGTH};
 use differential::tables::lists::{random_table, table_of};
 use differential::tables::uses::use_times;
-use differential::volumes::Volume;
+use differential::volumes::{lengths, Volume};
+use reference::record::HEAD;
 use reference::table::{data_symbols, house, listed, write};
-use reference::tree::{symbols, HASH, SYMBOL};
+use reference::tree::{block_len, symbols, HASH, SYMBOL};
 
 /// The depths that buffers are made for, the smaller ones more often.
 const DEPTHS: [usize; 8] = [1, 1, 1, 2, 2, 3, 4, 5];
@@ -101,6 +104,40 @@ impl<'a> Recipe<'a> {
             volume.break_hash(layer, symbol, self.below(HASH));
         }
         volume
+    }
+
+    /// The bytes of a block of a depth: the most, or at a limit, or any up to one too many.
+    pub fn length(&mut self, depth: usize) -> usize {
+        match self.byte() {
+            0..=63 => block_len(depth),
+            limit @ 64..=127 => lengths(depth)[usize::from(limit) % lengths(depth).len()],
+            _ => self.below(block_len(depth) + 2),
+        }
+    }
+
+    /// Changes the head of a record, mostly in no way, or in up to three.
+    pub fn record(&mut self, input: &mut Input) {
+        let changes = match self.byte() {
+            0..=199 => 0,
+            200..=231 => 1,
+            232..=243 => 2,
+            _ => 3,
+        };
+        (0..changes).for_each(|_| self.change_head(input));
+    }
+
+    /// Changes the head of a record: a kind, the depth, the length, the number of words or the
+    /// hash.
+    fn change_head(&mut self, input: &mut Input) {
+        let (said, change) = (head(input).expect("a head"), self.byte());
+        match change % 8 {
+            index @ 0..=2 => put_kind(input, usize::from(index), u32::from(self.byte()) % 4),
+            3 => put_value(input, DEPTH, u32::from(self.byte())),
+            4 => put_value(input, LENGTH, self.length(said.depth.clamp(1, 9)) as u32),
+            5 => put_value(input, LENGTH, self.number(3) as u32),
+            6 => put_value(input, COUNT, (said.words ^ 1 << (self.byte() % 30)) as u32),
+            _ => input["record"][HEAD - HASH + usize::from(self.byte()) % HASH] ^= 1,
+        }
     }
 
     /// Changes a bit of up to three symbols.

@@ -9,6 +9,8 @@ use differential::call::Call;
 use differential::input::Input;
 use differential::library::{by, right, Library};
 use differential::random::Random;
+use differential::records::heads::RECORD;
+use differential::records::named::NAMED;
 use differential::results::{outcome, values};
 use differential::tables::cover::COVER;
 use differential::CALLS;
@@ -86,16 +88,22 @@ fn every_outcome_is_reached() {
     targets.into_iter().for_each(|target| target.join().expect("every outcome"));
 }
 
-/// The recipes to begin with have such a table for each call that takes one.
+/// The recipes to begin with come to these for each call that has them: tables that are not
+/// covered, wrong records, tables that a record does not name, and other bytes than zeros that
+/// fill up a block.
 #[test]
-fn seeds_have_tables_that_are_not_covered() {
-    let uncovered = outcome(COVER.number);
-    let targets: Vec<_> =
-        TARGETS.iter().filter(|target| outcomes(target.call).contains(&uncovered)).collect();
-    assert_eq!(targets.len(), 4);
-    for target in targets {
-        let library = wrong_at(target.call, uncovered.clone());
-        assert!(differs(target, &library, seeds(target.call)), "{}", target.call.name);
+fn seeds_reach_what_tables_and_records_stop() {
+    let numbers = [(COVER.number, 4), (RECORD.number, 4), (NAMED.number, 2)];
+    let numbers = numbers.into_iter().map(|(number, calls)| (outcome(number), calls));
+    for (reached, calls) in numbers.chain([(outcome(13 << 8), 1)]) {
+        let targets = TARGETS.iter().filter(|target| outcomes(target.call).contains(&reached));
+        let targets: Vec<_> = targets.collect();
+        assert_eq!(targets.len(), calls, "{reached}");
+        for target in targets {
+            let library = wrong_at(target.call, reached.clone());
+            let name = target.call.name;
+            assert!(differs(target, &library, seeds(target.call)), "{name}: {reached}");
+        }
     }
 }
 
@@ -182,6 +190,7 @@ fn every_sort_is_reached() {
     for target in TARGETS.iter().filter(|target| target.call.sorts().count() > 0) {
         let shallow = |recipe: &Vec<u8>| recipe.get(1).map_or(true, |&depth| depth < 240);
         let recipes = some(TRIED / 2).filter(shallow).chain(damaged_proofs());
+        let recipes = recipes.chain(seeds(target.call));
         let sort = |(input, result): (Input, u64)| target.call.sort(&input, result);
         let met: BTreeSet<String> = called(target, recipes).filter_map(sort).collect();
         let all: BTreeSet<String> = target.call.sorts_at(&[1, 2, 3, 4, 5]).collect();

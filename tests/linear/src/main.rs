@@ -9,9 +9,10 @@ use linear::lossy::Lossy;
 use linear::search::looked_at;
 use linear::volume::Volume;
 use linear::worst::Chain;
+use reference::record::RECORD;
 use reference::repair::{output_len, End};
 use reference::table::{equations, Layers};
-use reference::tree::{place, tree_symbols, ROOT, SYMBOL};
+use reference::tree::{place, tree_symbols, SYMBOL};
 use std::io::{Read, Write};
 use std::process::{Command, ExitCode, Output, Stdio};
 
@@ -37,8 +38,8 @@ const REPAIR: Function = Function {
     name: "cmt_repair",
     call: |v| {
         let mut output = vec![0; output_len(v.depth as usize)];
-        let Volume { depth, root, table, tree, marks, .. } = v;
-        cedunmi_sys::cmt_repair(*depth, root, table, tree, marks, &mut output)
+        let Volume { depth, record, table, tree, marks, .. } = v;
+        cedunmi_sys::cmt_repair(*depth, record, table, tree, marks, &mut output)
     },
     gives: |lossy| {
         let repaired = lossy.repaired();
@@ -167,7 +168,7 @@ fn counting(name: &str, volume: &Volume) -> std::io::Result<Output> {
         .stdout(Stdio::piped())
         .stderr(Stdio::piped())
         .spawn()?;
-    let bytes = [&volume.root[..], &volume.marks, &volume.tree, &volume.table].concat();
+    let bytes = [&volume.record[..], &volume.marks, &volume.tree, &volume.table].concat();
     // Where it does not read them all, what it said tells why.
     let _ = child.stdin.take().expect("a pipe").write_all(&bytes);
     child.wait_with_output()
@@ -187,9 +188,9 @@ fn call(name: &str, depth: &str) -> Result<String, String> {
         front.to_vec()
     };
     let symbols = tree_symbols(depth);
-    let (root, marks, tree) = (next(ROOT), next(symbols), next(SYMBOL * symbols));
+    let (record, marks, tree) = (next(RECORD), next(symbols), next(SYMBOL * symbols));
     let table = next(bytes.len());
-    let mut volume = Volume { depth: depth as u64, table, block: Vec::new(), tree, marks, root };
+    let mut volume = Volume { depth: depth as u64, table, block: Vec::new(), tree, marks, record };
     Ok((function.call)(&mut volume).to_string())
 }
 

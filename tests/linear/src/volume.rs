@@ -1,7 +1,8 @@
 //! Trees of a table.
 
+use reference::record::RECORD;
 use reference::table::{data_symbols, house_equation, to_bytes, write, Layers};
-use reference::tree::{block_len, tree_symbols, ROOT, SYMBOL};
+use reference::tree::{block_len, tree_symbols, SYMBOL};
 
 /// The buffers of a tree.
 pub struct Volume {
@@ -10,7 +11,7 @@ pub struct Volume {
     pub block: Vec<u8>,
     pub tree: Vec<u8>,
     pub marks: Vec<u8>,
-    pub root: Vec<u8>,
+    pub record: Vec<u8>,
 }
 
 impl Volume {
@@ -24,7 +25,7 @@ impl Volume {
             block: (0..bytes).map(|i| (i.wrapping_mul(2_654_435_761) >> 13) as u8).collect(),
             tree: vec![0; SYMBOL * tree_symbols(depth)],
             marks: vec![0; tree_symbols(depth)],
-            root: vec![0; ROOT],
+            record: vec![0; RECORD],
         }
     }
 
@@ -36,9 +37,9 @@ impl Volume {
     }
 
     pub fn write(&mut self) {
-        let (tree, marks, root) = (&mut self.tree, &mut self.marks, &mut self.root);
+        let (tree, marks, record) = (&mut self.tree, &mut self.marks, &mut self.record);
         let result =
-            cedunmi_sys::cmt_tree_write(self.depth, &self.table, &self.block, tree, marks, root);
+            cedunmi_sys::cmt_tree_write(self.depth, &self.table, &self.block, tree, marks, record);
         assert_eq!(result, 0);
     }
 }

@@ -4,6 +4,7 @@ use crate::sha256::sha256;
 use crate::stop::Stop;
 use crate::table::{to_bytes, word, END, EQUATION, LAYER};
 use crate::tree::{block_len, HASH, ROOT};
+use std::cell::RefCell;
 
 /// The bytes of a head, which is three words and a hash, and of a record.
 pub const HEAD: usize = 12 + HASH;
@@ -27,7 +28,7 @@ pub struct Head {
 impl Head {
     /// The head for a block of so many bytes and the table that codes it.
     pub fn of(depth: usize, length: usize, table: &[u8]) -> Head {
-        Head { depth, length, words: table.len() / 4, hash: sha256(table) }
+        Head { depth, length, words: table.len() / 4, hash: hash_of(table) }
     }
 
     /// The head of a record of at least as many bytes as a head has, where it is in form for a
@@ -56,12 +57,24 @@ impl Head {
 
     /// A table has as many words as the head says, and the hash.
     pub fn names(self, table: &[u8]) -> Result<(), Stop> {
-        if table.len() == 4 * self.words && sha256(table) == self.hash {
+        if table.len() == 4 * self.words && hash_of(table) == self.hash {
             Ok(())
         } else {
             Err(Stop::OtherTable)
         }
     }
+}
+
+/// The SHA-256 of a table. It is kept, since most calls have the table of the one before.
+pub fn hash_of(table: &[u8]) -> [u8; HASH] {
+    thread_local!(static LAST: RefCell<(Vec<u8>, Option<[u8; HASH]>)> = RefCell::default());
+    LAST.with(|last| {
+        let mut last = last.borrow_mut();
+        if last.0 != table {
+            *last = (table.to_vec(), None);
+        }
+        *last.1.get_or_insert_with(|| sha256(table))
+    })
 }
 
 /// The root inside a record: the hashes of layer 0.

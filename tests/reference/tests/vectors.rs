@@ -1,11 +1,12 @@
 //! The files of vectors/, byte for byte as this implementation makes them, and
 //! no others. vectors/README.md says what each is.
 
+use reference::record::{root, Head, RECORD};
 use reference::repair::{output_len, repair, End, Repaired};
 use reference::sample::{sample_len, take};
 use reference::sha256::sha256;
 use reference::table::{house, to_bytes};
-use reference::tree::{block_len, place, tree_symbols, write, HASH, ROOT, SYMBOL};
+use reference::tree::{block_len, place, read_block, tree_symbols, write, HASH, SYMBOL};
 use reference::{proof, sample};
 use std::collections::BTreeMap;
 use std::fs;
@@ -22,28 +23,34 @@ struct Volume {
     table: Vec<u8>,
     tree: Vec<u8>,
     marks: Vec<u8>,
-    root: Vec<u8>,
+    record: Vec<u8>,
 }
 
 impl Volume {
     /// Byte i of the volume is i + i/256. It is coded by this table, and has
-    /// the house table beside it.
-    fn coded(depth: usize, table: &[u8]) -> Volume {
+    /// the house table beside it, which its record names.
+    fn coded(depth: usize, length: usize, table: &[u8]) -> Volume {
         let mut volume = Volume {
             depth,
-            block: (0..block_len(depth)).map(|i| (i + i / 256) as u8).collect(),
+            block: (0..length).map(|i| (i + i / 256) as u8).collect(),
             table: to_bytes(&house(depth)),
             tree: vec![0; SYMBOL * tree_symbols(depth)],
             marks: vec![0; tree_symbols(depth)],
-            root: vec![0; ROOT],
+            record: vec![0; RECORD],
         };
-        let Volume { block, tree, marks, root, .. } = &mut volume;
-        write(depth as u64, table, block, tree, marks, root).unwrap();
+        let Volume { block, tree, marks, record, .. } = &mut volume;
+        write(depth as u64, table, block, tree, marks, record).unwrap();
+        volume.says(length);
         volume
     }
 
     fn right(depth: usize) -> Volume {
-        Volume::coded(depth, &to_bytes(&house(depth)))
+        Volume::coded(depth, block_len(depth), &to_bytes(&house(depth)))
+    }
+
+    /// Makes the record say that the volume has so many bytes.
+    fn says(&mut self, length: usize) {
+        self.record = Head::of(self.depth, length, &self.table).before(root(&self.record));
     }
 
     /// With member 2 in the place of 1 in the base's equation 0, whose members
@@ -53,7 +60,7 @@ impl Volume {
         let base = words.iter().position(|&word| word == 1 << 30 | (depth as u32 - 1)).unwrap();
         assert_eq!(words[base + 2..base + 4], [0, 1]);
         words[base + 3] = 2;
-        Volume::coded(depth, &to_bytes(&words))
+        Volume::coded(depth, block_len(depth), &to_bytes(&words))
     }
 
     fn lose(&mut self, places: impl IntoIterator<Item = usize>) {
@@ -73,7 +80,7 @@ impl Volume {
     fn sample(&self, number: usize) -> Vec<u8> {
         let mut sample = vec![0; sample_len(self.depth)];
         take(self.depth as u64, number as u64, &self.tree, &self.marks, &mut sample).unwrap();
-        assert_eq!(sample::check(self.depth as u64, number as u64, &self.root, &sample), Ok(()));
+        assert_eq!(sample::check(self.depth as u64, number as u64, &self.record, &sample), Ok(()));
         sample
     }
 
@@ -81,9 +88,16 @@ impl Volume {
     fn repaired(&self) -> (Volume, Repaired, Vec<u8>) {
         let mut left = self.clone();
         let mut output = vec![0; output_len(self.depth)];
-        let Volume { depth, table, tree, marks, root, .. } = &mut left;
-        let report = repair(*depth as u64, root, table, tree, marks, &mut output).unwrap();
+        let Volume { depth, table, tree, marks, record, .. } = &mut left;
+        let report = repair(*depth as u64, record, table, tree, marks, &mut output).unwrap();
         (left, report, output)
+    }
+
+    /// Whether the volume comes back, and the rest of a buffer stays.
+    fn comes_back(&self, block: &[u8]) -> bool {
+        let mut back = vec![0xdd; block_len(self.depth)];
+        read_block(self.depth as u64, &self.record, &self.tree, &self.marks, &mut back).unwrap();
+        back[..block.len()] == *block && back[block.len()..].iter().all(|&byte| byte == 0xdd)
     }
 }
 
@@ -91,15 +105,31 @@ fn hex(bytes: &[u8]) -> String {
     bytes.iter().map(|byte| format!("{byte:02x}")).collect()
 }
 
-/// A root as it is printed.
-fn print(root: &[u8]) -> String {
+/// The check of a line of a printed record, by its number.
+fn check(number: usize, bytes: &[u8]) -> String {
+    hex(&sha256(&[&[number as u8], bytes].concat())[..2])
+}
+
+/// A hash of a printed record, in its groups.
+fn groups(hash: &[u8]) -> String {
+    hash.chunks(4).map(hex).collect::<Vec<_>>().join(" ")
+}
+
+/// A record as it is printed.
+fn print(depth: usize, record: &[u8]) -> String {
+    let head = Head::read(depth, record).unwrap();
+    let depth = format!("depth   {}", head.depth);
+    let length = format!("length  {} bytes", head.length);
+    let table = format!("table   {} words", head.words);
     let mut text = String::new();
-    for (number, hash) in root.chunks(HASH).enumerate() {
-        let groups: Vec<String> = hash.chunks(4).map(hex).collect();
-        let check = sha256(&[&[number as u8], hash].concat());
-        text += &format!("{number:2} {}  {}\n", groups.join(" "), hex(&check[..2]));
+    for (number, (line, word)) in [depth, length, table].iter().zip(record.chunks(4)).enumerate() {
+        text += &format!("{line:20}  {}\n", check(16 + number, word));
     }
-    text + &format!("check  {}\n", hex(&sha256(root)[..4]))
+    text += &format!(" T {}  {}\n", groups(&head.hash), check(19, &head.hash));
+    for (number, hash) in root(record).chunks(HASH).enumerate() {
+        text += &format!("{number:2} {}  {}\n", groups(hash), check(number, hash));
+    }
+    text + &format!("check  {}\n", hex(&sha256(record)[..4]))
 }
 
 /// The rows of sixteen bytes in which a tree is another, as xxd prints them.
@@ -114,15 +144,20 @@ fn changes(of: &[u8], tree: &[u8]) -> Vec<u8> {
     text.into_bytes()
 }
 
-/// The files of a depth, which are collected.
+/// The files of a folder, which are collected.
 struct Collected {
+    folder: &'static str,
     right: Volume,
     files: Files,
 }
 
 impl Collected {
+    fn of(folder: &'static str, right: Volume) -> Collected {
+        Collected { folder, right, files: Files::new() }
+    }
+
     fn save(&mut self, name: &str, bytes: impl AsRef<[u8]>) {
-        let name = format!("depth-{}/{}", self.right.depth, name);
+        let name = format!("{}/{}", self.folder, name);
         assert!(self.files.insert(name, bytes.as_ref().to_vec()).is_none());
     }
 
@@ -132,8 +167,8 @@ impl Collected {
         self.save("table", &volume.table);
         self.save("tree", &volume.tree);
         self.save("marks", &volume.marks);
-        self.save("root", &volume.root);
-        self.save("root.txt", print(&volume.root));
+        self.save("record", &volume.record);
+        self.save("record.txt", print(volume.depth, &volume.record));
         self.save(&format!("sample-{number}"), volume.sample(number));
     }
 
@@ -170,20 +205,27 @@ impl Collected {
             End::Fault(len) => (1, len),
             End::Unavailable(layer) => (2, layer),
             End::Twins => (3, 0),
+            End::Misfilled => (13, 0),
         };
         let numbers = format!("number 0\nend {end}\nstored {}\nvalue {value}\n", report.stored);
         self.save(&format!("{folder}/report"), numbers + &format!("tree {tree}\nmarks {marks}\n"));
-        if let End::Fault(len) = report.end {
-            let depth = lent.depth as u64;
-            assert_eq!(proof::check(depth, &lent.root, &lent.table, &output[..len]), Ok(()));
-            self.save(&format!("{folder}/root"), &lent.root);
-            self.save(&format!("{folder}/proof"), &output[..len]);
+        if lent.record != self.right.record {
+            self.save(&format!("{folder}/record"), &lent.record);
+        }
+        match report.end {
+            End::Whole | End::Misfilled => assert!(left.comes_back(&self.right.block)),
+            End::Fault(len) => {
+                let depth = lent.depth as u64;
+                assert_eq!(proof::check(depth, &lent.record, &lent.table, &output[..len]), Ok(()));
+                self.save(&format!("{folder}/proof"), &output[..len]);
+            }
+            _ => {}
         }
     }
 }
 
 fn depth_1() -> Files {
-    let mut made = Collected { right: Volume::right(1), files: Files::new() };
+    let mut made = Collected::of("depth-1", Volume::right(1));
     made.save_right(9);
     let mut lent = made.right.clone();
     lent.lose([0, 1]);
@@ -201,7 +243,7 @@ fn depth_1() -> Files {
 }
 
 fn depth_2() -> Files {
-    let mut made = Collected { right: Volume::right(2), files: Files::new() };
+    let mut made = Collected::of("depth-2", Volume::right(2));
     made.save_right(20);
     let mut lent = made.right.clone();
     lent.lose((1..tree_symbols(2)).step_by(3));
@@ -220,7 +262,7 @@ fn depth_2() -> Files {
 }
 
 fn depth_3() -> Files {
-    let mut made = Collected { right: Volume::right(3), files: Files::new() };
+    let mut made = Collected::of("depth-3", Volume::right(3));
     made.save_right(61);
     let mut lent = made.right.clone();
     lent.lose((1..tree_symbols(3)).step_by(3));
@@ -240,7 +282,7 @@ fn depth_3() -> Files {
 }
 
 fn depth_4() -> Files {
-    let mut made = Collected { right: Volume::right(4), files: Files::new() };
+    let mut made = Collected::of("depth-4", Volume::right(4));
     made.save_right(100);
     let mut lent = made.right.clone();
     lent.lose((1..tree_symbols(4)).step_by(4));
@@ -259,7 +301,7 @@ fn depth_4() -> Files {
 }
 
 fn depth_5() -> Files {
-    let mut made = Collected { right: Volume::right(5), files: Files::new() };
+    let mut made = Collected::of("depth-5", Volume::right(5));
     made.save_right(200);
     let mut lent = made.right.clone();
     lent.lose((1..tree_symbols(5)).step_by(4));
@@ -277,8 +319,27 @@ fn depth_5() -> Files {
     made.files
 }
 
+/// A volume of 700 bytes, and by its head a tree that is filled up with other bytes than zeros.
+fn depth_1_short() -> Files {
+    let short = Volume::coded(1, 700, &to_bytes(&house(1)));
+    let mut made = Collected::of("depth-1-short", short);
+    made.save_right(2);
+    let mut lent = made.right.clone();
+    lent.lose([2, 3]);
+    lent.damage(&[5]);
+    made.save_repair("whole", &lent, true);
+    let mut lent = Volume::right(1);
+    lent.says(700);
+    lent.lose([2, 3]);
+    lent.damage(&[9]);
+    lent.fill(3, 0xee);
+    made.save_repair("misfilled", &lent, true);
+    made.files
+}
+
 fn expected() -> Files {
-    [depth_1(), depth_2(), depth_3(), depth_4(), depth_5()].into_iter().flatten().collect()
+    let depths = [depth_1(), depth_2(), depth_3(), depth_4(), depth_5(), depth_1_short()];
+    depths.into_iter().flatten().collect()
 }
 
 /// The files below a folder, beside what describes them.

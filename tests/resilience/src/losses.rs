@@ -89,7 +89,7 @@ mod tests {
         let mut output = vec![0; output_len(DEPTH)];
         lost.numbers().for_each(|symbol| marks[place(layer, symbol)] = 0);
         let done =
-            repair(DEPTH as u64, &volume.root, &volume.table, &mut tree, &mut marks, &mut output);
+            repair(DEPTH as u64, &volume.record, &volume.table, &mut tree, &mut marks, &mut output);
         let absent =
             (0..Layer::house(layer).symbols).filter(|&symbol| marks[place(layer, symbol)] == 0);
         (done.expect("a repair").end, absent.collect())

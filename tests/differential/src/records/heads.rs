@@ -109,12 +109,15 @@ fn kinds(c: &mut Comparisons, depth: usize) -> Compared {
     Ok(())
 }
 
-/// Each length at a limit, and each depth that is near. The number of words may be any.
+/// Each length at a limit, and each depth that is near. The number of words may be any. Of a deep
+/// depth some of them, and the lengths beside the longest block's.
 fn values(c: &mut Comparisons, depth: usize) -> Compared {
     let right = c.good(depth);
-    let long = too_long(depth).into_iter().map(|length| (LENGTH, length, true));
+    let step = if depth < DEEP { 1 } else { 4 };
+    let long = too_long(depth).into_iter().map(|length| (LENGTH, length, true)).step_by(step);
     let fits = lengths(depth).into_iter().map(|length| (LENGTH, length as u32, false));
-    let depths = other_depths(depth).into_iter().map(|other| (DEPTH, other, true));
+    let fits = fits.rev().step_by(step);
+    let depths = other_depths(depth).into_iter().map(|other| (DEPTH, other, true)).step_by(step);
     let counts = [0, LARGEST].into_iter().map(|count| (COUNT, count, false));
     for (index, value, wrong) in long.chain(fits).chain(depths).chain(counts) {
         let mut input = right.clone();

@@ -11,7 +11,7 @@ use crate::tables::cover::COVER;
 use crate::tables::lists::{another_of_as_many_words, random_table, some_equations, table_of};
 use crate::tables::uses::uncover;
 use crate::tables::WORDS;
-use reference::record::HEAD;
+use reference::record::{hash_of, HEAD};
 use reference::sha256::sha256;
 use reference::stop::Stop;
 use reference::table::{house, to_bytes, to_words, write};
@@ -53,7 +53,7 @@ fn sort(depth: usize, cause: &str) -> String {
 fn fits(input: &Input) -> Option<(bool, bool)> {
     let head = head(input)?;
     let words = input["table"].len() / 4;
-    Some((head.words == words, head.hash == sha256(&input["table"][..4 * words])))
+    Some((head.words == words, head.hash == hash_of(&input["table"][..4 * words])))
 }
 
 /// Whether the record of a call names its table, or has no head.

@@ -1,13 +1,15 @@
 //! Losses, orders of peeling and proofs that there are at each depth, the deep ones above all.
 
+use super::losses::ends;
 use super::{lose, lose_some, of, spoil};
 use crate::comparisons::Comparisons;
 use crate::difference::Compared;
 use crate::results::{ended, repaired};
-use crate::stops::DEEP;
-use crate::tables::lists::{chained, random_table, some_table, table_of, LINKS};
+use crate::stops::{turns, DEEP};
+use crate::tables::lists::{chained, paired, random_table, some_table, table_of, LINKS};
 use crate::tables::uses::MOST;
 use crate::volumes::Volume;
+use reference::proof::proof_len;
 use reference::repair::{output_len, End, Repaired};
 use reference::table::{data_symbols, house};
 use reference::tree::{symbols, tree_symbols};
@@ -97,6 +99,26 @@ pub fn far_faults(c: &mut Comparisons) -> Compared {
             let others = (0..n).filter(|&symbol| symbol != late).map(|symbol| (base, symbol));
             lose_some(&mut input, &others.collect::<Vec<_>>(), parts, &mut c.random);
             c.make("a far fault", &input)?;
+        }
+    }
+    Ok(())
+}
+
+/// A data symbol of the base, lost with the parity of the first two of its three equations: the
+/// third gives it, and then the others, which are far below, the parity, before the last equation,
+/// which fails.
+pub fn far_back(c: &mut Comparisons) -> Compared {
+    for &depth in c.sizes {
+        let (base, k, words) = (depth - 1, data_symbols(depth - 1), paired(depth));
+        let volume = Volume::miscoded(depth, &words, &[(base, 4 * k - 1)], &mut c.random);
+        for _ in 0..turns(depth, 16) {
+            let data = 1 + c.random.below(k - 2);
+            let mut input = of(&volume, &mut c.random);
+            for symbol in [data, k + data, 2 * k + data - 1] {
+                lose(&mut input, base, symbol, &mut c.random);
+            }
+            let end = End::Fault(proof_len(base, 2));
+            ends(c, "a far fault after far stores", &input, end, 3)?;
         }
     }
     Ok(())

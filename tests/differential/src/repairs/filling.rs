@@ -14,16 +14,18 @@ use reference::repair::{End, Repaired};
 use reference::tree::{block_len, symbols};
 
 /// No other byte, and one: the first that fills up, a middle one, the last, and each that is
-/// the last or the first of a symbol near. A full block is never misfilled.
+/// the last or the first of a symbol near. A full block is never misfilled. Of a deep depth one
+/// of these for a length.
 pub fn one_byte(c: &mut Comparisons) -> Compared {
     for &depth in c.sizes {
         for (turn, length) in lengths(depth).into_iter().enumerate() {
             let len = block_len(depth) - length;
             let near = [255, 256, 511, 512].map(|end: usize| end.saturating_sub(length % 256));
             let all = [0, len / 2, len.saturating_sub(1), 1, len.saturating_sub(256)];
-            let some = all.into_iter().chain(near).map(Some);
-            let some = some.take(if depth < DEEP { 9 } else { 3 });
-            for other in [None].into_iter().chain(some).filter(|o| o.map_or(true, |o| o < len)) {
+            let some = all.into_iter().chain(near).filter(|&other| other < len).map(Some);
+            let some = [None].into_iter().chain(some).enumerate();
+            let chosen = |at: usize| depth < DEEP || at == turn % 4 || len == 0;
+            for other in some.filter(|&(at, _)| chosen(at)).map(|(_, other)| other) {
                 let mut filling = vec![0; len];
                 let byte = 1 << c.random.below(8);
                 other.into_iter().for_each(|other| filling[other] = byte);
@@ -37,10 +39,10 @@ pub fn one_byte(c: &mut Comparisons) -> Compared {
     Ok(())
 }
 
-/// All held, one absent, one a bad copy: of a deep depth one of these.
+/// All held, one absent, one a bad copy: of a larger depth one of these.
 fn losses_of(c: &mut Comparisons, volume: &Volume, end: End, turn: usize) -> Compared {
     let right = of(volume, &mut c.random);
-    for losses in (0..3).filter(|losses| volume.depth < DEEP || turn % 3 == *losses) {
+    for losses in (0..3).filter(|losses| volume.depth < 4 || turn % 3 == *losses) {
         let mut input = right.clone();
         // Of the base, where the block stands, or of the top.
         let layer = if c.random.below(2) == 0 { volume.depth - 1 } else { 0 };
@@ -77,10 +79,8 @@ pub fn other_ends(c: &mut Comparisons) -> Compared {
             let layer = turn % depth;
             let words = some_table(depth, &mut c.random);
             let fault = [(layer, some_parity(layer, &mut c.random))];
-            let mut input = {
-                let volume = Volume::miscoded(depth, &words, &fault, &mut c.random);
-                of(&volume, &mut c.random)
-            };
+            let volume = Volume::miscoded(depth, &words, &fault, &mut c.random);
+            let mut input = of(&volume, &mut c.random);
             put_value(&mut input, LENGTH, 0);
             is_fault(c, &input)?;
             let volume = Volume::filled_with(depth, &words, &[], &mut c.random);

@@ -1,5 +1,6 @@
 //! Wrong repairers.
 
+mod filling;
 mod reports;
 mod rules;
 mod steps;

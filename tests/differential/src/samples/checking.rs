@@ -58,7 +58,7 @@ pub static SAMPLE_CHECK: Call = Call {
         ("end 0", 1000),
         ("5", 100),
         ("7", 2000),
-        ("11", 150),
+        ("11", 100),
         ("one wrong hash", 100),
         ("some symbols damaged", 500),
         ("a hash of the root", 64),

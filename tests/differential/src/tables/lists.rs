@@ -104,6 +104,15 @@ pub fn table_of(depth: usize, size: usize) -> Vec<u32> {
     }))
 }
 
+/// A table in which each data symbol is in three equations of two members, the last more than k
+/// above the one before.
+pub fn paired(depth: usize) -> Vec<u32> {
+    write(&layers_by(depth, |k, last| match last / k {
+        2 => vec![(last + 1) % k],
+        _ => vec![last % k],
+    }))
+}
+
 /// An order of equations by its name: the equation of each link of a layer of k data symbols.
 pub type Links = (&'static str, fn(usize, usize) -> usize);
 
@@ -221,6 +230,7 @@ mod tests {
             for links in LINKS {
                 assert_eq!(taken(depth, &chained(depth, links)), Ok(()), "{}", links.0);
             }
+            assert_eq!(taken(depth, &paired(depth)), Ok(()));
         }
     }
 

@@ -22,6 +22,7 @@ pub static PROOF_CHECK: Target = Target {
         let mut input = proofs::of(&volume, proof);
         recipe.damage(&mut input["proof"][HEAD..]);
         input.set("depth", recipe.asked(volume.depth));
+        recipe.record(&mut input);
         input
     },
 };
@@ -32,6 +33,7 @@ pub static REPAIR: Target = Target {
         let volume = recipe.volume();
         let mut input = repairs::of(&volume, &mut recipe.random());
         input.set("depth", recipe.asked(volume.depth));
+        recipe.record(&mut input);
         input
     },
 };

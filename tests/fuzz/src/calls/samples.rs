@@ -28,6 +28,7 @@ pub static SAMPLE_CHECK: Target = Target {
         let volume = Volume::new(made_for, &words, &mut recipe.random());
         let mut input = checking::sample_of(&volume, base);
         recipe.damage(&mut input["sample"]);
+        recipe.record(&mut input);
         input.numbers = vec![depth, number];
         input
     },

@@ -11,7 +11,9 @@ pub static TREE_WRITE: Target = Target {
         let depth = recipe.asked(made_for);
         let words = recipe.words(made_for);
         let content = CONTENTS[usize::from(recipe.byte()) % CONTENTS.len()];
-        let mut input = writing::to_write(made_for, &words, content, &mut recipe.random());
+        let mut random = recipe.random();
+        let length = recipe.length(made_for);
+        let mut input = writing::to_write(made_for, &words, content, length, &mut random);
         input.set("depth", depth);
         input
     },
@@ -23,6 +25,7 @@ pub static BLOCK_READ: Target = Target {
         let made_for = recipe.made_for();
         let depth = recipe.asked(made_for);
         let mut input = reading::to_read(made_for, &mut recipe.random());
+        recipe.record(&mut input);
         input.set("depth", depth);
         input
     },

@@ -109,6 +109,15 @@ fn only_the_table_itself() {
     }
 }
 
+/// Whatever was asked before.
+#[test]
+fn hashes_of_tables() {
+    let tables = [vec![], vec![0; 4], vec![0; 8], vec![1; 8]];
+    for (one, other) in tables.iter().flat_map(|one| tables.iter().map(move |other| (one, other))) {
+        assert_eq!([one, other, one].map(|t| hash_of(t)), [one, other, one].map(|t| sha256(t)));
+    }
+}
+
 /// The count and the hash are of all words, the end word too.
 #[test]
 fn the_end_word_counts() {

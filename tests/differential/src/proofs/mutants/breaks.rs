@@ -131,13 +131,13 @@ wrong!(no_layer_beside_7, 7 => 7, |i| match right(i) {
 
 // Symbols that are given more than once.
 
-wrong!(only_the_first_copy_checked, 7 => 0 | 8, |i| {
+wrong!(only_the_first_copy_checked, 7 => 0 | 7 | 8, |i| {
     let copy: fn(&Look) -> bool =
         |look| look.symbols[..look.index].contains(&look.symbols[look.index]);
     check_by(&Rules { skipped: copy, ..RULES }, i)
 });
 
-wrong!(only_the_last_copy_checked, 7 => 0 | 8, |i| {
+wrong!(only_the_last_copy_checked, 7 => 0 | 7 | 8, |i| {
     let copy: fn(&Look) -> bool =
         |look| look.symbols[look.index + 1..].contains(&look.symbols[look.index]);
     check_by(&Rules { skipped: copy, ..RULES }, i)

@@ -1,14 +1,16 @@
 //! Wrong sample checks.
 
 use super::{base_symbol, SAMPLE_CHECK as CALL};
+use crate::difference::Difference;
 use crate::input::Input;
 use crate::library::right;
 use crate::mutants::{asking, passes, wrong, wrong_deep, wrong_test};
 use crate::records::root;
+use reference::record::{HEAD, RECORD};
 use reference::sample::{data_index, members};
 use reference::sha256::sha256;
 use reference::stop::Stop;
-use reference::tree::{committed, symbol_at, Committed, HASH};
+use reference::tree::{committed, symbol_at, Committed, HASH, ROOT};
 use std::ops::Range;
 
 /// A hash to be compared: whose it is, and where it is looked for.
@@ -100,6 +102,14 @@ wrong_test!(parity_by_the_hash_of_data, 7, 0 => 7, |i| {
 wrong!(all_refused, 0 => 7, |i| match right(i) {
     0 => 7,
     result => result,
+});
+
+wrong!(root_at_the_start_of_the_record, Difference::Result { .. }, |i| {
+    let mut seen = i.clone();
+    if let (0 | 7, RECORD) = (right(i) % 256, i["record"].len()) {
+        seen["record"].copy_within(..ROOT, HEAD);
+    }
+    right(&mut seen)
 });
 
 // Where the sample breaks.

@@ -4,20 +4,43 @@ use super::{needed, BLOCK_READ as CALL};
 use crate::difference::Difference;
 use crate::input::Input;
 use crate::library::right;
-use crate::mutants::{asking, wrong, wrong_deep, wrong_test};
+use crate::mutants::{asking, passes, wrong, wrong_deep, wrong_test};
+use crate::records::head;
 use reference::stop::Stop;
-use reference::tree::{place, symbol_at, SYMBOL};
+use reference::tree::{base_data, place, symbol_at, SYMBOL};
 
 // Blocks.
 
 /// `right`, but with the bytes of the tree from a place on.
 fn read_from(i: &mut Input, place: fn(usize) -> usize) -> u64 {
+    read_as(i, |i, length| {
+        let start = SYMBOL * place(i.number("depth") as usize);
+        let bytes = i["tree"][start..start + length].to_vec();
+        i["block"][..length].copy_from_slice(&bytes);
+    })
+}
+
+/// `right`, but where it is done, what this does to the lent block, which has so many bytes.
+fn read_as(i: &mut Input, read: impl Fn(&mut Input, usize)) -> u64 {
+    let before = i["block"].clone();
     let result = right(i);
     if result == 0 {
-        let start = SYMBOL * place(i.number("depth") as usize);
-        i["block"] = i["tree"][start..start + i["block"].len()].to_vec();
+        i["block"] = before;
+        let length = head(i).expect("a head").length;
+        read(i, length);
     }
     result
+}
+
+/// Copies so many bytes of the base's data.
+fn copy(i: &mut Input, length: usize) {
+    let data = base_data(i.number("depth") as usize, &i["tree"])[..length].to_vec();
+    i["block"][..length].copy_from_slice(&data);
+}
+
+#[test]
+fn right_bytes_pass() {
+    passes(&CALL, |i| read_as(i, copy));
 }
 
 wrong!(parity_read, Difference::Inside { buffer: "block", .. }, |i| {
@@ -25,6 +48,60 @@ wrong!(parity_read, Difference::Inside { buffer: "block", .. }, |i| {
 });
 
 wrong!(top_read, Difference::Inside { buffer: "block", .. }, |i| read_from(i, |_| 0));
+
+// As many as the record says.
+
+wrong!(rest_cleared, Difference::Inside { buffer: "block", .. }, |i| {
+    read_as(i, |i, length| {
+        copy(i, length);
+        i["block"][length..].fill(0);
+    })
+});
+
+wrong!(everything_copied, Difference::Inside { buffer: "block", .. }, |i| {
+    read_as(i, |i, _| copy(i, i["block"].len()))
+});
+
+wrong!(one_byte_more, Difference::Inside { buffer: "block", .. }, |i| {
+    read_as(i, |i, length| copy(i, i["block"].len().min(length + 1)))
+});
+
+wrong!(one_byte_fewer, Difference::Inside { buffer: "block", .. }, |i| {
+    read_as(i, |i, length| copy(i, length.saturating_sub(1)))
+});
+
+wrong!(whole_symbols_alone, Difference::Inside { buffer: "block", .. }, |i| {
+    read_as(i, |i, length| copy(i, length / SYMBOL * SYMBOL))
+});
+
+wrong!(last_symbol_whole, Difference::Inside { buffer: "block", .. }, |i| {
+    read_as(i, |i, length| copy(i, (length + SYMBOL - 1) / SYMBOL * SYMBOL))
+});
+
+wrong!(length_of_12_bits, Difference::Inside { buffer: "block", .. }, |i| {
+    read_as(i, |i, length| copy(i, length & 0xfff))
+});
+
+wrong_deep!(length_of_16_bits, Difference::Inside { buffer: "block", .. }, |i| {
+    read_as(i, |i, length| copy(i, length & 0xffff))
+});
+
+/// So many symbols at the least are needed for a block.
+fn symbols_of(length: usize) -> usize {
+    (length + SYMBOL - 1) / SYMBOL
+}
+
+wrong_test!(symbols_of_the_filling_not_needed, 9, 9 => 0, |i| {
+    let length = head(i).map_or(0, |head| head.length);
+    let start = i.size().map_or(0, |depth| needed(depth).start);
+    absent(i, |place, mark| mark == 0 && place < start + symbols_of(length))
+});
+
+wrong!(filling_looked_at, 0 => 13, |i| match (right(i), i.size(), head(i)) {
+    (0, Some(depth), Some(head))
+        if base_data(depth, &i["tree"])[head.length..].iter().any(|&byte| byte != 0) => 13,
+    (result, ..) => result,
+});
 
 // Absent symbols.
 
@@ -73,12 +150,11 @@ wrong_test!(last_absent, 9, Difference::Result { .. }, |i| {
 
 /// `right`, but with symbols of other places.
 fn read_at(i: &mut Input, cut: fn(usize) -> usize) -> u64 {
-    let result = right(i);
-    if result == 0 {
+    read_as(i, |i, length| {
         let places = needed(i.number("depth") as usize).map(cut);
-        i["block"] = places.flat_map(|place| symbol_at(&i["tree"], place).to_vec()).collect();
-    }
-    result
+        let data: Vec<u8> = places.flat_map(|p| symbol_at(&i["tree"], p).to_vec()).collect();
+        i["block"][..length].copy_from_slice(&data[..length]);
+    })
 }
 
 wrong!(bytes_of_the_tree_by_16_bits, Difference::Inside { buffer: "block", .. }, |i| {

@@ -5,10 +5,10 @@ use crate::difference::Difference;
 use crate::input::Input;
 use crate::library::{right, stopped};
 use crate::mutants::{passes, wrong, wrong_deep};
-use reference::record::Head;
+use reference::record::{Head, HEAD};
 use reference::sha256::sha256;
 use reference::table::{equations, house, to_bytes};
-use reference::tree::{filled, place, symbols, HASH, SYMBOL};
+use reference::tree::{base_data, block_len, place, symbols, HASH, SYMBOL};
 
 /// Rules of a writer, 01's or others.
 struct Rules {
@@ -18,9 +18,18 @@ struct Rules {
     /// The words of the table that codes a tree, where they are not the lent
     /// ones.
     words: Option<fn(usize) -> Vec<u32>>,
+    /// What stands where the block fills up, given what the tree holds there.
+    filling: fn(&mut [u8]),
+    /// The record, given what is lent and the root.
+    record: fn(&Input, Head, &[u8]) -> Vec<u8>,
 }
 
-const RULES: Rules = Rules { above: |symbol, s| (symbol % s, symbol / s), words: None };
+const RULES: Rules = Rules {
+    above: |symbol, s| (symbol % s, symbol / s),
+    words: None,
+    filling: |filling| filling.fill(0),
+    record: |_, head, root| head.before(root),
+};
 
 /// Writes by these rules what can be written.
 fn write_by(rules: &Rules, i: &mut Input) -> u64 {
@@ -33,7 +42,9 @@ fn write_by(rules: &Rules, i: &mut Input) -> u64 {
         None => i["table"].clone(),
     };
     let layers = equations(depth as u64, &table).expect("a table");
-    let mut data = filled(depth, &i["block"]);
+    let mut data = base_data(depth, &i["tree"]).to_vec();
+    data[..i["block"].len()].copy_from_slice(&i["block"]);
+    (rules.filling)(&mut data[i["block"].len()..]);
     for layer in (0..depth).rev() {
         let coded = code(data, &layers[layer]);
         let start = SYMBOL * place(layer, 0);
@@ -49,7 +60,8 @@ fn write_by(rules: &Rules, i: &mut Input) -> u64 {
             data[at..at + HASH].copy_from_slice(&sha256(bytes));
         }
     }
-    i["record"] = Head::of(depth, i["block"].len(), &i["table"]).before(&data);
+    let head = Head::of(depth, i["block"].len(), &i["table"]);
+    i["record"] = (rules.record)(i, head, &data);
     i["marks"].fill(1);
     0
 }
@@ -107,6 +119,98 @@ wrong!(lent_marks_tested, Difference::Result { expected: 0, .. }, |i| {
     }
 });
 
+// The filling.
+
+wrong!(old_bytes_in_the_place_of_zeros, Difference::Inside { buffer: "tree", .. }, |i| {
+    write_by(&Rules { filling: |_| (), ..RULES }, i)
+});
+
+wrong!(ones_in_the_place_of_zeros, Difference::Inside { buffer: "tree", .. }, |i| {
+    write_by(&Rules { filling: |filling| filling.fill(0xff), ..RULES }, i)
+});
+
+wrong!(end_mark_after_the_block, Difference::Inside { buffer: "tree", .. }, |i| {
+    let filling = |filling: &mut [u8]| {
+        filling.fill(0);
+        filling.iter_mut().take(1).for_each(|first| *first = 0x80);
+    };
+    write_by(&Rules { filling, ..RULES }, i)
+});
+
+wrong!(last_symbols_not_filled, Difference::Inside { buffer: "tree", .. }, |i| {
+    let filling = |filling: &mut [u8]| {
+        let len = filling.len() % SYMBOL;
+        filling[..len].fill(0);
+    };
+    write_by(&Rules { filling, ..RULES }, i)
+});
+
+wrong!(whole_blocks_alone, Difference::Result { expected: 0, found: 2 }, |i| {
+    match (right(&mut i.clone()), i.size()) {
+        (0, Some(depth)) if i["block"].len() < block_len(depth) => 2,
+        _ => right(i),
+    }
+});
+
+// The record.
+
+/// A test that a writer is found whose record is another, given what it is lent, the right
+/// head and the root.
+macro_rules! other_record {
+    ($name:ident, |$input:pat_param, $head:pat_param, $root:ident| $record:expr) => {
+        wrong!($name, Difference::Inside { buffer: "record", .. }, |i| {
+            write_by(&Rules { record: |$input, $head, $root| $record, ..RULES }, i)
+        });
+    };
+}
+
+other_record!(length_of_the_longest_block, |_, head, root| {
+    Head { length: block_len(head.depth), ..head }.before(root)
+});
+other_record!(length_in_symbols, |_, head, root| {
+    Head { length: head.length / SYMBOL, ..head }.before(root)
+});
+other_record!(length_rounded_up, |_, head, root| {
+    Head { length: (head.length + SYMBOL - 1) / SYMBOL * SYMBOL, ..head }.before(root)
+});
+other_record!(no_length, |_, head, root| Head { length: 0, ..head }.before(root));
+other_record!(depth_counted_from_0, |_, head, root| {
+    Head { depth: head.depth - 1, ..head }.before(root)
+});
+other_record!(count_without_the_end_word, |_, head, root| {
+    Head { words: head.words - 1, ..head }.before(root)
+});
+other_record!(count_of_bytes, |_, head, root| {
+    Head { words: 4 * head.words, ..head }.before(root)
+});
+other_record!(hash_without_the_end_word, |i, head, root| {
+    let table = &i["table"];
+    Head { hash: sha256(&table[..table.len() - 4]), ..head }.before(root)
+});
+other_record!(hash_of_the_block, |i, head, root| {
+    Head { hash: sha256(&i["block"]), ..head }.before(root)
+});
+other_record!(root_before_the_head, |_, head, root| [root, &head.bytes()[..]].concat());
+other_record!(length_before_the_depth, |_, head, root| {
+    let bytes = head.bytes();
+    [&bytes[4..8], &bytes[..4], &bytes[8..], root].concat()
+});
+other_record!(hash_before_the_words, |_, head, root| {
+    let bytes = head.bytes();
+    [&bytes[12..], &bytes[..12], root].concat()
+});
+other_record!(lowest_bytes_first, |_, head, root| {
+    let mut bytes = head.bytes();
+    bytes[..12].chunks_mut(4).for_each(<[u8]>::reverse);
+    [&bytes[..], root].concat()
+});
+other_record!(no_kinds, |_, head, root| {
+    let mut bytes = head.bytes();
+    [0, 4, 8].into_iter().for_each(|at| bytes[at] &= 0x3f);
+    [&bytes[..], root].concat()
+});
+other_record!(head_as_it_was_lent, |i, _, root| [&i["record"][..HEAD], root].concat());
+
 /// `right`, but each symbol that its place is cut for stands at the other one.
 fn written_at(i: &mut Input, cut: fn(usize) -> usize) -> u64 {
     let before = i["tree"].clone();
@@ -143,6 +247,20 @@ wrong_deep!(table_cut_at_16384_bytes, 0 => 3, |i| {
     let result = right(&mut seen);
     ["tree", "marks", "record"].into_iter().for_each(|buffer| i[buffer] = seen[buffer].clone());
     result
+});
+
+wrong_deep!(length_of_16_bits, Difference::Inside { buffer: "record", .. }, |i| {
+    let record = |_: &Input, head: Head, root: &[u8]| {
+        Head { length: head.length & 0xffff, ..head }.before(root)
+    };
+    write_by(&Rules { record, ..RULES }, i)
+});
+
+wrong_deep!(count_of_14_bits, Difference::Inside { buffer: "record", .. }, |i| {
+    let record = |_: &Input, head: Head, root: &[u8]| {
+        Head { words: head.words & 0x3fff, ..head }.before(root)
+    };
+    write_by(&Rules { record, ..RULES }, i)
 });
 
 wrong_deep!(last_parity_of_4096_not_coded, Difference::Inside { buffer: "tree", .. }, |i| {
