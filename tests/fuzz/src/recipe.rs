@@ -3,11 +3,11 @@
 
 use differential::input::Input;
 use differential::random::Random;
-use differential::records::{head, put_kind, put_value, COUNT, DEPTH, LENGTH};
+use differential::records::{head, put_head, put_kind, put_value, COUNT, DEPTH, LENGTH};
 use differential::tables::lists::{random_table, table_of};
 use differential::tables::uses::use_times;
 use differential::volumes::{lengths, Volume};
-use reference::record::HEAD;
+use reference::record::{Head, HEAD};
 use reference::table::{data_symbols, house, listed, write};
 use reference::tree::{block_len, symbols, HASH, SYMBOL};
 
@@ -126,17 +126,18 @@ impl<'a> Recipe<'a> {
         (0..changes).for_each(|_| self.change_head(input));
     }
 
-    /// Changes the head of a record: a kind, the depth, the length, the number of words or the
-    /// hash.
+    /// Changes the head of a record: a kind, the depth, the length, the number of words, the
+    /// hash, or both of these.
     fn change_head(&mut self, input: &mut Input) {
         let (said, change) = (head(input).expect("a head"), self.byte());
-        match change % 8 {
+        match change % 9 {
             index @ 0..=2 => put_kind(input, usize::from(index), u32::from(self.byte()) % 4),
             3 => put_value(input, DEPTH, u32::from(self.byte())),
             4 => put_value(input, LENGTH, self.length(said.depth.clamp(1, 9)) as u32),
             5 => put_value(input, LENGTH, self.number(3) as u32),
             6 => put_value(input, COUNT, (said.words ^ 1 << (self.byte() % 30)) as u32),
-            _ => input["record"][HEAD - HASH + usize::from(self.byte()) % HASH] ^= 1,
+            7 => input["record"][HEAD - HASH + usize::from(self.byte()) % HASH] ^= 1,
+            _ => put_head(input, &Head { words: said.words + 1, hash: [0; HASH], ..said }),
         }
     }
 
