@@ -205,11 +205,7 @@ impl Length {
     /// Lengths that are right ones only for another size, or near the limits.
     pub fn edges(self, sizes: &[usize]) -> Vec<usize> {
         match self {
-            Length::Of(right) => sizes.iter().map(|&size| right(size)).collect(),
-            Length::UpTo(most) => {
-                let near = |&size: &usize| [most(size) - 1, most(size), most(size) + 1];
-                sizes.iter().flat_map(near).chain([1, SYMBOL - 1, SYMBOL, SYMBOL + 1]).collect()
-            }
+            Length::Of(most) | Length::UpTo(most) => sizes.iter().map(|&s| most(s)).collect(),
             Length::Within { least, most, step } => {
                 let near = |limit: usize| [limit.wrapping_sub(1), limit, limit.wrapping_add(1)];
                 let beyond = (1..step).map(|more| least + more).chain([most.wrapping_add(step)]);

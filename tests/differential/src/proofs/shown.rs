@@ -65,7 +65,7 @@ fn withheld_members_of_layer(
 
 /// What a repair writes.
 pub fn written_by_repair(c: &mut Comparisons) -> Compared {
-    for _ in 0..c.turns(4000) {
+    for _ in 0..c.turns(2500) {
         let depth = c.some_depth();
         let words = some_table(depth, &mut c.random);
         let layer = c.random.below(depth);

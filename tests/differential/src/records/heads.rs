@@ -149,7 +149,7 @@ fn roots_alone(c: &mut Comparisons, depth: usize) -> Compared {
 fn later_tests(c: &mut Comparisons, depth: usize) -> Compared {
     let later = c.call.tests.iter().skip_while(|test| test.number != RECORD.number).skip(1);
     for test in later {
-        for turn in 0..turns(depth, 2 * CAUSES.len()) {
+        for turn in 0..turns(depth, CAUSES.len()) {
             let mut input = c.good(depth);
             (test.spoil)(&mut input, &mut c.random);
             spoil(&mut input, turn % CAUSES.len(), &mut c.random);

@@ -107,7 +107,7 @@ fn hashes(c: &mut Comparisons, depth: usize) -> Compared {
 /// Tables that are taken, of as many words and of others, which the record does not name; and
 /// which it names.
 fn other_tables(c: &mut Comparisons, depth: usize) -> Compared {
-    for _ in 0..turns(depth, 30) {
+    for _ in 0..turns(depth, 16) {
         let right = c.good(depth);
         let words = to_words(&right["table"]);
         let sibling = another_of_as_many_words(depth, &words, &mut c.random);

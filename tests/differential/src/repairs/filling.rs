@@ -15,16 +15,17 @@ use reference::tree::{block_len, symbols};
 
 /// No other byte, and one: the first that fills up, a middle one, the last, and each that is
 /// the last or the first of a symbol near. A full block is never misfilled. Of a deep depth one
-/// of these for a length.
+/// of these for each second length.
 pub fn one_byte(c: &mut Comparisons) -> Compared {
     for &depth in c.sizes {
-        for (turn, length) in lengths(depth).into_iter().enumerate() {
+        let all = lengths(depth).into_iter().enumerate();
+        for (turn, length) in all.filter(|(turn, _)| depth < DEEP || turn % 2 == depth % 2) {
             let len = block_len(depth) - length;
             let near = [255, 256, 511, 512].map(|end: usize| end.saturating_sub(length % 256));
-            let all = [0, len / 2, len.saturating_sub(1), 1, len.saturating_sub(256)];
-            let some = all.into_iter().chain(near).filter(|&other| other < len).map(Some);
+            let some = [0, len / 2, len.saturating_sub(1), 1, len.saturating_sub(256)];
+            let some = some.into_iter().chain(near).filter(|&other| other < len).map(Some);
             let some = [None].into_iter().chain(some).enumerate();
-            let chosen = |at: usize| depth < DEEP || at == turn % 4 || len == 0;
+            let chosen = |at: usize| depth < DEEP || at == (turn / 2 + depth) % 4 || len == 0;
             for other in some.filter(|&(at, _)| chosen(at)).map(|(_, other)| other) {
                 let mut filling = vec![0; len];
                 let byte = 1 << c.random.below(8);
@@ -60,7 +61,7 @@ fn losses_of(c: &mut Comparisons, volume: &Volume, end: End, turn: usize) -> Com
 /// Random bytes that fill up, and losses and bad copies that may come back or not.
 pub fn more_bytes(c: &mut Comparisons) -> Compared {
     for &depth in c.sizes {
-        for turn in 0..turns(depth, 120) {
+        for turn in 0..turns(depth, 80) {
             let words = some_table(depth, &mut c.random);
             let volume = Volume::filled_with(depth, &words, &[], &mut c.random);
             let mut input = of(&volume, &mut c.random);

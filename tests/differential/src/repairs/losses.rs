@@ -118,7 +118,7 @@ pub fn one_symbol(c: &mut Comparisons) -> Compared {
 }
 
 pub fn random_losses(c: &mut Comparisons) -> Compared {
-    for turn in 0..c.turns(4000) {
+    for turn in 0..c.turns(3000) {
         let volume = any_volume(c);
         let mut input = of(&volume, &mut c.random);
         let parts = PARTS[turn % PARTS.len()];
@@ -146,7 +146,7 @@ pub fn lost_layers(c: &mut Comparisons) -> Compared {
 }
 
 pub fn bad_copies(c: &mut Comparisons) -> Compared {
-    for turn in 0..c.turns(4000) {
+    for turn in 0..c.turns(3000) {
         let volume = any_volume(c);
         let mut input = of(&volume, &mut c.random);
         let parts = PARTS[turn % PARTS.len()];

@@ -54,7 +54,7 @@ fn shows_fault(c: &mut Comparisons, what: &str, input: &Input, layer: usize) -> 
 /// Several replaced symbols of one layer, data too, and losses and bad
 /// copies: which equation is taken first decides.
 pub fn some_faults(c: &mut Comparisons) -> Compared {
-    for turn in 0..c.turns(7000) {
+    for turn in 0..c.turns(5500) {
         let depth = c.some_depth();
         let words = any_table(depth, &mut c.random);
         let layer = c.random.below(depth);

@@ -84,7 +84,7 @@ fn block_lengths(c: &mut Comparisons) -> Compared {
 fn blocks(c: &mut Comparisons) -> Compared {
     for &depth in c.sizes {
         let mut tables = vec![house(depth), table_of(depth, 2), table_of(depth, 8)];
-        tables.extend((0..turns(depth, 60)).map(|_| random_table(depth, &mut c.random)));
+        tables.extend((0..turns(depth, 45)).map(|_| random_table(depth, &mut c.random)));
         for (number, words) in tables.into_iter().enumerate() {
             // Of a deep depth one content for a table.
             let contents = CONTENTS.into_iter().enumerate();
