@@ -49,6 +49,18 @@ pub const HEADS: &[(&str, Ask)] = &[
         heads(&Rules { other: |said, depth| said & 0x1fff_ffff != depth, ..RULES }, i)
     }),
     ("no words in the table refused", |i| heads(&Rules { count: |words| words == 0, ..RULES }, i)),
+    ("lowest bytes first", |i| {
+        let mut seen = i.clone();
+        let words = i["record"].len().min(12) / 4 * 4;
+        seen["record"][..words].chunks_mut(4).for_each(<[u8]>::reverse);
+        heads(&RULES, &seen)
+    }),
+    ("the length before the depth", |i| {
+        let mut seen = i.clone();
+        let words = i["record"].len().min(8) / 8 * 8;
+        seen["record"][..words].rotate_left(words / 2);
+        heads(&RULES, &seen)
+    }),
     ("too many words refused", |i| heads(&Rules { count: |words| words > 55_198, ..RULES }, i)),
 ];
 

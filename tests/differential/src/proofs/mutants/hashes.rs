@@ -8,10 +8,11 @@ use crate::proofs::PROOF_CHECK as CALL;
 use crate::records::root;
 use crate::results::number;
 use reference::proof::{hash_for, Head, HEAD};
+use reference::record;
 use reference::sha256::sha256;
 use reference::stop::Stop;
 use reference::table::{equations, house_equation};
-use reference::tree::{exclusive_or, symbol_at, HASH};
+use reference::tree::{exclusive_or, symbol_at, HASH, ROOT};
 use std::ops::Range;
 
 /// A hash to be compared: that of which symbol of the proof.
@@ -171,6 +172,14 @@ wrong!(one_layer_unchecked, 7 => 0 | 7 | 8, |i| {
 
 wrong!(last_byte_of_a_hash_unchecked, 7 => 0 | 8, |i| {
     check_by(&Rules { compared: 0..HASH - 1, ..RULES }, i)
+});
+
+wrong!(root_at_the_start_of_the_record, Difference::Result { .. }, |i| {
+    let mut seen = i.clone();
+    if matches!(right(i) % 256, 0 | 7 | 8) {
+        seen["record"].copy_within(..ROOT, record::HEAD);
+    }
+    right(&mut seen)
 });
 
 // The withheld member.

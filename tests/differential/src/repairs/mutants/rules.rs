@@ -69,6 +69,8 @@ pub struct Rules {
     /// Whether the count of an equation's absent members, in a layer of k data symbols, is
     /// lowered when its member of this position is stored.
     pub lowered: fn(k: usize, equation: usize, position: usize) -> bool,
+    /// The bytes of the record before the root.
+    pub head: usize,
     /// The bytes of the base's data that must be zero, where the block has so many bytes.
     pub filling: fn(data: &[u8], length: usize) -> &[u8],
 }
@@ -90,6 +92,7 @@ pub const RULES: Rules = Rules {
     back: usize::MAX,
     comes_back: false,
     lowered: |_, _, _| true,
+    head: record::HEAD,
     filling: |data, length| &data[length..],
 };
 
@@ -102,7 +105,7 @@ pub fn repair_by(rules: &Rules, i: &mut Input) -> u64 {
     let lent = i["tree"].clone();
     let length = head(i).expect("a head").length;
     let [record, _, tree, marks, output] = i.all();
-    let root = record::root(record);
+    let root = &record[rules.head..];
     let mut work = Work { rules, root, lent, tree, marks, output, stored: 0 };
     let mut end = work.all_layers(&equations);
     let filling = (rules.filling)(base_data(equations.len(), work.tree), length);

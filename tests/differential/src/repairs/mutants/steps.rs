@@ -26,6 +26,10 @@ macro_rules! other_rule {
 
 wrong!(words_after_the_end_word_last, Difference::Result { .. }, |i| trailing_words_after(4, i));
 
+// The record.
+
+other_rule!(root_at_the_start_of_the_record, head: 0);
+
 // Layers.
 
 other_rule!(top_layer_only_and_the_rest_marked, layers: 1);
