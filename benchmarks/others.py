@@ -134,7 +134,7 @@ class Cedunmi(Commands):
         (self.damaged / "tree" / "marks").write_bytes(marks)
 
     def repair_words(self):
-        files = ["tree/root", "table", "tree/tree", "tree/marks", "repaired"]
+        files = ["tree/record", "table", "tree/tree", "tree/marks", "repaired"]
         return [self.tool, "repair", "--force", str(self.shape.depth), *files]
 
     def seed(self, percent):
@@ -211,7 +211,7 @@ def ours(shape, tree, repair):
     depth = str(shape.depth)
     times = [tree["cedunmi", depth, str(len(shape.volume))],
              *(repair["cedunmi", percent, depth, str(shape.symbols)] for percent in LOSSES)]
-    stored = shape.symbols * (shape.piece + 1) + 512
+    stored = shape.symbols * (shape.piece + 1) + 556
     return row(shape, "Cedunmi, calls", stored, times)
 
 

@@ -5,9 +5,6 @@ from program import COMPARED, DEPTHS, PROCESSES, TRIALS
 
 SHORT, LONG = 256, 1 << 20
 
-# The bytes that SHA-256 compresses for a symbol: five blocks, with the padding.
-COMPRESSED = 320
-
 # Keeps OpenSSL's vector code off: no SSSE3, AVX, AVX2, BMI and SHA instructions.
 SCALAR = {"OPENSSL_ia32cap": "~0x1000020000000000:~0x20000128"}
 
@@ -35,6 +32,7 @@ REPAIRS = [
     *((before + loss, f"{table}, {title}") for before, table in REPAIRED for loss, title in LOSSES),
     ("fault", "house table, a fault in the base"),
     ("stopping", "house table, a stopping set in the base"),
+    ("empty", "house table, nothing lost, a volume of 0 bytes"),
 ]
 
 # What is read and written, by name.
@@ -49,6 +47,8 @@ CHECKS = [
     ("cedunmi", "sample", "a sample"),
     ("hashes", "sample", "its hashing alone"),
 ]
+
+PROOFS = [("proof", "the longest proof"), ("long", "the same, long table")]
 
 BEYOND = [str(depth) for depth in DEPTHS[1:]]
 
@@ -133,13 +133,23 @@ def ratio(best, other, *key):
     return f"{best[(other, *key)] / best[('cedunmi', *key)]:.2f}"
 
 
+def compressed(length):
+    """The bytes that SHA-256 compresses for a message: whole blocks, with the padding."""
+    return (length + 8) // 64 * 64 + 64
+
+
+def compressed_for(depth):
+    """The same for a tree of the house table: its symbols, and the table."""
+    return program.symbols(depth) * compressed(SHORT) + compressed(4 * program.house_words(depth))
+
+
 def writing(best, hash_best):
     rows = [["Writing a tree", "microseconds", "per symbol", "per symbol, long table", "MB/s of block",
              "/plain Rust", "/hashing alone", "/compressing alone"]]
     symbol_times = zip(each_symbol(best, "cedunmi"), each_symbol(best, "long"))
     for ((_, *key), ours), (house, long) in zip(of(best, "cedunmi"), symbol_times):
         depth, size = key
-        compressing = program.symbols(depth) * COMPRESSED * hash_best[0, LONG] / LONG
+        compressing = compressed_for(int(depth)) * hash_best[0, LONG] / LONG
         rows.append([f"depth {depth}", f"{ours / 1000:.0f}", f"{house:.2f}", f"{long:.2f}",
                      f"{int(size) / ours * 1000:.1f}", ratio(best, "reference", *key),
                      ratio(best, "hashes", *key), f"{compressing / ours:.2f}"])
@@ -170,8 +180,8 @@ def searching(counts):
 
 
 def check_times(best):
-    """With the times for hashing and reading alone, which are those of two calls, as another name's."""
-    alone = {("alone", *key): time + best[("reading", *key)]
+    """With the times for hashing and reading alone, the table's hash too, which are those of three calls, as another name's."""
+    alone = {("alone", *key): time + best[("reading", *key)] + best[("naming", *key)]
              for (name, *key), time in best.items() if name == "hashes" and ("reading", *key) in best}
     return {**best, **alone}
 
@@ -233,7 +243,7 @@ def read_growths(table):
 
 
 def check_growths(checks):
-    for case, title in (("proof", "the longest proof"), ("long", "the same, long table")):
+    for case, title in PROOFS:
         yield Growth(title, "its hashing and reading alone", over_alone(checks, "proof", "alone"),
                      [("", over_alone(checks, case, "alone"))])
     yield Growth("a sample", "its hashing alone", over_alone(checks, "sample", "hashes"),

@@ -1,12 +1,12 @@
 //! Checking the longest fault proof, with a table like the house table and with a long one, and a sample, beside the reference, beside
-//! hashing alone and beside reading the table alone.
+//! hashing alone and beside reading and hashing the table alone.
 
 use crate::depths::{calls, depths};
 use crate::turns::{each, shortest, Work};
-use crate::volume::{hash, house, long, with_end, Volume};
+use crate::volume::{forget_hash, hash, hash_table, house, long, with_end, with_table, Volume};
 use reference::proof::{self, Head};
 use reference::sample;
-use reference::table::{to_bytes, write, Layers};
+use reference::table::Layers;
 
 /// The sampled base symbol.
 const NUMBER: u64 = 13;
@@ -23,11 +23,12 @@ struct Checked {
 }
 
 impl Checked {
-    /// A proof of a tree that is coded by a table, by the same table with these members beside the last one in its last equation.
+    /// A proof of a tree that is coded by a table, by the same table with these members beside the last one in its last equation: the
+    /// record names that.
     fn longest_proof(table: Layers, members: [usize; 7]) -> Checked {
-        let mut volume = Volume::written(&table);
+        let coded = Volume::written(&table);
         let layers = with_end(table, &members);
-        volume.table = to_bytes(&write(&layers));
+        let volume = with_table(coded, &layers);
         let (layer, equation) = (layers.len() - 1, layers[layers.len() - 1].len() - 1);
         let members = &layers[layer][equation];
         let head = Head { layer, equation, withheld: members[members.len() - 1] };
@@ -51,34 +52,38 @@ impl Checked {
     }
 }
 
-const PROOF: [Work<Checked>; 4] = [
+const PROOF: [Work<Checked>; 5] = [
     ("cedunmi", |c| {
         let Checked { volume: v, bytes, .. } = &*c;
         each(c.times(), || {
-            assert_eq!(cedunmi_sys::cmt_proof_check(v.depth, &v.root, &v.table, bytes), 0);
+            assert_eq!(cedunmi_sys::cmt_proof_check(v.depth, &v.record, &v.table, bytes), 0);
         })
     }),
     ("reference", |c| {
         let Checked { volume: v, bytes, .. } = &*c;
-        each(c.times(), || assert!(proof::check(v.depth, &v.root, &v.table, bytes).is_ok()))
+        each(c.times(), || {
+            forget_hash();
+            assert!(proof::check(v.depth, &v.record, &v.table, bytes).is_ok());
+        })
     }),
     HASHES,
     ("reading", |c| {
         let v = &c.volume;
         each(c.times(), || assert_eq!(cedunmi_sys::cmt_table_check(v.depth, &v.table), 0))
     }),
+    ("naming", |c| each(c.times(), || hash_table(&c.volume.table))),
 ];
 
 const SAMPLE: [Work<Checked>; 3] = [
     ("cedunmi", |c| {
         let Checked { volume: v, bytes, .. } = &*c;
         each(c.times(), || {
-            assert_eq!(cedunmi_sys::cmt_sample_check(v.depth, NUMBER, &v.root, bytes), 0);
+            assert_eq!(cedunmi_sys::cmt_sample_check(v.depth, NUMBER, &v.record, bytes), 0);
         })
     }),
     ("reference", |c| {
         let Checked { volume: v, bytes, .. } = &*c;
-        each(c.times(), || assert!(sample::check(v.depth, NUMBER, &v.root, bytes).is_ok()))
+        each(c.times(), || assert!(sample::check(v.depth, NUMBER, &v.record, bytes).is_ok()))
     }),
     HASHES,
 ];

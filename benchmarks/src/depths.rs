@@ -16,7 +16,7 @@ pub fn depths() -> RangeInclusive<usize> {
     1..=largest().unwrap_or(9)
 }
 
-/// Whether what has this name is timed at that depth.
+/// Whether what has this name is timed at that depth: an earlier revision's program knows the first two.
 pub fn offered(name: &str, depth: u64) -> bool {
     match name {
         "cedunmi" | "long" => true,

@@ -1,14 +1,13 @@
 //! Repairing trees with the house table, beside the reference and beside hashing alone, and with the worst tables.
 
-use crate::depths::{calls, depths};
+use crate::depths::{calls, depths, offered};
 use crate::turns::{each, shortest, Work};
-use crate::volume::{hash, house, Volume};
+use crate::volume::{forget_hash, hash, hash_table, house, with_table, Volume};
 use linear::lossy::Lossy;
 use linear::search::looked_at;
 use linear::worst::{self, Chain};
 use reference::proof::proof_len;
 use reference::repair::{output_len, repair, End, Repaired};
-use reference::table::{to_bytes, write};
 use reference::tree::place;
 
 /// A tree as it is lent, and the buffers that are.
@@ -19,7 +18,7 @@ struct Lent {
     output: Vec<u8>,
     /// What its repair gives.
     result: u64,
-    /// The hashes that no repair can do without: of each symbol that is held
+    /// The hashes of symbols that no repair can do without: of each that is held
     /// in a layer that is entered, and of each that is formed.
     hashes: usize,
 }
@@ -32,6 +31,7 @@ impl Lent {
             End::Fault(bytes) => (1, bytes, depth),
             End::Unavailable(layer) => (2, layer, layer + 1),
             End::Twins => (3, 0, depth),
+            End::Misfilled => (13, 0, depth),
         };
         let held = volume.marks[..place(layers, 0)].iter().filter(|&&mark| mark == 1).count();
         Lent {
@@ -44,21 +44,22 @@ impl Lent {
         }
     }
 
-    /// Puts back what a repair changed.
+    /// Puts back what a repair changed, and lets the reference hash the table again.
     fn put_back(&mut self) {
+        forget_hash();
         self.tree.copy_from_slice(&self.volume.tree);
         self.marks.copy_from_slice(&self.volume.marks);
     }
 
     fn cedunmi(&mut self) {
         let Lent { volume: v, tree, marks, output, .. } = self;
-        let result = cedunmi_sys::cmt_repair(v.depth, &v.root, &v.table, tree, marks, output);
+        let result = cedunmi_sys::cmt_repair(v.depth, &v.record, &v.table, tree, marks, output);
         assert_eq!(result, self.result);
     }
 
     fn reference(&mut self) {
         let Lent { volume: v, tree, marks, output, .. } = self;
-        let done = repair(v.depth, &v.root, &v.table, tree, marks, output).expect("a repair");
+        let done = repair(v.depth, &v.record, &v.table, tree, marks, output).expect("a repair");
         assert_eq!(done.stored as u64, self.result >> 32 & 0xffff);
     }
 
@@ -78,10 +79,16 @@ impl Lent {
     }
 }
 
-const WORK: [Work<Lent>; 3] = [
+const WORK: [Work<Lent>; 4] = [
     ("cedunmi", |lent| lent.timed(Lent::cedunmi)),
     ("reference", |lent| lent.timed(Lent::reference)),
-    ("hashes", |lent| each(lent.times(), || hash(&lent.volume.tree, lent.hashes))),
+    ("hashes", |lent| {
+        each(lent.times(), || {
+            hash(&lent.volume.tree, lent.hashes);
+            hash_table(&lent.volume.table);
+        })
+    }),
+    ("naming", |lent| each(lent.times(), || hash_table(&lent.volume.table))),
 ];
 
 /// A name, and a table with what is lost.
@@ -109,15 +116,23 @@ fn lent(lossy: Lossy) -> Lent {
     Lent::new(lossy.written(), repaired)
 }
 
-/// A tree of the house table, with a table that has another member in its last equation: by it, the tree has a fault in its base.
+/// A tree of the house table, with a table that has another member in its last equation, which the record names: by it, the tree has a
+/// fault in its base.
 fn fault(depth: usize) -> Lent {
     let mut layers = house(depth);
-    let mut volume = Volume::written(&layers);
+    let coded = Volume::written(&layers);
     let last = layers.last_mut().and_then(|equations| equations.last_mut()).expect("an equation");
     last[0] -= 1;
     let end = End::Fault(proof_len(depth - 1, last.len()));
-    volume.table = to_bytes(&write(&layers));
-    Lent::new(volume, Repaired { end, stored: 0 })
+    Lent::new(with_table(coded, &layers), Repaired { end, stored: 0 })
+}
+
+/// A tree of no bytes: all of its block is filling, which a repair looks at.
+fn empty(depth: usize) -> Lent {
+    let mut volume = Volume::new(&house(depth));
+    volume.block.clear();
+    volume.write();
+    Lent::new(volume, Repaired { end: End::Whole, stored: 0 })
 }
 
 /// Prints name, case, depth, symbols and the shortest time of each over the trials, taken in turns.
@@ -127,6 +142,9 @@ pub fn time(trials: usize) -> Result<(), String> {
             print(trials, case, lent(of_depth(depth)));
         }
         print(trials, "fault", fault(depth));
+        if offered("empty", depth as u64) {
+            print(trials, "empty", empty(depth));
+        }
     }
     Ok(())
 }

@@ -2,20 +2,29 @@
 
 use crate::depths::{calls, depths};
 use crate::turns::{each, shortest, Work};
-use crate::volume::{hash, house, long, write_plainly, Volume};
+use crate::volume::{hash, hash_table, house, long, write_plainly, Volume};
 
 /// Trees in one trial.
 fn times(v: &Volume) -> usize {
     calls(8, v.depth)
 }
 
-const WORK: [Work<Volume>; 3] = [
+const WORK: [Work<Volume>; 4] = [
     ("cedunmi", |v| each(times(v), || v.write())),
     ("reference", |v| each(times(v), || write_plainly(v))),
-    ("hashes", |v| each(times(v), || hash(&v.tree, v.marks.len()))),
+    ("hashes", |v| {
+        each(times(v), || {
+            hash(&v.tree, v.marks.len());
+            hash_table(&v.table);
+        })
+    }),
+    ("naming", |v| each(times(v), || hash_table(&v.table))),
 ];
 
-const LONG: [Work<Volume>; 1] = [("long", |v| each(times(v), || v.write()))];
+const LONG: [Work<Volume>; 2] = [
+    ("long", |v| each(times(v), || v.write())),
+    ("long-naming", |v| each(times(v), || hash_table(&v.table))),
+];
 
 /// Prints name, depth, bytes of the block and the shortest time of each over the trials, taken in turns.
 pub fn time(trials: usize) -> Result<(), String> {

@@ -1,15 +1,30 @@
 //! Trees of the house table, of the table with the longest equations, and of the worst tables.
 
 use linear::worst::{self, Chain};
-use reference::table::Layers;
+use reference::record::{hash_of, root, Head};
+use reference::table::{to_bytes, write, Layers};
 use reference::tree::{self, SYMBOL};
 
 pub use linear::volume::{house, Volume};
 
 /// The reference's writing.
 pub fn write_plainly(volume: &mut Volume) {
-    let Volume { depth, table, block, tree, marks, root } = volume;
-    assert!(tree::write(*depth, table, block, tree, marks, root).is_ok());
+    let Volume { depth, table, block, tree, marks, record } = volume;
+    forget_hash();
+    assert!(tree::write(*depth, table, block, tree, marks, record).is_ok());
+}
+
+/// Lets the reference hash the table of its next call: it keeps the hash of the last one.
+pub fn forget_hash() {
+    hash_of(&[]);
+}
+
+/// A tree with another table, which its record then names.
+pub fn with_table(mut volume: Volume, layers: &Layers) -> Volume {
+    volume.table = to_bytes(&write(layers));
+    let head = Head::of(layers.len(), volume.block.len(), &volume.table);
+    volume.record = head.before(root(&volume.record));
+    volume
 }
 
 /// A table whose members are scattered, eight in nearly every equation.
@@ -30,4 +45,9 @@ pub fn hash(tree: &[u8], symbols: usize) {
     for symbol in tree.chunks_exact(SYMBOL).cycle().take(symbols) {
         assert_eq!(cedunmi_sys::cmt_sha256(symbol, &mut digest), 0);
     }
+}
+
+/// Hashes a table, and does nothing else.
+pub fn hash_table(table: &[u8]) {
+    assert_eq!(cedunmi_sys::cmt_sha256(table, &mut [0; 32]), 0);
 }
