@@ -14,6 +14,9 @@ from program import PROCESSES, ROOT, TRIALS
 
 LOSSES = ["0", "25", "47"]
 
+# The bytes of a record, which is stored beside tree and marks.
+RECORD = 556
+
 HEAD = ["The same volume", "its bytes", "bytes stored", "coding", "repair, nothing lost",
         "25 % lost", "47 % lost"]
 
@@ -211,7 +214,7 @@ def ours(shape, tree, repair):
     depth = str(shape.depth)
     times = [tree["cedunmi", depth, str(len(shape.volume))],
              *(repair["cedunmi", percent, depth, str(shape.symbols)] for percent in LOSSES)]
-    stored = shape.symbols * (shape.piece + 1) + 556
+    stored = shape.symbols * (shape.piece + 1) + RECORD
     return row(shape, "Cedunmi, calls", stored, times)
 
 
