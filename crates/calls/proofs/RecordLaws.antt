@@ -2,16 +2,15 @@
 use mathlib.Core.Path.{_≡_, refl, sym, ap, ap₂, _∙_, subst}
 use mathlib.Core.Bool.{Bool, true, false, _&&_}
 use mathlib.Core.List.{List}
-use Prim.Native.Nat.{ℕ, _-_, _%_, _≤_}
+use Prim.Native.Nat.{ℕ, _-_, _≤_}
 use native.Mathlib.Omega.{arith}
 use lib.ListN.{length, take, drop, length-drop}
 use lib.Seq.{take-all}
-use lib.Dec.{leb, eqb}
-use borrow.Author.Tests.{leb-true}
 use Rattle.octets.proofs.Choice.{by-test, and-yes, yes-and, pick-yes, pick-no, pick-ind}
 use Rattle.sha256.specs.Call.{longest}
 use Rattle.parity_table.specs.Shape.{depthFits}
-use Rattle.table_bytes.specs.Bytes.{wordsOf, lengthFits, maxBytes}
+use Rattle.table_bytes.specs.Bytes.{wordsOf, lengthFits}
+use Rattle.table_bytes.proofs.ByteForm.{quarter-most}
 use Rattle.root_record.specs.Records.{rootIn, headRight, namesTable}
 use Rattle.parity_table.proofs.Shape.{depth-low}
 use Rattle.calls.specs.declared.Stop.{Stop}
@@ -51,8 +50,7 @@ module _ (d : ℕ) (r : List ℕ) where
 
 -- a table that calls take can be hashed
 pub table-short : (n : ℕ) → lengthFits n ≡ true → n ≤ longest
-unfolding lengthFits
-table-short n e = omega (arith, leb-true n maxBytes (and-yes (leb n maxBytes) (eqb (n % 4) 0) e .0))
+table-short n e = omega (arith, quarter-most n e)
 
 module _ (r table : List ℕ) where
   pub other-table : namesTable r table ≡ false → Stopped OtherTable ≡ testNamed r table

@@ -1,4 +1,5 @@
--- What a C program reads from the one number that a call returns, and from a record. The functions are those of include/cedunmi.h, by their arithmetic. Statements only.
+-- What a C program reads from the one number that a call returns, and from a record. The functions are those of include/cedunmi.h, by their arithmetic.
+-- Statements only.
 use mathlib.Core.Path.{_≡_}
 use mathlib.Core.Logic.{_↔_, _≢_}
 use mathlib.Core.Bool.{true}
