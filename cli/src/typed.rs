@@ -26,6 +26,9 @@ impl From<Stop> for Slips {
     }
 }
 
+/// What may stand after the word or number that a line begins with, and in a hash, beside white space.
+const SEPARATORS: [char; 2] = [':', '.'];
+
 /// A line of a typed text that has something to say.
 struct Line<'a> {
     /// Its number in the text, from 1.
@@ -51,7 +54,7 @@ fn lines(text: &str) -> Vec<Line<'_>> {
 
 impl Line<'_> {
     fn first(&self) -> &str {
-        self.words[0].trim_end_matches([':', '.'])
+        self.words[0].trim_end_matches(SEPARATORS)
     }
 
     /// Whether it has the check of all.
@@ -70,10 +73,17 @@ impl Line<'_> {
         if let Some(word) = WORDS.iter().position(|(word, _)| self.first() == *word) {
             return Some(word);
         }
-        match self.first().starts_with('t') {
+        match self.is_table_hash() {
             true => Some(TABLE_HASH),
             false => self.number().map(|number| TABLE_HASH + 1 + number),
         }
+    }
+
+    /// Whether it begins with T, as a word of its own or before digits.
+    fn is_table_hash(&self) -> bool {
+        let digits =
+            |rest: &str| rest.chars().all(|c| c.is_ascii_hexdigit() || SEPARATORS.contains(&c));
+        self.first().strip_prefix('t').map_or(false, digits)
     }
 
     /// The same in words.
@@ -84,9 +94,9 @@ impl Line<'_> {
         }
     }
 
-    /// What stands after the first words, without spacing.
+    /// What a hash's line has after the first words, without spacing.
     fn after(&self, words: usize) -> String {
-        self.words[words..].concat().replace([':', '.'], "")
+        self.words[words..].concat().replace(SEPARATORS, "")
     }
 }
 
@@ -118,14 +128,9 @@ impl Form {
 
     /// The digits of a hash, with its check where there is one.
     fn digits(self) -> usize {
-        DIGITS + self.check()
-    }
-
-    fn check(self) -> usize {
-        if self.checked {
-            CHECK
-        } else {
-            0
+        match self.checked {
+            true => DIGITS + CHECK,
+            false => DIGITS,
         }
     }
 
@@ -156,7 +161,9 @@ pub fn parse(text: &[u8]) -> Result<Typed, Slips> {
     let (form, record, mut slips) = best.expect("there are forms");
     if slips.is_empty() {
         let right = digits(&record, CHECK_OF_ALL)?;
-        slips.extend(of_all.iter().filter_map(|line| slip_of_all(line, &right, form)));
+        slips.extend(of_all.iter().take(1).filter_map(|line| slip_of_all(line, &right, form)));
+        let more = of_all.iter().skip(1);
+        slips.extend(more.map(|line| format!("line {}: the check of all is there twice", line.at)));
         slips.extend(slip_of_length(&lines, &record));
     }
     match slips.is_empty() {
@@ -213,6 +220,10 @@ fn misplaced(place: usize, wanted: usize) -> String {
     let root = "; sixteen hashes alone are a root, as it was before there were records";
     match place + 1 == wanted {
         true => format!("{} is there twice", name(place)),
+        false if wanted == LINES => {
+            let begins = if place == 0 { ", and another begins: a text has one" } else { "" };
+            format!("{} comes after {}, where a record ends{begins}", name(place), name(LINES - 1))
+        }
         false if place < wanted => format!("{} is wanted, not {}", name(wanted), name(place)),
         false => {
             let more = if (wanted, place) == (0, TABLE_HASH + 1) { root } else { "" };
@@ -276,20 +287,41 @@ fn bytes_of(line: &Line, place: usize, form: Form) -> Result<(Vec<u8>, String), 
 
 /// That a line has something that is no digit, where it has.
 fn no_digit(place: usize, typed: &str) -> Option<String> {
-    let other = typed.chars().find(|c| !c.is_ascii_hexdigit())?.escape_default();
+    let other = typed.chars().find(|c| !c.is_ascii_hexdigit() && *c != ' ')?.escape_default();
     Some(format!("{} has '{other}', which is no digit from 0 to f", name(place)))
+}
+
+/// What a line in words has before what it counts, or as its first group where that is not there; and what comes after.
+fn parted<'a>(said: &'a str, unit: &str) -> (&'a str, &'a str) {
+    let counted = said.split_once(unit).filter(|_| !unit.is_empty());
+    let (value, check) = counted.or_else(|| said.split_once(' ')).unwrap_or((said, ""));
+    (value.trim(), check.trim())
+}
+
+/// What is wrong with the groups of a line in words. Number and check are one each: were they put together, a check
+/// could pass for digits of the number.
+fn misgrouped(value: &str, check: &str, form: Form) -> Option<&'static str> {
+    match form.checked {
+        _ if value.is_empty() => Some("has no number"),
+        _ if value.contains(' ') || check.contains(' ') => {
+            Some("has a number in groups, or more than one")
+        }
+        true if check.is_empty() => Some("has no check, and other lines have one"),
+        false if !check.is_empty() => Some("has a check, and other lines have none"),
+        _ => None,
+    }
 }
 
 /// The word that a line writes as a decimal number, with what it counts or without, and its check.
 fn word(line: &Line, place: usize, unit: &str, form: Form) -> Result<(Vec<u8>, String), String> {
     const MOST: u32 = (1 << 30) - 1;
-    let (name, all) = (name(place), line.after(1).replacen(unit, "", 1));
-    if let Some(why) = no_digit(place, &all) {
+    let (name, said) = (name(place), line.words[1..].join(" "));
+    let (value, check) = parted(&said, unit);
+    if let Some(why) = no_digit(place, value).or_else(|| no_digit(place, check)) {
         return Err(why);
     }
-    let (value, check) = all.split_at(all.len().saturating_sub(form.check()));
-    if value.is_empty() {
-        return Err(format!("{name} has no number, or no check"));
+    if let Some(why) = misgrouped(value, check, form) {
+        return Err(format!("{name} {why}"));
     }
     if value.contains(|c: char| !c.is_ascii_digit()) {
         return Err(format!("{name} has '{value}', which is no decimal number"));

@@ -193,6 +193,14 @@ SCRIPTS = [
     ("head-unchecking", "typed.every_digit_in_words",
      '[ "$command" = typed ] && { sed "/^check/d; s/  [0-9a-f]*$//" text | '
      '"$real" -q typed - "$last"; exit; }'),
+    ("check-gluing", "typed.left_checks",
+     '[ "$command" = typed ] && { sed "s/bytes//; s/^\\(length *[0-9]*\\) *\\([0-9]*\\)/\\1\\2/" '
+     'text | "$real" -q typed - "$last"; exit; }'),
+    ("stop-dropping", "typed.left_checks",
+     '[ "$command" = typed ] && { sed "/^[a-z]/s/[.:]//g" text | "$real" -q typed - "$last"; '
+     'exit; }'),
+    ("first-record-taking", "typed.missing_lines",
+     '[ "$command" = typed ] && { sed 21,\\$d text | "$real" -q typed - "$last"; exit; }'),
     ("line-misnaming", "typed.every_slip", saying("s/^cedunmi: line [0-9]*/cedunmi: line 1/")),
     ("first-slip-naming", "typed.all_slips", saying("2,\\$d")),
     ("order-blind", "typed.moved_lines",

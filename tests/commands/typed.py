@@ -114,6 +114,10 @@ def forms(lines):
     yield "no last line", lines[:LINES]
     yield "no bytes and no words", short + lines[WORDS:]
     yield "colons", [line.replace(" ", ": ", 1) for line in head] + lines[WORDS:]
+    yield "full stops and colons in hashes", plain + [
+        "%s. %s" % (w[0], ":".join(w[1:9])) for w in words] + [last]
+    yield "no space before what is counted", [
+        re.sub(" (bytes|words)", r"\1", line) for line in head] + lines[WORDS:]
     yield "pairs", head + ["%s  %s  %s" % (w[0], " ".join(re.findall("..", "".join(w[1:9]))), w[9])
                            for w in words] + [last]
     yield "sixteens", head + ["%s  %s  %s" % (
@@ -147,6 +151,35 @@ def test_no_checks(room):
     words = [" ".join(line.split()[:9]) for line in lines[5:7]]
     slip(room, lines[:5] + words + lines[7:], 5, 6)
     slip(room, unchecked(lines)[:2] + lines[2:], 0, 1)
+
+
+def short_volume():
+    """The lines of a record of depth 9 and 3 bytes: its length and the check after it, put
+    together, would be a length too."""
+    head = by_hand.head_of(9, 3, by_hand.house_table(9))
+    lines = by_hand.printed(head + Coded(1, 9).record[by_hand.HEAD:])
+    need(lines[1].split() == ["length", "3", "bytes", "5788"], "another line:", lines[1])
+    return lines
+
+
+def test_left_checks(room):
+    """A check that was left on a line in words, where the others have none, is none of its digits;
+    nor is anything else that stands beside the number."""
+    lines = short_volume()
+    plain = bare(lines)
+    for at in range(WORDS):
+        for line in (lines[at], re.sub("bytes|words", "", lines[at])):
+            said, named = slip(room, plain[:at] + [line] + plain[at + 1:], at)
+            need(named == {at} and b"has a check, and other lines have none" in said.err, str(said))
+    _, named = slip(room, lines[:WORDS] + plain[WORDS:], *range(WORDS))
+    need(named == set(range(WORDS)), "other lines are named:", named)
+    for line in ("length 3 5 bytes", "length 3 5", "length 3 bytes 5", "length 3 bytes 578 8",
+                 "length 3.5", "length 3:5 bytes", "length 3. bytes", "length bytes 3"):
+        _, named = slip(room, plain[:1] + [line] + plain[2:], 1)
+        need(named == {1}, "other lines are named:", named, line)
+    for line in ("length 3 5 bytes 5788", "length 3 bytes 57 88", "length 35788", "length 3.5788"):
+        _, named = slip(room, lines[:1] + [line] + lines[2:], 1)
+        need(named == {1}, "other lines are named:", named, line)
 
 
 def changed(line, place, kind, digits, chance):
@@ -260,6 +293,11 @@ def test_missing_lines(room):
     _, lines = printed()
     slip(room, bare(lines)[:LINES - 1])
     slip(room, bare(lines) + bare(lines)[-1:], LINES)
+    for one in (lines, bare(lines)):
+        said, named = slip(room, one + one)
+        need(named == {len(one)} and b"another begins" in said.err, str(said))
+    said, named = slip(room, lines + lines[LINES:])
+    need(named == {LINES + 1} and b"there twice" in said.err, str(said))
     slip(room, [])
     slip(room, "\n\n# nothing\n")
     slip(room, lines[LINES:])
@@ -305,7 +343,8 @@ def test_impossible_heads(room):
     plain = bare(lines)
     for at, line in ((0, "depth 0"), (0, "depth 10"), (1, "length 2049 bytes"), (0, "depth"),
                      (1, "length 1073741824"), (1, "length -1"), (2, "table 1073741824"),
-                     (1, "length 1,300"), (1, "lenght 1300"), (2, "tables 181"), (1, "1300")):
+                     (1, "length 1,300"), (1, "lenght 1300"), (2, "tables 181"), (2, "tabel 181"),
+                     (1, "1300")):
         slip(room, plain[:at] + [line] + plain[at + 1:], at)
     made, _ = typed(room, plain[:1] + ["length 2048"] + plain[2:])
     need(by_hand.length_of(made) == 2048, "the longest length")

@@ -57,10 +57,12 @@ fn groups_have_any_spacing() {
     }
 }
 
-/// The digits of a line in groups of another size; the word that it begins with stays a word.
+/// The digits of a hash's line, or of the check of all, in groups of another size; the lines in words as they are.
 fn spaced(line: &str, size: usize) -> String {
-    let word = ["depth", "length", "table", "check"].iter().find(|word| line.starts_with(**word));
-    let (word, rest) = line.split_at(word.map_or(0, |word| word.len()));
+    if WORDS.iter().any(|(word, _)| line.starts_with(word)) {
+        return format!("{line}\r\n");
+    }
+    let (word, rest) = line.split_at(if line.starts_with("check") { 5 } else { 0 });
     let digits: Vec<char> = rest.chars().filter(|c| !c.is_whitespace()).collect();
     let groups: Vec<String> = digits.chunks(size).map(|group| group.iter().collect()).collect();
     format!("{word} {}\r\n", groups.join(" "))
@@ -179,13 +181,24 @@ fn numbers_in_words_are_read() {
     for same in [
         with(0, &format!("Depth: 5 {depth}")),
         with(1, &format!("length 700 {length}")),
-        with(1, &format!("length 7 00bytes {length}")),
-        with(2, &format!("TABLE 1 861 WORDS {table}")),
+        with(1, &format!("length 700bytes{length}")),
+        with(2, &format!("TABLE. 1861 WORDS {table}")),
     ] {
         assert_eq!(parse(same.as_bytes()).unwrap().record, record(), "{same}");
     }
     let said = |at, line: &str| slips(&with(at, line)).concat();
-    assert_eq!(said(0, "depth"), "line 1: depth has no number, or no check");
+    assert_eq!(said(0, "depth"), "line 1: depth has no number");
+    assert_eq!(
+        said(1, "length 700 bytes"),
+        "line 2: length has no check, and other lines have one"
+    );
+    for groups in ["length 7 00 bytes", "length 7 00", "length 700 bytes 0"] {
+        let found = said(1, &format!("{groups} {length}"));
+        assert_eq!(found, "line 2: length has a number in groups, or more than one");
+    }
+    let found = said(1, &format!("length 7.00 {length}"));
+    assert_eq!(found, "line 2: length has '.', which is no digit from 0 to f");
+    assert_eq!(said(2, &format!("tabel 1861 {table}")), "line 3: table is wanted, not 'tabel'");
     assert_eq!(said(0, &format!("depth 12 {depth}")), "line 1: depth is a number from 1 to 9");
     assert_eq!(said(1, "lenght 700 bytes"), "line 2: length is wanted, not 'lenght'");
     assert_eq!(said(1, "length 7oo 0000"), "line 2: length has 'o', which is no digit from 0 to f");
@@ -205,14 +218,70 @@ fn lengths_are_held_by_their_depths() {
     assert_eq!(slips(&lines.join("\n")), found);
 }
 
+/// In a text without checks, one that was left on its line is none of the number's digits.
+#[test]
+fn a_check_that_was_left_on_is_no_number() {
+    let (_, lines) = printed();
+    let with = |at: usize, line: &str| {
+        let mut bare = bare();
+        bare[at] = line.to_string();
+        slips(&bare.join("\n"))
+    };
+    for at in 0..TABLE_HASH {
+        let found = format!("line {}: {} has a check, and other lines have none", at + 1, name(at));
+        assert_eq!(with(at, &lines[COMMENTS + at]), [found.clone()]);
+        let uncounted = lines[COMMENTS + at].replace("bytes", "").replace("words", "");
+        assert_eq!(with(at, &uncounted), [found]);
+    }
+    let all = [&lines[COMMENTS..COMMENTS + TABLE_HASH], &bare()[TABLE_HASH..]].concat();
+    assert_eq!(slips(&all.join("\n")).len(), TABLE_HASH);
+    for line in
+        ["length 1 5 bytes", "length 1 5 7", "length 1.5", "length 1:5", "length 15 bytes 7"]
+    {
+        assert_eq!(with(1, line).len(), 1, "{line}");
+    }
+    for line in ["length 15", "length: 15 bytes", "length 15bytes"] {
+        let text = [&bare()[..1], &[line.to_string()], &bare()[2..]].concat();
+        assert_eq!(parse(text.join("\n").as_bytes()).unwrap().record[4..8], [128, 0, 0, 15]);
+    }
+}
+
+/// A text has one record: another after it, or a second check of all, is named.
+#[test]
+fn a_second_record_is_named() {
+    let (text, lines) = printed();
+    let another =
+        "depth comes after hash 15, where a record ends, and another begins: a text has one";
+    let numbers = [format!("line {}: {another}", 2 * COMMENTS + LINES + 2)];
+    assert_eq!(slips(&format!("{text}{text}")), numbers);
+    let one = bare().join("\n");
+    assert_eq!(slips(&format!("{one}\n{one}")), [format!("line 21: {another}")]);
+    let more = [&lines[..], &lines[COMMENTS + 8..COMMENTS + 10]].concat();
+    let found = slips(&more.join("\n"));
+    assert!(found[0].ends_with("hash 4 comes after hash 15, where a record ends"), "{found:?}");
+}
+
 #[test]
 fn other_slips_are_named() {
     let (text, _) = printed();
     assert!(slips(&text.replacen(" 0 00", " 0 0O", 1))[0].contains("'o'"));
-    let last = format!("{text}check 01234567\ncheck 0\n");
-    assert!(slips(&last)[0].starts_with("line 29: the check of this record is"));
-    assert_eq!(slips(&last)[1], "line 30: the check of all has 8 digits, not 1");
+    let (lines, last) = text.split_at(text.find("check  ").expect("the last line"));
+    let other = format!("{lines}check 01234567");
+    assert!(slips(&other)[0].starts_with("line 28: the check of this record is"));
+    let short = format!("{lines}check 0");
+    assert_eq!(slips(&short), ["line 28: the check of all has 8 digits, not 1"]);
+    assert_eq!(slips(&format!("{text}{last}")), ["line 29: the check of all is there twice"]);
     assert_eq!(slips("7\x007"), ["this is no plain text: many of its bytes are zero"]);
+}
+
+/// A line of a print; a hash's with colons and full stops.
+fn separated(line: &str) -> String {
+    let hash = line.len() == 80 && !line.starts_with('#');
+    let line = match hash {
+        true => line.trim_start().replacen(' ', ": ", 1).replace(" 5", ".5"),
+        false => line.to_string(),
+    };
+    line + "\n"
 }
 
 #[test]
@@ -221,6 +290,7 @@ fn what_means_the_same_is_taken() {
     let filled = text.replace("\n ", "\n0").replace("\n0T", "\nT");
     for same in [
         text.replace("check  ", "Check: "),
+        text.lines().map(separated).collect(),
         format!("\u{feff}{filled}"),
         text.replace('\n', "\r\n"),
     ] {
