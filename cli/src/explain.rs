@@ -5,7 +5,7 @@ use cedunmi::{explain, explain_end};
 
 /// The end of a repair whose number is no other's.
 const MISFILLED: u8 = 13;
-const FILL_UP: &str = "see that the record's length is the manual's. If it is, every byte of the volume is right, read has written it, and tree and marks are whole; but whoever coded it did not fill it up with zeros, as is the rule: ask for it coded anew";
+const FILL_UP: &str = "see that the record's length is the manual's. If it is, the bytes up to it are right: read writes them, and repair makes tree and marks whole where pages are absent or bad; but whoever coded it did not fill it up with zeros, as is the rule: ask for it coded anew";
 
 /// What to do about a status, and about the end that a reader may look for under its own number.
 const TO_DO: &[(u8, &str)] = &[

@@ -100,7 +100,8 @@ def misfilled(room, coded):
     for quiet in ((), ("--quiet",)):
         said = room.ends(43, "read", *quiet, *WHOLE, "back").prints("")
         need(slurp("back") == coded.volume, "the volume of a misfilled tree")
-        need((by_hand.MISFILLED_SAID.encode() in said.err) != bool(quiet), str(said))
+        need((b"but misfilled: what fills it up isn't zero: " in said.err) != bool(quiet), str(said))
+        need(b"is held" not in said.err, "what a repair would come to is said of the tree:", said)
         need((b"but the tree is damaged: " in said.err) == (expected.stored > 0 and not quiet),
              str(said))
         os.remove("back")

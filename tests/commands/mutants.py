@@ -157,6 +157,9 @@ SCRIPTS = [
      '[ "$command" = read ] && { "$real" "$@"; status=$?; [ $status != 43 ] || rm "$last"; '
      'exit $status; }'),
     ("silent-on-filling", "lengths.misfilled", 'exec "$real" "$@" 2>/dev/null'),
+    ("held-claiming", "lengths.misfilled",
+     '[ "$command" = read ] && { %s; }'
+     % saying("s/isn't zero: /isn't zero: every page is held: /")),
     ("length-trusting", "lengths.shorter_records",
      '"$real" "$@"; status=$?; [ $status != 43 ] || exit 0; exit $status'),
     ("looking-at-digits", "depths.count_tells",
@@ -200,7 +203,7 @@ SCRIPTS = [
      '[ "$command" = typed ] && { sed "/^[a-z]/s/[.:]//g" text | "$real" -q typed - "$last"; '
      'exit; }'),
     ("first-record-taking", "typed.missing_lines",
-     '[ "$command" = typed ] && { sed 21,\\$d text | "$real" -q typed - "$last"; exit; }'),
+     '[ "$command" = typed ] && { sed 22,\\$d text | "$real" -q typed - "$last"; exit; }'),
     ("line-misnaming", "typed.every_slip", saying("s/^cedunmi: line [0-9]*/cedunmi: line 1/")),
     ("first-slip-naming", "typed.all_slips", saying("2,\\$d")),
     ("order-blind", "typed.moved_lines",

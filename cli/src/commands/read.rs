@@ -44,10 +44,7 @@ fn remarks(after: &After) -> Vec<String> {
         lines.push(format!("the volume is right by record and table, but the tree is damaged: {absent} pages absent, {bad} bad; repair it"));
     }
     if after.repaired.end == End::Misfilled {
-        lines.push(format!(
-            "the volume is right by record and table, but {}: cedunmi explain 43",
-            after.ended()
-        ));
+        lines.push("the volume is right by record and table, but misfilled: what fills it up isn't zero: cedunmi explain 43".to_string());
     }
     lines
 }

@@ -22,7 +22,8 @@ pub enum End {
     Unavailable { layer: usize },
     /// Two different symbols of equal SHA-256, one after the other.
     Twins { symbols: Vec<u8> },
-    /// As whole, but what fills up the volume is not zero.
+    /// Every symbol is held, and the tree is correctly coded and agrees with root and table, but what fills up the volume
+    /// is not zero.
     Misfilled,
 }
 
