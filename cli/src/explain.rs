@@ -21,7 +21,7 @@ const TO_DO: &[(u8, &str)] = &[
     (9, "bring that page, or repair the tree"),
     (10, "contributor: put that page into at least two equations of its layer, or take the house table. Shop: ask for the volume coded anew; until then cedunmi read --unverified copies its pages, unchecked, if none of its data pages is lost"),
     (11, "the lines after it say what is wrong with the record, or its depth: leave DEPTH out, and compare the record with the manual, as cedunmi record prints it. A root of 512 bytes, as it was before there were records, is none"),
-    (12, "get the table that the record names: the lines after it say its words and its SHA-256, and if it is the house table. By another table a sound volume would seem to have a fault"),
+    (12, "get the table that the record names: the lines after it say its words and its SHA-256, and if it is the house table. By another table a sound volume would seem to have a fault. Where the SHA-256 is the same, the record has a wrong number of words: compare it with the manual"),
     (MISFILLED, FILL_UP),
     (DAMAGED, "mend the tree by cedunmi repair"),
     (31, "see that the record is the manual's; then send the proof to others, who strike the volume by it"),

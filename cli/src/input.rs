@@ -7,7 +7,7 @@ use crate::kind::Kind;
 use crate::name::shown;
 use crate::progress;
 use crate::record;
-use cedunmi::{Depth, Stop, ROOT_BYTES};
+use cedunmi::{Depth, Record, Stop, ROOT_BYTES};
 use std::ffi::OsStr;
 use std::fs::{File, Metadata};
 use std::io::{self, Read as _};
@@ -92,7 +92,7 @@ impl Input {
     fn wrong_length(&self, depth: Depth) -> Option<String> {
         let wanted = self.kind.wanted(depth, self.len())?;
         let hint = match self.kind {
-            Kind::Record if self.bytes.starts_with(b"#") => ": cedunmi typed makes one of a print",
+            Kind::Record if self.is_print() => ": cedunmi typed makes one of a print",
             Kind::Record if self.len() == ROOT_BYTES as u64 => {
                 "; it is a root, as it was before there were records: code the volume again, or \
                  make its record of what is known (cedunmi(1), RECORDS ON PAPER)"
@@ -100,6 +100,11 @@ impl Input {
             _ => "",
         };
         Some(format!("{}; {wanted}{hint}", self.has()))
+    }
+
+    /// Whether it begins as a print does, with comments or without.
+    fn is_print(&self) -> bool {
+        self.bytes.starts_with(b"#") || self.bytes.to_ascii_lowercase().starts_with(b"depth")
     }
 
     /// Of a record that was refused, what is wrong with it.
@@ -165,11 +170,21 @@ pub fn stopped(stop: Stop, depth: u64, inputs: &[&Input]) -> Failure {
         }
         Stop::WrongMark { .. } => inputs.iter().filter_map(|input| input.characters()).collect(),
         Stop::WrongRecord => inputs.iter().filter_map(|input| input.wrong_record(depth)).collect(),
-        Stop::OtherTable => inputs.iter().filter_map(|input| input.table()).collect(),
+        Stop::OtherTable => {
+            let tables = inputs.iter().filter_map(|input| input.table());
+            tables.chain(miscounted(inputs)).collect()
+        }
         Stop::WrongNumber => Depth::new(depth).map(base_numbers).into_iter().collect(),
         _ => Vec::new(),
     };
     lines.into_iter().fold(Failure::stopped(stop), Failure::and)
+}
+
+/// Where the record has the hash of the table all the same, what is wrong with the record.
+fn miscounted(inputs: &[&Input]) -> Option<String> {
+    let table = inputs.iter().find_map(|input| input.of_kind(Kind::Table))?;
+    let record = inputs.iter().find(|input| input.kind == Kind::Record)?;
+    record::miscounted(&record.name, &record.bytes, table)
 }
 
 /// Which numbers base pages have.
@@ -185,11 +200,28 @@ fn wrong_lengths(depth: Depth, inputs: &[&Input]) -> Vec<String> {
         kind.filter_map(|input| input.wrong_length(depth)).collect::<Vec<_>>()
     };
     let others = of(false);
-    if others.is_empty() {
-        of(true)
-    } else {
-        others
+    match others.is_empty() {
+        true => of(true),
+        false => others.into_iter().chain(two_depths(depth, inputs)).collect(),
     }
+}
+
+/// Where the record is of this depth, and tree or sample are as long as those of another: both.
+fn two_depths(depth: Depth, inputs: &[&Input]) -> Option<String> {
+    let of_depth = |input: &Input| {
+        let record = input.of_kind(Kind::Record).map(Record::read);
+        matches!(record, Some(Ok(record)) if record.depth == depth)
+    };
+    let record = inputs.iter().find(|input| of_depth(input))?;
+    let (said, named) = (depth.layers(), &record.name);
+    let mut sized = inputs.iter().filter(|input| matches!(input.kind, Kind::Tree | Kind::Sample));
+    sized.find_map(|input| {
+        let fits = |depth: &Depth| input.kind.wanted(*depth, input.len()).is_none();
+        let other = depths::all().find(fits).filter(|other| *other != depth)?;
+        let (kind, _) = input.kind.sized(other)?;
+        let (name, other) = (&input.name, other.layers());
+        Some(format!("{named} says depth {said}; {name} is as long as a {kind} of depth {other}"))
+    })
 }
 
 /// The same of a call that names an absent page in its own way: which page of the tree it is.

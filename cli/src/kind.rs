@@ -30,7 +30,7 @@ impl Kind {
     }
 
     /// What it is called, and its bytes at a depth, where that fixes them.
-    fn sized(self, depth: Depth) -> Option<(&'static str, usize)> {
+    pub fn sized(self, depth: Depth) -> Option<(&'static str, usize)> {
         match self {
             Kind::Tree => Some(("tree", depth.tree_bytes())),
             Kind::Marks => Some(("marks file", depth.symbols())),
@@ -72,7 +72,7 @@ fn too_long(depth: Depth, len: u64) -> String {
     let (layers, held) = (depth.layers(), depth.block_bytes());
     match Depth::least(len as usize).map(Depth::layers) {
         Some(least) => {
-            format!("depth {layers} holds at most {held}: take depth {least}, and a table of it")
+            format!("depth {layers} holds at most {held}: take depth {least}, and a table of it: cedunmi table --for VOLUME TABLE writes one")
         }
         None => format!("no depth holds more than {}: split it", Depth::MAX.block_bytes()),
     }

@@ -4,12 +4,15 @@ use crate::members::words;
 use crate::printed::{hex, is_house, WORDS};
 use cedunmi::{sha256, Depth, Record};
 
+/// What the words of the head are.
+const HEAD: [&str; WORDS.len()] = ["depth", "length", "number of table words"];
+
 /// What is wrong with a record, as long as a record is, that a call of this depth refuses.
 pub fn wrong(name: &str, record: &[u8], depth: u64) -> Option<String> {
     let head: Vec<(u32, usize)> = words(record).take(WORDS.len()).collect();
     if let Some(at) = (0..head.len()).find(|at| head[*at].0 as usize != at + 1) {
         let (first, last, kind) = (4 * at, 4 * at + 3, head[at].0);
-        let (what, bytes) = (WORDS[at].0, hex(&record[first..=last]));
+        let (what, bytes) = (HEAD[at], hex(&record[first..=last]));
         return Some(format!(
             "{name} is no record, or damaged: bytes {first} to {last}, its {what}, are {bytes}, of kind {kind:02b}, not {:02b}",
             at + 1
@@ -40,6 +43,14 @@ pub fn named(name: &str, record: &[u8]) -> Option<String> {
     };
     let said = counted(record.table_words, &record.table_digest);
     Some(format!("{name} names a table of {said}{house}"))
+}
+
+/// Of a record that has the hash of this table, and is refused with it, that its number of words is wrong.
+pub fn miscounted(name: &str, record: &[u8], table: &[u8]) -> Option<String> {
+    let same = sha256(table).ok()? == Record::read(record).ok()?.table_digest;
+    same.then(|| {
+        format!("the SHA-256 is the same: {name} has a wrong number of words; compare it with the manual")
+    })
 }
 
 /// Which table this is.
@@ -73,7 +84,8 @@ mod tests {
         assert_eq!(wrong("r", &record(2, 700), 2), None);
         assert_eq!(changed(0, 0), kind("0 to 3, its depth, are 00000002, of kind 00, not 01"));
         assert_eq!(changed(4, 64), kind("4 to 7, its length, are 400002bc, of kind 01, not 10"));
-        assert_eq!(changed(8, 0xb0), kind("8 to 11, its table, are b00000b5, of kind 10, not 11"));
+        let words = "8 to 11, its number of table words, are b00000b5, of kind 10, not 11";
+        assert_eq!(changed(8, 0xb0), kind(words));
         let said = |said: &str| Some(format!("r {said}"));
         assert_eq!(changed(3, 10), said("says depth 10, and depths are 1 to 9"));
         assert_eq!(changed(3, 0), said("says depth 0, and depths are 1 to 9"));
@@ -90,7 +102,11 @@ mod tests {
         let house = ", the house table of depth 2: cedunmi table 2 FILE writes it";
         assert_eq!(named("r", &record), Some(format!("r names a table of {table}{house}")));
         assert_eq!(is("t", &cedunmi::house_table(2).unwrap()), Some(format!("t has {table}")));
+        record[11] ^= 1;
+        let said = miscounted("r", &record, &cedunmi::house_table(2).unwrap());
+        assert!(said.expect("a line").contains(": r has a wrong number of words"));
         record[12] ^= 1;
+        assert_eq!(miscounted("r", &record, &cedunmi::house_table(2).unwrap()), None);
         assert!(named("r", &record).expect("a line").ends_with(&hex(&hash[1..])));
     }
 }

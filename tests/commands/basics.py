@@ -159,7 +159,7 @@ def test_lengths(room):
     put("long", bytes(2049))
     room.refused(2, "code", 2, "table", "long", "none").says(
         "cedunmi: long has 2049 bytes; depth 2 holds at most 2048: take depth 3, "
-        "and a table of it\n")
+        "and a table of it: cedunmi table --for VOLUME TABLE writes one\n")
     room.refused(2, "read", 2, "record", "table", "short", "marks", "none").says(
         "cedunmi: short has 1024 bytes; a tree of depth 2 has 12288\n")
     put("other", bytes(7))

@@ -67,8 +67,11 @@ def test_too_long(room):
                 continue
             put("long", bytes(length))
             enough = [d for d in DEPTHS if length <= by_hand.lengths(d)["volume"]]
-            wanted = "depth %d holds at most %d: take depth %d, and a table of it\n" % (
-                depth, most, enough[0]) if enough else "no depth holds more than 262144: split it\n"
+            wanted = "no depth holds more than 262144: split it\n"
+            if enough:
+                wanted = ("depth %d holds at most %d: take depth %d, and a table of it: "
+                          "cedunmi table --for VOLUME TABLE writes one\n"
+                          % (depth, most, enough[0]))
             for given in ((), (depth,)):
                 room.refused(2, "code", *given, "table", "long", "none").says(
                     "cedunmi: long has %d bytes; %s" % (length, wanted))
@@ -100,7 +103,8 @@ def misfilled(room, coded):
     for quiet in ((), ("--quiet",)):
         said = room.ends(43, "read", *quiet, *WHOLE, "back").prints("")
         need(slurp("back") == coded.volume, "the volume of a misfilled tree")
-        need((b"but misfilled: what fills it up isn't zero: " in said.err) != bool(quiet), str(said))
+        need((b"but misfilled: what fills it up isn't zero: " in said.err) != bool(quiet),
+             str(said))
         need(b"is held" not in said.err, "what a repair would come to is said of the tree:", said)
         need((b"but the tree is damaged: " in said.err) == (expected.stored > 0 and not quiet),
              str(said))

@@ -183,6 +183,9 @@ SCRIPTS = [
      '[ "$1 $2" = "record record" ] && [ "$(wc -c <record)" = 512 ] && exit 0'),
     ("table-trusting", "records.other_tables",
      '"$real" "$@"; status=$?; [ $status != 12 ] || exit 0; exit $status'),
+    ("miscount-blind", "records.other_counts", saying("/: the SHA-256 is the same: /d")),
+    ("tree-blaming", "records.depths", saying("/ says depth 3; /d")),
+    ("print-blind", "records.roots", saying("s/: cedunmi typed makes .*//")),
     ("house-blind", "records.other_tables", saying("s/, the house table of depth .*//")),
     ("house-claiming", "records.other_tables",
      saying("s/\\(names a table of [^,]*, with the SHA-256 [0-9a-f]*\\)$/"

@@ -11,7 +11,7 @@ BY_RECORD = [("check-sample", 3, "record", "sample"),
              ("read", "--unverified", "record", "tree", "marks", "none")]
 BY_TABLE = [("check", *WHOLE), ("repair", *WHOLE, "none"), ("read", *WHOLE, "none"),
             ("repair", "--in-place", *WHOLE, "none"), ("check-proof", "record", "table", "proof")]
-KINDS = ("depth", "length", "table")
+KINDS = ("depth", "length", "number of table words")
 
 
 def with_depth(words, depth):
@@ -76,7 +76,13 @@ def test_depths(room):
                 room.refused(11, *with_depth(words, 2))
     put("record", changed(coded.record, 0, 1 << 30 | 3))
     for words in BY_RECORD + BY_TABLE[:4]:
-        room.refused(2, *words).says("of depth 3 has ")
+        named = "sample" if words[0] == "check-sample" else "tree"
+        room.refused(2, *words).says("of depth 3 has ").says(
+            "cedunmi: record says depth 3; %s is as long as a %s of depth 2\n" % (named, named))
+    put("record", coded.record)
+    put("tree", coded.tree[:-1])
+    said = room.refused(2, "check", *WHOLE)
+    need(b"says depth" not in said.err, "a depth is said to be wrong:", said)
 
 
 def test_roots(room):
@@ -93,10 +99,13 @@ def test_roots(room):
         said = room.refused(2, "record", "record").says(
             "record has %d bytes; a record has 556\n" % length)
         need(b"before" not in said.err, str(said))
-    put("record", slurp("text"))
-    room.refused(2, "record", "record")
-    put("record", b"# a print\n" + slurp("text"))
-    room.refused(2, "check", *WHOLE).says("cedunmi typed makes one of a print\n")
+    text = "\n".join(by_hand.printed(coded.record)).encode()
+    for data in (text, text.upper(), b"# a print\n" + text):
+        put("record", data)
+        room.refused(2, "check", *WHOLE).says(
+            "a record has 556: cedunmi typed makes one of a print\n")
+    put("record", b"\0" + text)
+    need(b"typed" not in room.refused(2, "record", "record").err, "no print is taken for one")
 
 
 def names(depth, table):
@@ -120,6 +129,19 @@ def test_other_tables(room):
                     names(depth, named), known * (named == house)))
                 said.says("cedunmi: table has %s\n" % names(depth, lent))
                 need(said.err.count(b"\n") == 3, str(said))
+
+
+def test_other_counts(room):
+    """A record with the hash of the table and another number of words: it is said that the record
+    is wrong."""
+    coded = lay(2)
+    for count in (0, 180, 182, (1 << 30) - 1):
+        put("record", changed(coded.record, 2, 3 << 30 | count))
+        for words in BY_TABLE:
+            said = room.refused(12, *words).says(
+                "cedunmi: the SHA-256 is the same: record has a wrong number of words; "
+                "compare it with the manual\n")
+            need(said.err.count(b"\n") == 4, str(said))
 
 
 def test_each_bit(room):
