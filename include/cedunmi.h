@@ -369,7 +369,8 @@ uint64_t cmt_house_table(uint64_t depth, uint8_t *table, size_t table_len);
 /*
  * Codes a block, which is filled up with zeros where it is shorter than
  * CMT_BLOCK_BYTES(depth): writes its tree, a mark of 1 for every page, and its
- * record, which has block_len for the length.
+ * record, which has block_len for the length. A block of 0 bytes needs a pointer
+ * that is not NULL all the same.
  *
  * CMT_DONE          all three are written.
  * CMT_WRONG_DEPTH   the depth is not 1 to CMT_DEPTH_MAX.
