@@ -12,7 +12,12 @@ mod compression; // 6.2.2: the four steps on a block
 mod hash; // 6.2.2: all blocks of a message, and the digest
 
 ghost use mathlib.Core.Path.{_≡_};
-ghost use Rattle.sha256.specs.Call.{answer, after};
+ghost use mathlib.Core.List.{_++_};
+ghost use Prim.Native.Nat.{_+_, _≤_};
+ghost use lib.ListN.{length};
+ghost use Rattle.octets.specs.BigEndian.{be};
+ghost use Rattle.sha256.specs.Hash.{sha256};
+ghost use Rattle.sha256.specs.Call.{longest, answer, after};
 
 // What the hasher answers.
 pub enum Answer {
@@ -38,4 +43,12 @@ pub fn digest(message: &[u8], digest: &mut [u8]) -> Answer
     }
     hash::put_digest(hash::hash(message), digest);
     Answer::Done
+}
+
+// Writes the SHA-256 of a word's four bytes with the message after them, which is not copied. Word and message fill a block at least.
+pub fn digest_with_word(word: u32, message: &[u8], digest: &mut [u8])
+    requires { ⌜ (60 ≤ length (now message)) × (length (now message) + 4 ≤ longest) × (length (now digest) ≡ 32) ⌝ }
+    ensures { λ r. ⌜ now (digest .exit) ≡ sha256 (be 4 word ++ now (message .entry)) ⌝ }
+{
+    hash::put_digest(hash::hash_with_word(word, message), digest);
 }

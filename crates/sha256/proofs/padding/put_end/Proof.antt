@@ -65,7 +65,7 @@ returns c =
     let m = c .before .before .before .before .before .before .before .before .before .before .before .before .args .m .now in
     let x = drop (length m / 64 * 64) m in
     let all : take (length m - length m / 64 * 64) x ≡ x = take-all (length m - length m / 64 * 64) x (omega (arith, length-drop (length m / 64 * 64) m)) in
-    end-is m _ _ _ _ _ (omega arith) refl (c .before .before .before .end-blocks .ensures)
+    end-is m (c .before .before .before .before .before .before .before .before .before .before .before .before .args .n) (omega arith) _ _ _ _ _ refl (c .before .before .before .end-blocks .ensures)
     (c .before .before .before .before .before .before .before .copy-at .ensures ∙ ap (λ v. paste v 0 (take (length m - length m / 64 * 64) x) (length (take (length m - length m / 64 * 64) x))) (c .before .before .before .before .before .before .before .before .before .before .before .before .pre .1) ∙ ap (λ v. paste (replicate 128 0) 0 v (length v)) all) refl
     (c .before .before .put-word .ensures)
 
