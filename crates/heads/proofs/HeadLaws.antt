@@ -30,14 +30,14 @@ stored : (q : List ℕ) (x : ℕ) → 4 ≤ length q → sets q 0 (be 4 x) ≡ b
 unfolding be
 stored q x h = sets-eq (be 4 x) q 0 h
 
-pub head-put : (j e x : ℕ) (out a b c : List ℕ) → 12 ≤ length out → a ≡ sets out 0 (be 4 (1073741824 + j)) → b ≡ sets a 4 (be 4 (2147483648 + e))
-    → c ≡ sets b 8 (be 4 (3221225472 + x)) → c ≡ over (head j e x) out
+pub head-put : (k j e x : ℕ) (out a b c : List ℕ) → 12 ≤ length out → a ≡ sets out 0 (be 4 (k * 1073741824 + j)) → b ≡ sets a 4 (be 4 (2147483648 + e))
+    → c ≡ sets b 8 (be 4 (3221225472 + x)) → c ≡ over (head k j e x) out
 unfolding be head
-head-put j e x out a b c room ea eb ec =
-    let u : List ℕ = be 4 (word 1 j) in
+head-put k j e x out a b c room ea eb ec =
+    let u : List ℕ = be 4 (word k j) in
     let v : List ℕ = be 4 (word 2 e) in
     let w : List ℕ = be 4 (word 3 x) in
-    let a₁ : a ≡ u ++ drop 4 out = ea ∙ stored out (word 1 j) (omega arith) in
+    let a₁ : a ≡ u ++ drop 4 out = ea ∙ stored out (word k j) (omega arith) in
     let b₁ : b ≡ u ++ (v ++ drop 8 out) =
     eb ∙ ap (λ (l : List ℕ). sets l 4 v) a₁
     ∙ ap (λ (l : List ℕ). u ++ l) (stored (drop 4 out) (word 2 e) (omega (arith, length-drop 4 out)) ∙ ap (λ (l : List ℕ). v ++ l) (drop-drop 4 4 out)) in
@@ -77,30 +77,30 @@ module _ (b : List ℕ) (i kind : ℕ) where
 
 -- ---- a head that is written and read
 
-module _ (a b c : ℕ) where
-  pub length-head : length (head a b c) ≡ 12
+module _ (k a b c : ℕ) where
+  pub length-head : length (head k a b c) ≡ 12
   unfolding head be
   length-head = refl
 
   module _ (r : List ℕ) where
-    pub after-head : drop 12 (head a b c ++ r) ≡ r
+    pub after-head : drop 12 (head k a b c ++ r) ≡ r
     unfolding head be
     after-head = refl
 
-    module _ (a-small : a < 2 ^ 30) (b-small : b < 2 ^ 30) (c-small : c < 2 ^ 30) where
-      pub head-words : let l : List ℕ = head a b c ++ r in (wordAt l 0 ≡ word 1 a) × (wordAt l 4 ≡ word 2 b) × (wordAt l 8 ≡ word 3 c)
+    module _ (k-small : k < 4) (a-small : a < 2 ^ 30) (b-small : b < 2 ^ 30) (c-small : c < 2 ^ 30) where
+      pub head-words : let l : List ℕ = head k a b c ++ r in (wordAt l 0 ≡ word k a) × (wordAt l 4 ≡ word 2 b) × (wordAt l 8 ≡ word 3 c)
       unfolding head wordAt be
-      head-words = (be-read (word 1 a) (omega arith), be-read (word 2 b) (omega arith), be-read (word 3 c) (omega arith))
+      head-words = (be-read (word k a) (omega arith), be-read (word 2 b) (omega arith), be-read (word 3 c) (omega arith))
 
-      pub head-kinds : let l : List ℕ = head a b c ++ r in (kindAt l 0 ≡ 1) × (kindAt l 1 ≡ 2) × (kindAt l 2 ≡ 3)
-      head-kinds = (read-kind _ 0 1 a (head-words .0) a-small, read-kind _ 1 2 b (head-words .1) b-small, read-kind _ 2 3 c (head-words .2) c-small)
+      pub head-kinds : let l : List ℕ = head k a b c ++ r in (kindAt l 0 ≡ k) × (kindAt l 1 ≡ 2) × (kindAt l 2 ≡ 3)
+      head-kinds = (read-kind _ 0 k a (head-words .0) a-small, read-kind _ 1 2 b (head-words .1) b-small, read-kind _ 2 3 c (head-words .2) c-small)
 
-      pub head-values : let l : List ℕ = head a b c ++ r in (valueAt l 0 ≡ a) × (valueAt l 1 ≡ b) × (valueAt l 2 ≡ c)
-      head-values = (read-value _ 0 1 a (head-words .0) a-small, read-value _ 1 2 b (head-words .1) b-small, read-value _ 2 3 c (head-words .2) c-small)
+      pub head-values : let l : List ℕ = head k a b c ++ r in (valueAt l 0 ≡ a) × (valueAt l 1 ≡ b) × (valueAt l 2 ≡ c)
+      head-values = (read-value _ 0 k a (head-words .0) a-small, read-value _ 1 2 b (head-words .1) b-small, read-value _ 2 3 c (head-words .2) c-small)
 
 -- ---- bytes that are read as a head are that head
 
-be-of : (a b c d : ℕ) → a < 256 → b < 256 → c < 256 → d < 256 → be 4 (a * 2 ^ 24 + b * 2 ^ 16 + c * 2 ^ 8 + d) ≡ a ∷ b ∷ c ∷ d ∷ []
+pub be-of : (a b c d : ℕ) → a < 256 → b < 256 → c < 256 → d < 256 → be 4 (a * 2 ^ 24 + b * 2 ^ 16 + c * 2 ^ 8 + d) ≡ a ∷ b ∷ c ∷ d ∷ []
 unfolding be
 be-of a b c d ha hb hc hd =
     let x : ℕ = a * 2 ^ 24 + b * 2 ^ 16 + c * 2 ^ 8 + d in
@@ -133,14 +133,14 @@ module _ (r : List ℕ) (bytes : every (λ x. ltb x 256) r ≡ true) where
       ∙ ap (λ (l : List ℕ). getD r i 0 ∷ getD r (i + 1) 0 ∷ getD r (i + 2) 0 ∷ l) (step (i + 3) (i + 4) (omega arith) e₄)
       ∙ ap (λ (l : List ℕ). l ++ drop (i + 4) r) (sym (be-of (getD r i 0) (getD r (i + 1) 0) (getD r (i + 2) 0) (getD r (i + 3) 0) (byte r bytes i (omega arith)) (byte r bytes (i + 1) (omega arith)) (byte r bytes (i + 2) (omega arith)) (byte r bytes (i + 3) (omega arith))))
 
-  module _ (room : 12 ≤ length r) (first : kindAt r 0 ≡ 1) (second : kindAt r 1 ≡ 2) (third : kindAt r 2 ≡ 3) where
-    pub head-apart : r ≡ head (valueAt r 0) (valueAt r 1) (valueAt r 2) ++ drop 12 r
+  module _ (k : ℕ) (room : 12 ≤ length r) (first : kindAt r 0 ≡ k) (second : kindAt r 1 ≡ 2) (third : kindAt r 2 ≡ 3) where
+    pub head-apart : r ≡ head k (valueAt r 0) (valueAt r 1) (valueAt r 2) ++ drop 12 r
     unfolding head be
     head-apart =
         word-bytes 0 (omega arith)
-        ∙ ap₂ (λ (w : ℕ) (l : List ℕ). be 4 w ++ l) (word-read r 0 1 first) (word-bytes 4 (omega arith)
+        ∙ ap₂ (λ (w : ℕ) (l : List ℕ). be 4 w ++ l) (word-read r 0 k first) (word-bytes 4 (omega arith)
         ∙ ap₂ (λ (w : ℕ) (l : List ℕ). be 4 w ++ l) (word-read r 1 2 second) (word-bytes 8 (omega arith)
         ∙ ap (λ (w : ℕ). be 4 w ++ drop 12 r) (word-read r 2 3 third)))
 
-    pub head-read : take 12 r ≡ head (valueAt r 0) (valueAt r 1) (valueAt r 2)
-    head-read = ap (take 12) head-apart ∙ take-at (head (valueAt r 0) (valueAt r 1) (valueAt r 2)) (drop 12 r) 12 (length-head (valueAt r 0) (valueAt r 1) (valueAt r 2))
+    pub head-read : take 12 r ≡ head k (valueAt r 0) (valueAt r 1) (valueAt r 2)
+    head-read = ap (take 12) head-apart ∙ take-at (head k (valueAt r 0) (valueAt r 1) (valueAt r 2)) (drop 12 r) 12 (length-head k (valueAt r 0) (valueAt r 1) (valueAt r 2))

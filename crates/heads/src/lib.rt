@@ -1,7 +1,6 @@
-// The head of a fault proof and of a root record: three big-endian words of the kinds 01, 10 and 11, each with a value.
+// The head of a fault proof and of a root record: three big-endian words, each of a kind, with a value.
 use parity_table::END as KIND_11;
 use parity_table::EQUATION as KIND_10;
-use parity_table::LAYER as KIND_01;
 ghost use mathlib.Core.Path.{_≡_};
 ghost use mathlib.Core.Bool.{_&&_};
 ghost use Prim.Native.Nat.{_+_, _*_, _^_, _≤_, _<_};
@@ -40,12 +39,12 @@ pub fn names(b: &[u8], i: usize, kind: u32, bound: usize) -> bool
     value_at(b, i) < bound
 }
 
-// Writes a head with these values to the front of out.
-pub fn put(first: usize, second: usize, third: usize, out: &mut [u8])
-    requires { ⌜ (first < 2 ^ 30) × (second < 2 ^ 30) × (third < 2 ^ 30) × (12 ≤ length (now out)) ⌝ }
-    ensures { λ r. ⌜ now (out .exit) ≡ over (head first second third) (now (out .entry)) ⌝ }
+// Writes a head with these values, its first word of this kind, to the front of out.
+pub fn put(kind: u32, first: usize, second: usize, third: usize, out: &mut [u8])
+    requires { ⌜ (kind < 4) × (first < 2 ^ 30) × (second < 2 ^ 30) × (third < 2 ^ 30) × (12 ≤ length (now out)) ⌝ }
+    ensures { λ r. ⌜ now (out .exit) ≡ over (head kind first second third) (now (out .entry)) ⌝ }
 {
-    octets::put_word(out, 0, KIND_01 + first as u32);
+    octets::put_word(out, 0, kind * VALUES + first as u32);
     octets::put_word(out, 4, KIND_10 + second as u32);
     octets::put_word(out, 8, KIND_11 + third as u32);
 }

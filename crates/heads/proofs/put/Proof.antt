@@ -4,6 +4,9 @@ use Rattle.heads.proofs.HeadLaws.{head-put}
 use Rattle.heads.proofs.put.Statement.{statement}
 use Rattle.heads.proofs.put.Tie as tie
 
+mul-put-word : tie.Need-mul-put-word
+mul-put-word c = search needs
+
 cast-put-word : tie.Need-cast-put-word
 cast-put-word c = search needs
 
@@ -37,12 +40,13 @@ same-length c = search needs
 returns : tie.Need-returns
 returns c =
     let s = c .before .before .before .before .before .before .before .before .before .before .before .before .before in
-    head-put (s .args .first) (s .args .second) (s .args .third) (s .args .out .now) _ _ _ (s .pre .3) (c .before .before .before .before .before .before .before .before .before .before .put-word .ensures) (c .before .before .before .before .before .before .put-word2 .ensures) (c .before .before .put-word3 .ensures)
+    head-put (s .args .kind) (s .args .first) (s .args .second) (s .args .third) (s .args .out .now) _ _ _ (s .pre .4) (c .before .before .before .before .before .before .before .before .before .before .put-word .ensures) (c .before .before .before .before .before .before .put-word2 .ensures) (c .before .before .put-word3 .ensures)
 
 pub put-spec : {M : Type 1} → statement M
 put-spec =
     tie.close
     (tie.spec
+    mul-put-word
     cast-put-word
     add-put-word
     put-word-requires
