@@ -1,7 +1,7 @@
 -- (c): a layer in which no equation can be taken, with gaps left or with none.
-use mathlib.Core.Path.{_≡_, refl, sym, _∙_, subst}
+use mathlib.Core.Path.{_≡_, sym, _∙_, subst}
 use mathlib.Core.Logic.{⊎-elim}
-use mathlib.Core.Bool.{true, false, false≢true}
+use mathlib.Core.Bool.{true, false}
 use mathlib.Core.List.{List}
 use Prim.Native.Nat.{ℕ, suc, _<_}
 use native.Mathlib.Omega.{arith}
@@ -17,6 +17,7 @@ use Rattle.model.specs.Alike.{kindOf}
 use Rattle.model.specs.Finals.{Grown, LastLayer, Final}
 use Rattle.model.proofs.Counts.{every-none}
 use Rattle.model.proofs.Tables.{TableLaws}
+use Rattle.model.proofs.Frame.{drained-if}
 use Rattle.model.proofs.Peel.{NoTake}
 use Rattle.model.proofs.Storing.{Mid, grown-mid}
 use Rattle.model.proofs.Peeling.{Stop, always-at, passed-lower}
@@ -77,13 +78,7 @@ module _ (S : Shape) (sh : ShapeOk S) (H : ℕ → ℕ → List ℕ → List ℕ
           }
 
       drained-here : Drained S H root tbl t₀ m₀ (st .tree) j
-      unfolding Stopping
-      drained-here =
-          record {
-            inside = λ x h t. absurd (false≢true t);
-            stopping = λ e h c. omega (arith, every-none (λ x. ltb x (S .n j)) (λ x. false) (λ x w. refl) (equationOf tbl j e) (ok .within j e hj h));
-            contains = λ s w n x h t. both (largest-here .contains s w n x h t) (none x h);
-          }
+      drained-here = drained-if S sh H root tbl ok t₀ m₀ (st .tree) j hj (λ s w n x h t. both (largest-here .contains s w n x h t) (none x h))
 
       pub between : Between (suc j) st
       between =

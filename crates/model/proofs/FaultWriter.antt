@@ -39,11 +39,11 @@ pub record GoodProof (S : Shape) (H : ℕ → ℕ → List ℕ → List ℕ) (ro
 module _ (S : Shape) (f : ℕ → ℕ → List ℕ) (j e x : ℕ) (ms : List ℕ) (j-small : j < 2 ^ 30) (e-small : e < 2 ^ 30) (x-small : x < 2 ^ 30) where
   proof-kinds : let b : List ℕ = proofBytes S f j e x ms in (kindAt b 0 ≡ 1) × (kindAt b 1 ≡ 2) × (kindAt b 2 ≡ 3)
   unfolding proofBytes
-  proof-kinds = head-kinds j e x _ j-small e-small x-small
+  proof-kinds = head-kinds 1 j e x _ (omega arith) j-small e-small x-small
 
   pub proof-values : let b : List ℕ = proofBytes S f j e x ms in (proofLayer b ≡ j) × (proofEquation b ≡ e) × (proofWithheld b ≡ x)
   unfolding proofBytes proofLayer proofEquation proofWithheld
-  proof-values = head-values j e x _ j-small e-small x-small
+  proof-values = head-values 1 j e x _ (omega arith) j-small e-small x-small
 
 -- ---- what is written
 
@@ -219,7 +219,7 @@ module _ (S : Shape) (sh : ShapeOk S) (f : ℕ → ℕ → List ℕ) (j : ℕ) (
 
       is-body : body bytes ≡ rest
       unfolding body proofBytes
-      is-body = after-head j e x rest
+      is-body = after-head 1 j e x rest
 
       head-ok : headOk tbl bytes ≡ true
       unfolding headOk layerOk equationOk memberOk
@@ -237,8 +237,8 @@ module _ (S : Shape) (sh : ShapeOk S) (f : ℕ → ℕ → List ℕ) (j : ℕ) (
           omega (
             arith,
             ap (λ (k : ℕ). k * suc j) d,
-            length-append (head j e x) rest,
-            length-head j e x,
+            length-append (head 1 j e x) rest,
+            length-head 1 j e x,
             length-append (givenBytes S f j (others x ms)) (pathBytes S f j x),
             given-length p below (others x ms) good,
             path-length j x (omega arith),

@@ -1,14 +1,14 @@
 -- What a change of one symbol leaves as it was: other symbols and marks, complete layers, counts of filled gaps.
-use mathlib.Core.Path.{_≡_, refl, sym, ap, ap₂, _∙_}
+use mathlib.Core.Path.{_≡_, refl, sym, ap, ap₂, _∙_, subst}
 use mathlib.Core.Logic.{_⊎_, _≢_}
-use mathlib.Core.Bool.{Bool, true, false, not, _&&_, _||_}
+use mathlib.Core.Bool.{Bool, true, false, not, _&&_, _||_, false≢true}
 use mathlib.Core.List.{List}
 use Prim.Native.Nat.{ℕ, zero, suc, _+_, _-_, _*_, _/_, _%_, _≤_, _<_}
 use native.Mathlib.Nat.{add-sub-of-le}
 use native.Mathlib.Omega.{arith}
 use lib.ListN.{length, getD, take, drop, set}
 use lib.Seq.{drop-drop, getD-drop, getD-set-same, getD-set-other, drop-set-lt}
-use lib.Dec.{eqb}
+use lib.Dec.{ltb, eqb}
 use borrow.Author.Tests.{eqb-true, eqb-false}
 use Rattle.parity_table.specs.Table.{equationOf}
 use Rattle.octets.proofs.Choice.{by-test}
@@ -16,10 +16,11 @@ use Rattle.model.specs.Shape.{Shape, ShapeOk, place, places}
 use Rattle.octets.specs.ByteLists.{same}
 use Rattle.model.specs.Symbols.{symbolIn, bit, slot, committed, symAt, putAt}
 use Rattle.model.specs.Repair.{absentAt}
-use Rattle.model.specs.Ends.{Sized, tally, Complete, gapAt, filledIn, filled, Drained}
+use Rattle.model.specs.Ends.{Within, Stopping, Sized, tally, Complete, gapAt, filledIn, filled, Drained}
 use Rattle.model.proofs.Members.{xorOf-same}
 use Rattle.model.proofs.Shapes.{places-mono, place-lt, place-differs, up-lt}
 use Rattle.model.proofs.Tables.{TableLaws}
+use Rattle.model.proofs.Counts.{every-none}
 use Rattle.model.proofs.Flat.{paste-right, symAt-length, put-other}
 
 -- ---- what two lists have alike from a place on
@@ -105,6 +106,14 @@ unfolding tally
 tally-none p zero h = refl
 tally-none p (suc n) h = omega (arith, ap bit (h n (omega arith)), tally-none p n (λ i k. h i (omega arith)))
 
+none-tally : (p : ℕ → Bool) (n : ℕ) → tally p n ≡ 0 → (i : ℕ) → i < n → p i ≡ false
+unfolding tally
+none-tally p zero e i h = absurd (omega arith)
+none-tally p (suc n) e i h =
+    by-test (p i)
+    (λ t. by-test (eqb i n) (λ u. absurd (omega (arith, ap bit (ap p (sym (eqb-true i n u)) ∙ t)))) (λ u. none-tally p n (omega arith) i (omega (arith, eqb-false i n u))))
+    (λ t. t)
+
 pub tally-one-more : (p q : ℕ → Bool) (n x : ℕ) → x < n → p x ≡ false → q x ≡ true → ((i : ℕ) → i < n → i ≢ x → q i ≡ p i) → tally q n ≡ suc (tally p n)
 unfolding tally
 tally-one-more p q zero x h px qx k = absurd (omega arith)
@@ -125,6 +134,24 @@ filled-cong S H root t₀ m₀ t m t₀′ m₀′ t′ m′ (suc d) h =
     ap₂ (λ (a b : ℕ). a + b)
     (tally-cong _ _ (S .n d) (λ i k. h d i (omega arith) k))
     (filled-cong S H root t₀ m₀ t m t₀′ m₀′ t′ m′ d (λ l i k. h l i (omega arith)))
+
+-- no gap is filled where no symbol is a filled gap, and only there
+module _ (S : Shape) (H : ℕ → ℕ → List ℕ → List ℕ) (root t₀ m₀ t m : List ℕ) where
+  abbrev isFilled : ℕ → ℕ → Bool
+  isFilled l i = gapAt S H root t₀ m₀ t l i && not (absentAt S m l i)
+
+  pub filled-none : (d : ℕ) → ((l i : ℕ) → l < d → i < S .n l → isFilled l i ≡ false) → filled S H root t₀ m₀ t m d ≡ 0
+  unfolding filled filledIn
+  filled-none zero h = refl
+  filled-none (suc d) h = omega (arith, tally-none (isFilled d) (S .n d) (λ i k. h d i (omega arith) k), filled-none d (λ l i k. h l i (omega arith)))
+
+  pub none-filled : (d : ℕ) → filled S H root t₀ m₀ t m d ≡ 0 → (l i : ℕ) → l < d → i < S .n l → isFilled l i ≡ false
+  unfolding filled filledIn
+  none-filled zero e l i hl hi = absurd (omega arith)
+  none-filled (suc d) e l i hl hi =
+      by-test (eqb l d)
+      (λ u. subst (λ (z : ℕ). i < S .n z → isFilled z i ≡ false) (sym (eqb-true l d u)) (none-tally (isFilled d) (S .n d) (omega arith) i) hi)
+      (λ u. none-filled d (omega arith) l i (omega (arith, eqb-false l d u)) hi)
 
 module _ (S : Shape) (sh : ShapeOk S) (H : ℕ → ℕ → List ℕ → List ℕ) (root : List ℕ) (tbl : List (List (List ℕ))) (ok : TableLaws S tbl) where
   -- the symbols of layer l and above are the same
@@ -170,6 +197,17 @@ module _ (S : Shape) (sh : ShapeOk S) (H : ℕ → ℕ → List ℕ → List ℕ
       ap₂ (λ (a b : ℕ). a + b)
       (filledIn-keep t₀ m₀ t t′ m m′ l (λ k y e b. kp l (omega arith) k y (omega arith) b) (km l (omega arith)))
       (filled-keep t₀ m₀ t t′ m m′ l (λ k h. kp k (omega arith)) (λ k h. km k (omega arith)))
+
+  -- a layer is drained where every stopping set within its gaps is empty
+  pub drained-if : (t₀ m₀ t : List ℕ) (l : ℕ) → l < length tbl
+      → ((s : ℕ → Bool) → Within (S .n l) s (gapAt S H root t₀ m₀ t l) → Stopping S tbl l s → Within (S .n l) s (λ i. false)) → Drained S H root tbl t₀ m₀ t l
+  unfolding Stopping
+  drained-if t₀ m₀ t l hl empty =
+      record {
+        inside = λ x h e. absurd (false≢true e);
+        stopping = λ e h c. omega (arith, every-none (λ x. ltb x (S .n l)) (λ x. false) (λ x w. refl) (equationOf tbl l e) (ok .within l e hl h));
+        contains = empty;
+      }
 
   pub drained-keep : (t₀ m₀ t t′ : List ℕ) (l : ℕ) → ((k y : ℕ) → suc k ≡ l → y < S .n k → symAt S t′ k y ≡ symAt S t k y) → Drained S H root tbl t₀ m₀ t l → Drained S H root tbl t₀ m₀ t′ l
   drained-keep t₀ m₀ t t′ l h d =

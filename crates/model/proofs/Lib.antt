@@ -30,4 +30,6 @@ pub mod Sweeping
 pub mod Closing
 pub mod Entering
 pub mod FourEnds
+pub mod Intact
+pub mod Look
 pub mod Outcomes

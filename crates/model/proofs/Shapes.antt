@@ -38,6 +38,16 @@ module _ (S : Shape) where
         ]
       ]
 
+  -- every place is that of a symbol
+  pub place-of : (d p : ℕ) → p < places S d → (j : ℕ) × (i : ℕ) × (j < d) × (i < S .n j) × (p ≡ place S j i)
+  unfolding place places
+  place-of zero p h = absurd (omega arith)
+  place-of (suc d) p h =
+      elim (decLt p (places S d)) [
+        | yes q ↦ let (j, i, hj, hi, e) = place-of d p q in (j, i, omega arith, hi, e)
+        | no q ↦ (d, p - places S d, omega arith, omega arith, omega arith)
+      ]
+
 -- ---- layers
 
 -- the symbol of the layer above that holds the hash of symbol i

@@ -77,12 +77,23 @@ pub record Roomy (tbl : List (List (List ℕ))) (o : List ℕ) : Type 0 where
   pub proofs : (j e : ℕ) → j < length tbl → e < length (layerOf tbl j) → proofLength j (length (equationOf tbl j e)) ≤ length o
   pub twins : 512 ≤ length o
 
+-- a repair of the tree t with the marks m ended whole, stored nothing, and left both as they were
+pub record Unchanged (t m : List ℕ) (st : St) : Type 0 where
+  pub ends-whole : st .end ≡ whole
+  pub none-stored : st .stored ≡ 0
+  pub tree-kept : st .tree ≡ t
+  pub marks-kept : st .marks ≡ m
+
 module _ (S : Shape) (H : ℕ → ℕ → List ℕ → List ℕ) (root : List ℕ) (tbl : List (List (List ℕ))) where
   -- layer l is complete, "all its equations holding"
   pub record Complete (t m : List ℕ) (l : ℕ) : Type 0 where
     pub full : (i : ℕ) → i < S .n l → absentAt S m l i ≡ false
     pub hashed : (i : ℕ) → i < S .n l → H l i (symAt S t l i) ≡ committed S root (symAt S t) l i
     pub holds : (e : ℕ) → e < length (layerOf tbl l) → xorOf (symAt S t l) (equationOf tbl l e) ≡ zeros
+
+  -- every layer is complete
+  abbrev pub Intact : List ℕ → List ℕ → Type 0
+  Intact t m = (l : ℕ) → l < length tbl → Complete t m l
 
   -- only the empty set is a stopping set within the gaps of layer l
   abbrev pub Drained : List ℕ → List ℕ → List ℕ → ℕ → Type 0

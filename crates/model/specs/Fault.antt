@@ -41,7 +41,7 @@ module _ (S : Shape) where
   -- "three big-endian words: kind 01 with the layer j, 10 with the equation, 11 with the withheld member's number. Then each other member,
   -- ascending, with its path; then the withheld member's path."
   unfoldable pub proofBytes : (ℕ → ℕ → List ℕ) → ℕ → ℕ → ℕ → List ℕ → List ℕ
-  proofBytes f j e x ms = head j e x ++ (givenBytes f j (others x ms) ++ pathBytes f j x)
+  proofBytes f j e x ms = head 1 j e x ++ (givenBytes f j (others x ms) ++ pathBytes f j x)
 
 -- ---- what the checker reads
 

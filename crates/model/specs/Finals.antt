@@ -9,7 +9,7 @@ use Rattle.parity_table.specs.Table.{layerOf, equationOf}
 use Rattle.model.specs.Shape.{Shape}
 use Rattle.model.specs.Symbols.{count, firstOf, others, xorOf, zeros, symAt, committed}
 use Rattle.model.specs.Repair.{St, absentAt}
-use Rattle.model.specs.Ends.{Within, Closed, gapAt, Complete, Always}
+use Rattle.model.specs.Ends.{Within, Closed, gapAt, Intact, Always}
 use Rattle.model.specs.Alike.{Kind, unfinished, complete, missing, refuted, kindOf}
 
 module _ (S : Shape) (H : ℕ → ℕ → List ℕ → List ℕ) (root : List ℕ) (tbl : List (List (List ℕ))) where
@@ -35,7 +35,7 @@ module _ (S : Shape) (H : ℕ → ℕ → List ℕ → List ℕ) (root : List �
   -- what holds of the last layer entered, by the kind of the end
   abbrev pub LastLayer : St → Kind → Type 0
   LastLayer st unfinished = ⊥
-  LastLayer st complete = (st .entered ≡ length tbl) × ((l : ℕ) → l < length tbl → Complete S H root tbl (st .tree) (st .marks) l)
+  LastLayer st complete = (st .entered ≡ length tbl) × Intact S H root tbl (st .tree) (st .marks)
   LastLayer st (missing j) =
       (st .entered ≡ suc j) × Closed S tbl (st .tree) j (absentAt S (st .marks) j) × ((i : ℕ) × (i < S .n j) × (absentAt S (st .marks) j i ≡ true))
   LastLayer st (refuted j) = (st .entered ≡ suc j) × Refuted (st .tree) (st .marks) j

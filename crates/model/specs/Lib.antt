@@ -10,3 +10,4 @@ pub mod Repair
 pub mod Ends
 pub mod Alike
 pub mod Finals
+pub mod Look
