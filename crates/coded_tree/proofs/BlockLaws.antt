@@ -77,14 +77,20 @@ module _ (d base : ℕ) (t : List ℕ) (deep : 1 ≤ d) (eb : base ≡ places tr
       paste-zeros t block u z (256 * base) (256 * kOf (d - 1)) (256 * base + 256 * n - (256 * base + length block)) lb base-room (omega arith) eu ez
       ∙ ap (λ (o : ℕ). paste t (256 * o) (filled tree d block) (256 * kOf (d - 1))) (eb ∙ sym (add-zero (places tree (d - 1))))
 
+  -- its first n bytes
+  pub block-part : (n : ℕ) → n ≤ 256 * kOf (d - 1) → take (256 * base + n - 256 * base) (drop (256 * base) t) ≡ take n (blockOf tree d t)
+  block-part n h =
+      let w = 256 * base + n - 256 * base in
+      let e : w ≡ n = omega arith in
+      sym (take-take w (256 * kOf (d - 1)) (drop (256 * base) t) (omega arith)) ∙ ap₂ take e (sym block-there)
+
   pub block-read : (block out : List ℕ) → length block ≤ 256 * kOf (d - 1)
       → (let part = take (256 * base + length block - 256 * base) (drop (256 * base) t) in out ≡ paste block 0 part (length part))
       → out ≡ take (length block) (blockOf tree d t)
   block-read block out lb eo =
       let n = 256 * base + length block - 256 * base in
       let en : n ≡ length block = omega arith in
-      eo ∙ paste-all block (take n (drop (256 * base) t)) (length-part t (256 * base) n (omega (arith, base-room)) ∙ en)
-      ∙ sym (take-take n (256 * kOf (d - 1)) (drop (256 * base) t) (omega arith)) ∙ ap₂ take en (sym block-there)
+      eo ∙ paste-all block (take n (drop (256 * base) t)) (length-part t (256 * base) n (omega (arith, base-room)) ∙ en) ∙ block-part (length block) lb
 
   -- the base's data symbols from byte n on, and whether they are zero
   module _ (n m : ℕ) (em : m ≡ kOf (d - 1)) (h : n ≤ 256 * kOf (d - 1)) where

@@ -27,7 +27,7 @@ use Rattle.coded_tree.proofs.ParityLaws.{symbols-from}
 use Rattle.fault_writer.proofs.Splices.{splice-more, splice-over}
 use Rattle.fault_writer.proofs.WayLaws.{layers-fewer, symbol-length}
 use Rattle.fault_writer.specs.Room.{Layers, Members, splice}
-use Rattle.equation.specs.Rooms.{Marked, Rooted, Stands, Workable, membersAt}
+use Rattle.equation.specs.Rooms.{Level, Marked, Rooted, Stands, Workable, membersAt}
 use Rattle.equation.specs.States.{fitsIn, state}
 use Rattle.equation.specs.Turns.{Refuted, Took, few}
 use Rattle.equation.specs.declared.Turn.{Turn}
@@ -37,6 +37,10 @@ use Rattle.equation.specs.declared.Turn.the-variants.{Fault, Stored, Twi
 
 pub rooted-fewer : (root : List ℕ) (j n m : ℕ) → m ≤ n → Rooted root j n → Rooted root j m
 rooted-fewer root j n m h k = record { top = λ z. omega (arith, k .top z); hung = λ z. omega (arith, k .hung z) }
+
+pub level-fewer : {root t m : List ℕ} {j n : ℕ} (q : ℕ) → q ≤ n → Level root t m j n → Level root t m j q
+level-fewer {root} {t} {m} {j} {n} q h l =
+    record { layers = layers-fewer j n q t h (l .layers); rooted = rooted-fewer root j n q h (l .rooted); marks-room = omega (arith, l .marks-room) }
 
 module _ (root ms t out : List ℕ) (j e : ℕ) (k : Workable root ms t out j e) where
   -- symbols of layer j have 256 bytes, and so has the exclusive-or of members

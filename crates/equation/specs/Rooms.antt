@@ -10,12 +10,18 @@ use Rattle.parity_table.specs.Members.{every}
 use Rattle.parity_table.specs.Parse.{membersOf}
 use Rattle.model.specs.Shape.{tree, places}
 use Rattle.model.specs.Fault.{proofLength}
-use Rattle.fault_writer.specs.Room.{Members}
+use Rattle.fault_writer.specs.Room.{Layers, Members}
 
 -- the first n symbols of layer j have their hashes: in the root, or in a tree's layer above
 pub record Rooted (root : List ℕ) (j n : ℕ) : Type 0 where
   pub top : j ≡ 0 → 32 * n ≤ length root
   pub hung : 0 < j → n ≤ nOf j
+
+-- root, tree and marks have what n symbols of layer j need
+pub record Level (root t m : List ℕ) (j n : ℕ) : Type 0 where
+  pub layers : Layers j n t
+  pub rooted : Rooted root j n
+  pub marks-room : places tree j + n ≤ length m
 
 -- the marks m have those of the members ms of an equation of layer j
 pub record Marked (m ms : List ℕ) (j : ℕ) : Type 0 where

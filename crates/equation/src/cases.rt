@@ -84,7 +84,7 @@ fn refute(
 }
 
 // Whether the exclusive-or of the members is 256 zero bytes.
-fn holds(members: &[u32], tree: &[u8], j: usize) -> bool
+pub fn holds(members: &[u32], tree: &[u8], j: usize) -> bool
     requires { ⌜ Members j (now tree) (now members) ⌝ }
     ensures { λ r. ⌜ r ≡ same (xorOf (symAt shape (now (tree .entry)) j) (now (members .entry))) zeros ⌝ }
 {

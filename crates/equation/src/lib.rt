@@ -1,11 +1,12 @@
 // One turn of step (b) of repair: an equation of a layer, with at most one absent member, is taken.
 mod absent; // its absent members
 mod cases; // the cases of a turn
-mod committed; // the committed hash of a symbol, where the tree buffer has it
+mod committed; // the committed hash of a symbol, where the tree buffer has it, and gaps
 
 pub use absent::count_absent;
+pub use cases::holds;
 pub use cases::take;
-pub use committed::fits;
+pub use committed::is_gap;
 
 // What a turn at an equation did.
 pub enum Turn {

@@ -103,7 +103,7 @@ module _ (t ms : List ℕ) (j e x : ℕ) (k : Members j t ms) where
   abbrev path : List ℕ
   path = pathBytes tree (symAt tree t) j x
 
-  proof-is : proofBytes tree (symAt tree t) j e x ms ≡ head j e x ++ (given ++ path)
+  proof-is : proofBytes tree (symAt tree t) j e x ms ≡ head 1 j e x ++ (given ++ path)
   unfolding proofBytes
   proof-is = refl
 
@@ -124,14 +124,14 @@ module _ (t ms : List ℕ) (j e x : ℕ) (k : Members j t ms) where
   given-length = given-long (others x ms) (every-others (λ y. ltb y (k .symbols)) x ms (k .within))
 
   pub proof-length : length (proofBytes tree (symAt tree t) j e x ms) ≡ 12 + 256 * (length (others x ms) * suc j + j)
-  proof-length = ap length proof-is ∙ omega (arith, length-append (head j e x) (given ++ path), length-head j e x, length-append given path, given-length, path-long t j (k .symbols) (k .layers) j x (omega arith))
+  proof-length = ap length proof-is ∙ omega (arith, length-append (head 1 j e x) (given ++ path), length-head 1 j e x, length-append given path, given-length, path-long t j (k .symbols) (k .layers) j x (omega arith))
 
-  pub proof-put : (out a b w : List ℕ) (p : ℕ) → 12 + 256 * (length (others x ms) * suc j + j) ≤ length out → length a ≡ length out → a ≡ over (head j e x) out
+  pub proof-put : (out a b w : List ℕ) (p : ℕ) → 12 + 256 * (length (others x ms) * suc j + j) ≤ length out → length a ≡ length out → a ≡ over (head 1 j e x) out
       → b ≡ splice a 12 given → p ≡ 12 + length given → w ≡ splice b p path → w ≡ over (proofBytes tree (symAt tree t) j e x ms) out
   unfolding head be
   proof-put out a b w p room la ea eb ep ew =
       ew ∙ ap₂ (λ (o : List ℕ) (n : ℕ). splice o n path) eb ep ∙ splice-more a 12 given (omega (arith, given-length)) path
-      ∙ ap (λ (o : List ℕ). splice o 12 (given ++ path)) (ea ∙ sym (splice-over (head j e x) out))
-      ∙ splice-more out 0 (head j e x) (omega arith) (given ++ path)
-      ∙ splice-over (head j e x ++ (given ++ path)) out
+      ∙ ap (λ (o : List ℕ). splice o 12 (given ++ path)) (ea ∙ sym (splice-over (head 1 j e x) out))
+      ∙ splice-more out 0 (head 1 j e x) (omega arith) (given ++ path)
+      ∙ splice-over (head 1 j e x ++ (given ++ path)) out
       ∙ ap (λ (q : List ℕ). over q out) (sym proof-is)

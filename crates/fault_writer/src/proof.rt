@@ -46,7 +46,7 @@ pub fn put_proof(
         → (r ≡ length (proofBytes S (symAt S (now (tree .entry))) j e x (now (members .entry))))
         × (now (out .exit) ≡ over (proofBytes S (symAt S (now (tree .entry))) j e x (now (members .entry))) (now (out .entry)))) ⌝ }
 {
-    heads::put(j, e, x, out);
+    heads::put(1, j, e, x, out);
     let p = put_given(tree, members, x, j, out, 12);
     put_path(tree, j, x, out, p);
     p + 256 * j

@@ -18,14 +18,14 @@ use Rattle.model.specs.Shape.{Hangs, Shape, tree}
 use Rattle.model.specs.Symbols.{count}
 use Rattle.symbol_hash.specs.SymbolHash.{symbolHash}
 use Rattle.symbol_hash.specs.declared.Kind.{Kind}
-use Rattle.equation.specs.Rooms.{Turnable, membersAt}
+use Rattle.equation.specs.Rooms.{Level, Turnable, membersAt}
 use Rattle.equation.specs.States.{state}
 use Rattle.equation.specs.Turns.{Took, can, endBy, storedBy}
 use Rattle.equation.specs.declared.Turn.{Turn}
 use Rattle.equation.specs.declared.Turn.the-variants.{Fault, Stored, Twins, Used}
 use Rattle.peeling.proofs.SweepLaws.{level-keep}
 use Rattle.peeling.proofs.TurnLaws.{ended, fewer, none-left, step-is, unused}
-use Rattle.peeling.specs.Levels.{Lent, Level, Reads}
+use Rattle.peeling.specs.Levels.{Lent, Reads}
 use Rattle.peeling.specs.States.{Came, endOf}
 use Rattle.peeling.specs.declared.Outcome.{Outcome}
 use Rattle.peeling.specs.declared.Outcome.the-variants as outcome

@@ -1,25 +1,23 @@
 -- (a) on the lent buffers, symbol by symbol.
 use mathlib.Core.Bool.{Bool, _&&_, false, not, true}
 use mathlib.Core.List.{List}
-use mathlib.Core.Logic.{_⊎_, ⊎-elim}
 use mathlib.Core.Path.{_∙_, _≡_, ap, ap₂, refl, sym}
 use Prim.Native.Nat.{_*_, _+_, _-_, _<_, _≤_, suc, ℕ}
 use native.Mathlib.Numerals.{add-one}
 use native.Mathlib.Omega.{arith}
-use lib.ListN.{getD, length, set}
+use lib.ListN.{length, set}
 use lib.Seq.{paste}
-use Rattle.octets.proofs.Choice.{pick-no, pick-yes, yes-and}
+use Rattle.octets.proofs.Choice.{pick-no, pick-yes}
 use Rattle.model.proofs.Hung.{sweep-hung}
+use Rattle.model.proofs.Sweeping.{no-gap-is}
+use Rattle.model.specs.Ends.{gapAt}
 use Rattle.model.specs.Repair.{absentAt, eraseSym, fitsAt, sweep, sweepAt, working}
 use Rattle.model.specs.Shape.{Hangs, Shape, place, places, tree}
 use Rattle.model.specs.Symbols.{putAt, symAt, zeros}
 use Rattle.symbol_hash.specs.SymbolHash.{symbolHash}
 use Rattle.symbol_hash.specs.declared.Kind.{Kind}
-use Rattle.coded_tree.proofs.MarkLaws.{absent-is, held-is}
-use Rattle.fault_writer.proofs.WayLaws.{layers-fewer}
-use Rattle.equation.proofs.TurnLaws.{rooted-fewer}
+use Rattle.equation.specs.Rooms.{Level}
 use Rattle.equation.specs.States.{fitsIn, state}
-use Rattle.peeling.specs.Levels.{Level}
 use Rattle.peeling.specs.States.{Moved}
 
 -- ---- one symbol
@@ -28,22 +26,23 @@ pub and-false : (a b : Bool) → b ≡ false → (a && b) ≡ false
 and-false true b e = e
 and-false false b e = refl
 
-module _ (kind : Kind) (root t m : List ℕ) (j base i : ℕ) (eb : base ≡ places tree j) where
-  pub sweep-keep : getD m (base + i) 0 ≡ 1 → fitsIn kind root t j i (symAt tree t j i) ≡ true → Moved (sweepAt tree (symbolHash kind) root j i) t m t m
-  unfolding sweepAt fitsAt
-  sweep-keep h f =
-      record { goes = λ o u s d. pick-yes (not (absentAt tree m j i) && fitsIn kind root t j i (symAt tree t j i)) _ _ (yes-and (ap not (held-is m j base eb i h)) f) }
+module _ (kind : Kind) (root t m : List ℕ) (j i : ℕ) where
+  -- the test of (a): the symbol is no gap
+  test-is : (not (absentAt tree m j i) && fitsIn kind root t j i (symAt tree t j i)) ≡ not (gapAt tree (symbolHash kind) root t m t j i)
+  unfolding gapAt
+  test-is = no-gap-is (absentAt tree m j i) (fitsIn kind root t j i (symAt tree t j i))
 
-  pub sweep-erase : (t′ m′ : List ℕ) → ((getD m (base + i) 0 ≡ 1 → ⊥) ⊎ (fitsIn kind root t j i (symAt tree t j i) ≡ false))
+  pub sweep-keep : gapAt tree (symbolHash kind) root t m t j i ≡ false → Moved (sweepAt tree (symbolHash kind) root j i) t m t m
+  unfolding sweepAt fitsAt
+  sweep-keep g = record { goes = λ o u s d. pick-yes (not (absentAt tree m j i) && fitsIn kind root t j i (symAt tree t j i)) _ _ (test-is ∙ ap not g) }
+
+  pub sweep-erase : (base : ℕ) (t′ m′ : List ℕ) → base ≡ places tree j → gapAt tree (symbolHash kind) root t m t j i ≡ true
       → t′ ≡ paste t (256 * (base + i)) zeros 256 → m′ ≡ set m (base + i) 0 → Moved (sweepAt tree (symbolHash kind) root j i) t m t′ m′
   unfolding sweepAt fitsAt eraseSym putAt place
-  sweep-erase t′ m′ h et em =
-      let f : Bool = fitsIn kind root t j i (symAt tree t j i) in
-      let bad : (not (absentAt tree m j i) && f) ≡ false =
-      ⊎-elim (λ w. ap (λ (b : Bool). b && f) (ap not (absent-is m j base eb i w))) (λ w. and-false (not (absentAt tree m j i)) f w) h in
+  sweep-erase base t′ m′ eb g et em =
       record {
         goes = λ o u s d.
-            pick-no (not (absentAt tree m j i) && f) _ _ bad
+            pick-no (not (absentAt tree m j i) && fitsIn kind root t j i (symAt tree t j i)) _ _ (test-is ∙ ap not g)
             ∙ ap₂ (λ (a b : List ℕ). state a b o u s d working)
             (sym (et ∙ ap (λ (b : ℕ). paste t (256 * (b + i)) zeros 256) eb)) (sym (em ∙ ap (λ (b : ℕ). set m (b + i) 0) eb));
       }
@@ -98,7 +97,3 @@ level-keep lt lm l =
       rooted = l .rooted;
       marks-room = omega (arith, l .marks-room);
     }
-
-pub level-fewer : {root t m : List ℕ} {j n : ℕ} (q : ℕ) → q ≤ n → Level root t m j n → Level root t m j q
-level-fewer {root} {t} {m} {j} {n} q h l =
-    record { layers = layers-fewer j n q t h (l .layers); rooted = rooted-fewer root j n q h (l .rooted); marks-room = omega (arith, l .marks-room) }

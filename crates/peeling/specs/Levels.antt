@@ -4,18 +4,10 @@ use mathlib.Core.List.{List}
 use Prim.Native.Nat.{ℕ, _+_, _*_, _^_, _≤_, _<_}
 use lib.ListN.{length}
 use Rattle.parity_table.specs.Table.{layerOf, equationOf}
-use Rattle.model.specs.Shape.{tree, places}
 use Rattle.model.specs.Fault.{proofLength}
-use Rattle.fault_writer.specs.Room.{Layers}
-use Rattle.equation.specs.Rooms.{Rooted, membersAt}
+use Rattle.equation.specs.Rooms.{Level, membersAt}
 use Rattle.incidence.specs.Incidence.{Listed, Threaded}
 use Rattle.peeling.specs.Search.{Counted, Ordered}
-
--- root, tree and marks have what n symbols of layer j need
-pub record Level (root t m : List ℕ) (j n : ℕ) : Type 0 where
-  pub layers : Layers j n t
-  pub rooted : Rooted root j n
-  pub marks-room : places tree j + n ≤ length m
 
 -- layer j has equations, the first being number `from` of the index: each can be worked on, u saying which of them are used
 pub record Lent (root ws starts t m out u : List ℕ) (from j : ℕ) : Type 0 where

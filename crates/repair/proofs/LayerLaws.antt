@@ -17,18 +17,19 @@ use Rattle.parity_table.specs.Members.{every}
 use Rattle.parity_table.specs.Parse.{HasEquation, numberIn, tableOf}
 use Rattle.parity_table.specs.Shape.{kOf, maxDepth, nOf}
 use Rattle.parity_table.specs.Table.{EquationOk, equationOf, layerOf}
-use Rattle.model.proofs.Shapes.{n-small, places-mono}
+use Rattle.model.proofs.Shapes.{n-small}
 use Rattle.model.specs.Fault.{proofLength}
 use Rattle.model.specs.Repair.{End, St, absentAt, endAs, enter, fresh, gapsLeft, going, layer, peel, settle, sweep, unavailable, working}
-use Rattle.model.specs.Shape.{places, tree}
+use Rattle.model.specs.Shape.{tree}
 use Rattle.model.specs.Symbols.{lowest}
 use Rattle.symbol_hash.specs.SymbolHash.{symbolHash}
 use Rattle.symbol_hash.specs.declared.Kind.{Kind}
-use Rattle.equation.specs.Rooms.{Stands, membersAt}
+use Rattle.equation.proofs.CommittedLaws.{level-of}
+use Rattle.equation.specs.Rooms.{Level, Stands, membersAt}
 use Rattle.equation.specs.States.{state}
 use Rattle.incidence.specs.Incidence.{Listed, Narrow, Threadable, Threaded}
 use Rattle.peeling.specs.Search.{Countable, Counted, Ordered}
-use Rattle.peeling.specs.Levels.{Lent, Level, Peelable, Reads}
+use Rattle.peeling.specs.Levels.{Lent, Peelable, Reads}
 use Rattle.peeling.specs.States.{Came, Moved}
 use Rattle.peeling.specs.States.{endOf as endAfter}
 use Rattle.peeling.specs.declared.Outcome.{Outcome}
@@ -49,13 +50,7 @@ module _ {d : ℕ} {ws starts root t m o : List ℕ} (k : Given d ws starts root
   layer-below = omega (arith, accepted-depth d ws (k .indexed .accepted) .1)
 
   pub level : Level root t m j (nOf j)
-  unfolding places nOf kOf
-  level =
-      record {
-        layers = record { layer = layer-below; room = omega (arith, k .tree-full, places-mono tree (suc j) d hj) };
-        rooted = record { top = λ z. omega (arith, k .root-full, ap nOf z); hung = λ z. omega arith };
-        marks-room = omega (arith, k .marks-full, places-mono tree (suc j) d hj);
-      }
+  level = level-of d j (accepted-depth d ws (k .indexed .accepted) .1) hj (k .root-full) (k .tree-full) (k .marks-full)
 
   pub equations : length (layerOf (tableOf ws) j) ≡ 3 * kOf j
   equations = accepted-table d ws (k .indexed .accepted) .equations j hj

@@ -15,7 +15,7 @@ use Rattle.fault_writer.proofs.proof.put_proof.Tie as tie
 put-requires : tie.Need-put-requires
 put-requires c κs =
     let pre = c .before .before .before .before .pre in
-    (omega (arith, pre .0 .layers .layer), pre .1, pre .2, omega (arith, pre .3))
+    (omega arith, omega (arith, pre .0 .layers .layer), pre .1, pre .2, omega (arith, pre .3))
 
 put-given-requires : tie.Need-put-given-requires
 put-given-requires c κs =
@@ -54,7 +54,7 @@ returns c =
     λ S h.
     let q = sym (proof-hung S (a .j) h (a .tree .now) (a .e) (a .x) (a .members .now)) in (
       omega (arith, n, m, ap length q, g .put-given .ensures .0),
-      proof-put (a .tree .now) (a .members .now) (a .j) (a .e) (a .x) (s .pre .0) (a .out .now) _ _ _ _ (s .pre .3) (b .put .kept .1 .1 .1 .0) (b .put .ensures) (g .put-given .ensures .1) (g .put-given .ensures .0) (c .before .before .put-path .ensures)
+      proof-put (a .tree .now) (a .members .now) (a .j) (a .e) (a .x) (s .pre .0) (a .out .now) _ _ _ _ (s .pre .3) (b .put .kept .1 .1 .1 .1 .0) (b .put .ensures) (g .put-given .ensures .1) (g .put-given .ensures .0) (c .before .before .put-path .ensures)
           ∙ ap (λ (p : List ℕ). over p (a .out .now)) q,
     )
 

@@ -1,7 +1,8 @@
 -- `sweep_layer` meets its contract. The loop keeps: the symbols before i are swept.
 use Prim.Native.Nat.{_-_, _≤_}
 use native.Mathlib.Omega.{arith}
-use Rattle.peeling.proofs.SweepLaws.{Sweeping, level-fewer, level-keep, sweep-end, sweep-start, sweep-turn}
+use Rattle.equation.proofs.TurnLaws.{level-fewer}
+use Rattle.peeling.proofs.SweepLaws.{Sweeping, level-keep, sweep-end, sweep-start, sweep-turn}
 use Rattle.peeling.proofs.sweep.sweep_layer.Statement.{statement}
 use Rattle.peeling.proofs.sweep.sweep_layer.Tie as tie
 

@@ -8,7 +8,7 @@ use Rattle.parity_table.specs.Shape.{kOf, nOf}
 use Rattle.model.proofs.Hung.{tree-hangs}
 use Rattle.model.proofs.Shapes.{tree-ok}
 use Rattle.model.specs.Shape.{places, tree}
-use Rattle.peeling.specs.Levels.{Level}
+use Rattle.equation.specs.Rooms.{Level}
 use Rattle.repair.proofs.LayerLaws.{countable, equations, given-keep, layer-below, layered, level, own-keep, peelable, reads, threadable}
 use borrow.Author.Needs.{needs}
 use Rattle.repair.proofs.layer.repair_with.Statement.{statement}
