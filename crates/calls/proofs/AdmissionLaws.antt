@@ -31,7 +31,7 @@ use Rattle.coverage.proofs.Right.{found-low}
 use Rattle.model.specs.Shape.{tree}
 use Rattle.model.proofs.Tables.{TableLaws, table-laws}
 use Rattle.calls.specs.declared.Stop.{Stop}
-use Rattle.calls.specs.declared.Stop.the-variants.{Depth, Length, Table, Mark, Number, Head, Hash, NoFault, Absent, Uncovered, Record, OtherTable}
+use Rattle.calls.specs.declared.Stop.the-variants.{Depth, Length, Table, Mark, Number, Head, Hash, NoFault, Absent, Uncovered, Record, OtherTable, NotWhole}
 use Rattle.calls.specs.declared.Answer.{Answer}
 use Rattle.calls.specs.declared.Answer.the-variants.{Done, Stopped}
 use Rattle.calls.specs.Tests.{_then_, left, readAnswer, coverAnswer, opened, wordsTested, admitted, wordsLeft, startsLeft}
@@ -273,13 +273,16 @@ small-words d ws h =
     (small-read (readOf d ws) (λ i e. omega (arith, refused-wrong d ws i e .1 .within)))
     (λ e. small-cover d (accepted-depth d ws (read-whole (readOf d ws) e) .1) (coverageOf d (tableOf ws)) (found-low d (tableOf ws)))
 
+pub small-table : (d : ℕ) (sized : Bool) (table : List ℕ) → opened d (sized && lengthFits (length table)) ≡ Done → Small (wordsTested d (wordsOf table))
+small-table d sized table o =
+    let k = opened-by d (sized && lengthFits (length table)) o in
+    let l = and-yes sized (lengthFits (length table)) (k .lengths) .1 in
+    small-words d (wordsOf table) (omega (arith, wordsOf-length table, quarter-most (length table) l))
+
 pub small-admitted : (d : ℕ) (sized : Bool) (table : List ℕ) → Small (admitted d sized table)
 small-admitted d sized table =
     small-then (opened d (sized && lengthFits (length table))) (wordsTested d (wordsOf table)) (small-opened d (sized && lengthFits (length table)))
-    (λ o.
-    let k = opened-by d (sized && lengthFits (length table)) o in
-    let l = and-yes sized (lengthFits (length table)) (k .lengths) .1 in
-    small-words d (wordsOf table) (omega (arith, wordsOf-length table, quarter-most (length table) l)))
+    (small-table d sized table)
 
 -- ---- answer 1
 
@@ -297,6 +300,7 @@ depth-stop (Stopped (Absent x)) e = absurd (omega arith)
 depth-stop (Stopped (Uncovered j i)) e = absurd (omega arith)
 depth-stop (Stopped Record) e = absurd (omega arith)
 depth-stop (Stopped OtherTable) e = absurd (omega arith)
+depth-stop (Stopped NotWhole) e = absurd (omega arith)
 
 pub at-depth : (d : ℕ) (a : Answer) → stopsAtDepth d a ≡ true → (0 < d) × (a ≡ Stopped Depth)
 unfolding stopsAtDepth

@@ -20,7 +20,7 @@ use Rattle.calls.specs.declared.Answer.the-variants.{Done, Stopped}
 use Rattle.calls.specs.Room.{Room}
 use Rattle.calls.specs.Stops.{Small}
 use Rattle.calls.specs.Tests.{_then_, left, testHead, testNamed, opened, headed, wordsTested, admitted, admittedBy, wordsLeft, startsLeft}
-use Rattle.calls.proofs.TestLaws.{stopped-not, then-done, Opened, opened-by, opened-sized, opens, no-depth, no-length, small-plain, small-then, small-opened}
+use Rattle.calls.proofs.TestLaws.{stopped-not, then-done, Opened, opened-by, opened-sized, opened-short, opened-long, opens, no-depth, no-length, small-plain, small-then, small-opened}
 use Rattle.calls.proofs.AdmissionLaws.{TableTaken, Ready, ready, admission, admits, small-admitted}
 
 -- the root in a record
@@ -82,14 +82,12 @@ module _ (d : ℕ) (sized : Bool) (r : List ℕ) where
   -- the length of a table that is lent too
   pub headed-short : (long : Bool) → long ≡ false → opened d false ≡ headed d (sized && long) r
   headed-short long e =
-      let n : (sized && long) ≡ false = by-test sized (λ s. ap₂ (λ (a b : Bool). a && b) s e) (λ s. ap (λ (a : Bool). a && long) s) in
-      by-test (depthFits d) (λ f. sym (no-length d false f refl) ∙ ap (λ (a : Answer). a then testHead d r) (no-length d (sized && long) f n))
-      (λ f. sym (no-depth d false f) ∙ ap (λ (a : Answer). a then testHead d r) (no-depth d (sized && long) f))
+      by-test (depthFits d) (λ f. sym (no-length d false f refl) ∙ ap (λ (a : Answer). a then testHead d r) (no-length d false f refl))
+      (λ f. sym (no-depth d false f) ∙ ap (λ (a : Answer). a then testHead d r) (no-depth d false f))
+      ∙ ap (λ (a : Answer). a then testHead d r) (opened-short d sized long e)
 
   pub headed-long : (long : Bool) → long ≡ true → headed d sized r ≡ headed d (sized && long) r
-  headed-long long e =
-      ap (λ (b : Bool). headed d b r)
-      (by-test sized (λ s. s ∙ sym (ap₂ (λ (a b : Bool). a && b) s e)) (λ s. s ∙ sym (ap (λ (a : Bool). a && long) s)))
+  headed-long long e = ap (λ (a : Answer). a then testHead d r) (opened-long d sized long e)
 
   -- a test of lengths that looks at the depth too
   pub headed-sized : headed d (depthFits d && sized) r ≡ headed d sized r

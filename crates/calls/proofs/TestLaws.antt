@@ -1,5 +1,5 @@
 -- Tests in their order, and what is known of a call that has passed them.
-use mathlib.Core.Path.{_≡_, refl, sym, ap, _∙_, subst}
+use mathlib.Core.Path.{_≡_, refl, sym, ap, ap₂, _∙_, subst}
 use mathlib.Core.Bool.{Bool, true, false, _&&_}
 use mathlib.Core.List.{List}
 use Prim.Native.Nat.{ℕ, _-_, _≤_, _<_, _^_}
@@ -13,7 +13,7 @@ use Rattle.octets.proofs.Choice.{by-test, pick-yes, pick-no, pick-ind}
 use Rattle.parity_table.specs.Shape.{maxDepth, depthFits, nOf}
 use Rattle.parity_table.proofs.Shape.{depth-is}
 use Rattle.calls.specs.declared.Stop.{Stop}
-use Rattle.calls.specs.declared.Stop.the-variants.{Depth, Length, Table, Mark, Number, Head, Hash, NoFault, Absent, Uncovered, Record, OtherTable}
+use Rattle.calls.specs.declared.Stop.the-variants.{Depth, Length, Table, Mark, Number, Head, Hash, NoFault, Absent, Uncovered, Record, OtherTable, NotWhole}
 use Rattle.calls.specs.declared.Answer.{Answer}
 use Rattle.calls.specs.declared.Answer.the-variants.{Done, Stopped}
 use Rattle.calls.specs.Stops.{numberOf, valuesOf, Small}
@@ -70,6 +70,16 @@ pub opened-sized : (d : ℕ) (sized : Bool) → opened d (depthFits d && sized) 
 opened-sized d sized =
     by-test (depthFits d) (λ f. ap (λ (b : Bool). opened d (b && sized)) f) (λ f. sym (no-depth d (depthFits d && sized) f) ∙ no-depth d sized f)
 
+-- the length of a table that is lent too
+pub opened-short : (d : ℕ) (sized long : Bool) → long ≡ false → opened d false ≡ opened d (sized && long)
+opened-short d sized long e =
+    let n : (sized && long) ≡ false = by-test sized (λ s. ap₂ (λ (a b : Bool). a && b) s e) (λ s. ap (λ (a : Bool). a && long) s) in
+    ap (opened d) (sym n)
+
+pub opened-long : (d : ℕ) (sized long : Bool) → long ≡ true → opened d sized ≡ opened d (sized && long)
+opened-long d sized long e =
+    ap (opened d) (by-test sized (λ s. s ∙ sym (ap₂ (λ (a b : Bool). a && b) s e)) (λ s. s ∙ sym (ap (λ (a : Bool). a && long) s)))
+
 -- ---- tests 4 and 5
 
 module _ (m : List ℕ) where
@@ -120,6 +130,7 @@ number-low (Stopped (Absent x)) = omega arith
 number-low (Stopped (Uncovered j i)) = omega arith
 number-low (Stopped Record) = omega arith
 number-low (Stopped OtherTable) = omega arith
+number-low (Stopped NotWhole) = omega arith
 
 -- an answer without values
 pub small-plain : {a : Answer} → valuesOf a ≡ (0, 0) → Small a

@@ -43,10 +43,12 @@ pub enum Stop {
     Absent(usize),
     // a data symbol is a member of fewer than two equations of its layer: the first such layer, and its lowest such symbol
     Uncovered { layer: usize, symbol: usize },
-    // a record's head: wrong kind, a block's length over 256·k, or another depth than the call's
+    // a record's head: wrong kind, a block's length over 256·k, or another depth than the call's; or no kind has the number that the writer is told
     Record,
     // a table of another word count or hash than the record's
     OtherTable,
+    // a tree to be recoded that a repair doesn't call whole without storing anything
+    NotWhole,
 }
 
 // What a call answers.

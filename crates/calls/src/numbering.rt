@@ -34,6 +34,7 @@ fn of_stop(s: Stop) -> Numbers
         Stop::Uncovered { layer, symbol } => with(10, layer, symbol),
         Stop::Record => with(11, 0, 0),
         Stop::OtherTable => with(12, 0, 0),
+        Stop::NotWhole => with(14, 0, 0),
     }
 }
 

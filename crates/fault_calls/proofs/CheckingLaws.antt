@@ -12,7 +12,6 @@ use Rattle.table_bytes.specs.Bytes.{wordsOf}
 use Rattle.parity_table.specs.Parse.{tableOf}
 use Rattle.parity_table.proofs.Accepts.{accepted-depth, accepted-table}
 use Rattle.symbol_hash.specs.SymbolHash.{symbolHash}
-use Rattle.symbol_hash.specs.declared.Kind.the-variants.{Plain}
 use Rattle.model.specs.Shape.{tree}
 use Rattle.model.specs.Fault.{proofLayer, proofEquation, proofWithheld, proofMembers, proofGiven, Verdict, accepted, wrongHead, wrongLength, broken, noFault, verdict}
 use Rattle.model.proofs.Counts.{length-others}
@@ -20,7 +19,7 @@ use Rattle.model.proofs.Sound.{broken-inside}
 use Rattle.calls.specs.declared.Answer.{Answer}
 use Rattle.calls.specs.declared.Stop.the-variants.{Depth}
 use Rattle.calls.specs.declared.Answer.the-variants.{Done, Stopped}
-use Rattle.root_record.specs.Records.{rootIn}
+use Rattle.root_record.specs.Records.{kindIn, rootIn}
 use Rattle.calls.specs.Lengths.{recordSized}
 use Rattle.calls.specs.Tests.{_then_, admittedBy}
 use Rattle.calls.specs.Stops.{Small}
@@ -42,7 +41,7 @@ done-judged noFault e = absurd (stopped-not _ e)
 
 module _ (d : ℕ) (r table b : List ℕ) where
   abbrev found : Verdict
-  found = verdict tree (symbolHash Plain) (rootIn r) (tableOf (wordsOf table)) b
+  found = verdict tree (symbolHash (kindIn r)) (rootIn r) (tableOf (wordsOf table)) b
 
   -- once tests 1, 2, 11, 3, 10 and 12 have passed, the verdict decides
   pub judged-so : Done ≡ admittedBy d (proofSized (length r) (length b)) r table → judged found ≡ proofChecked d r table b
@@ -57,7 +56,7 @@ module _ (d : ℕ) (r table b : List ℕ) where
   -- the tests that an accepted proof has passed
   pub record Passed : Type 0 where
     pub admits : AdmittedBy d (proofSized (length r) (length b)) r table
-    pub accepts : verdict tree (symbolHash Plain) (rootIn r) (tableOf (wordsOf table)) b ≡ accepted
+    pub accepts : verdict tree (symbolHash (kindIn r)) (rootIn r) (tableOf (wordsOf table)) b ≡ accepted
 
   pub passed : proofChecked d r table b ≡ Done → Passed
   unfolding proofChecked
@@ -72,7 +71,7 @@ module _ (d : ℕ) (r table b : List ℕ) where
   small-judged t wrongHead e = small-plain refl
   small-judged t wrongLength e = small-plain refl
   small-judged t (broken l p) e =
-      let (n, x, y) = broken-inside tree (symbolHash Plain) (rootIn r) (tableOf (wordsOf table)) b l p e in
+      let (n, x, y) = broken-inside tree (symbolHash (kindIn r)) (rootIn r) (tableOf (wordsOf table)) b l p e in
       let laws = table-laws-of d table (t .accepted) in
       let few = laws .few-members (proofLayer b) (proofEquation b) (n .layer-ok) (n .equation-ok) in
       record { first = omega (arith, n .layer-ok, accepted-table d (wordsOf table) (t .accepted) .depth, accepted-depth d (wordsOf table) (t .accepted) .1); second = omega (arith, few, length-others (proofWithheld b) (proofMembers (tableOf (wordsOf table)) b)) }

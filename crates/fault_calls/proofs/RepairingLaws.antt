@@ -14,7 +14,7 @@ use Rattle.table_bytes.specs.Bytes.{wordsOf}
 use Rattle.parity_table.specs.Parse.{tableOf}
 use Rattle.parity_table.proofs.Shape.{depth-is}
 use Rattle.symbol_hash.specs.SymbolHash.{symbolHash}
-use Rattle.symbol_hash.specs.declared.Kind.the-variants.{Plain}
+use Rattle.symbol_hash.specs.declared.Kind.{Kind}
 use Rattle.model.specs.Shape.{tree, places}
 use Rattle.model.specs.Repair.{End as StepsEnd, working, whole, fault, unavailable, twins, St, repair}
 use Rattle.model.specs.Writer.{zeroFilled}
@@ -25,7 +25,7 @@ use Rattle.calls.specs.declared.Stop.{Stop}
 use Rattle.calls.specs.declared.Stop.the-variants.{Depth}
 use Rattle.calls.specs.declared.Answer.{Answer}
 use Rattle.calls.specs.declared.Answer.the-variants.{Done, Stopped}
-use Rattle.root_record.specs.Records.{sizeIn, rootIn}
+use Rattle.root_record.specs.Records.{kindIn, sizeIn, rootIn}
 use Rattle.calls.specs.Lengths.{treeSized, recordSized}
 use Rattle.calls.specs.Tests.{_then_, admittedBy, testMarks}
 use Rattle.calls.proofs.LengthLaws.{places-small, tree-lengths}
@@ -66,14 +66,14 @@ module _ (zero : Bool) (s : ℕ) where
 
 -- ---- after the tests
 
-module _ (root : List ℕ) (tbl : List (List (List ℕ))) (d n : ℕ) (t m o : List ℕ) where
+module _ (kind : Kind) (root : List ℕ) (tbl : List (List (List ℕ))) (d n : ℕ) (t m o : List ℕ) where
   abbrev steps : St
-  steps = repair tree (symbolHash Plain) root tbl t m o
+  steps = repair tree (symbolHash kind) root tbl t m o
 
   pub marks-refuse : (s : Stop) → Stopped s ≡ testMarks m → leaves (stopped s) t m o ≡ repairedBy (testMarks m) d n steps t m o
   marks-refuse s e = ap (λ (a : Answer). repairedBy a d n steps t m o) e
 
-  pub repairs : (t′ m′ o′ : List ℕ) (s : ℕ) (z : End) (x : Result) → Repaired Plain root tbl t m o t′ m′ o′ s z → Done ≡ testMarks m
+  pub repairs : (t′ m′ o′ : List ℕ) (s : ℕ) (z : End) (x : Result) → Repaired kind root tbl t m o t′ m′ o′ s z → Done ≡ testMarks m
       → x ≡ endedBy (zeroFilled tree d n t′) s (endOf z) → leaves x t′ m′ o′ ≡ repairedBy (testMarks m) d n steps t m o
   repairs t′ m′ o′ s z x r e ex =
       ap (λ (y : Result). leaves y t′ m′ o′) (ex ∙ ap₂ (λ (q : ℕ) y. endedBy (zeroFilled tree d n t′) q y) (r .stored-is) (r .end-is))
@@ -108,13 +108,14 @@ module _ (d : ℕ) (r table t m o : List ℕ) where
   unfolding repaired repairTested
   refused s e = ap (λ (a : Answer). repairedBy (a then testMarks m) d (sizeIn r) (repairOf r table t m o) t m o) e
 
-  pub went-on : (ws root : List ℕ) (n : ℕ) (x : RepairLeft Result) → root ≡ rootIn r → n ≡ sizeIn r → ws ≡ wordsOf table
-      → x ≡ repairedBy (testMarks m) d n (repair tree (symbolHash Plain) root (tableOf ws) t m o) t m o
+  pub went-on : (kind : Kind) (ws root : List ℕ) (n : ℕ) (x : RepairLeft Result) → kind ≡ kindIn r → root ≡ rootIn r → n ≡ sizeIn r → ws ≡ wordsOf table
+      → x ≡ repairedBy (testMarks m) d n (repair tree (symbolHash kind) root (tableOf ws) t m o) t m o
       → Done ≡ admittedBy d (repairSized d (length r) (length t) (length m) (length o)) r table → x ≡ repaired d r table t m o
   unfolding repaired repairTested repairOf
-  went-on ws root n x eo en ew ex e =
-      ex ∙ ap₂ (λ (q : List ℕ) (k : ℕ). repairedBy (testMarks m) d k (repair tree (symbolHash Plain) q (tableOf ws) t m o) t m o) eo en
-      ∙ ap (λ (q : List ℕ). repairedBy (testMarks m) d (sizeIn r) (repair tree (symbolHash Plain) (rootIn r) (tableOf q) t m o) t m o) ew
+  went-on kind ws root n x ek eo en ew ex e =
+      ex ∙ ap (λ (k : Kind). repairedBy (testMarks m) d n (repair tree (symbolHash k) root (tableOf ws) t m o) t m o) ek
+      ∙ ap₂ (λ (q : List ℕ) (k : ℕ). repairedBy (testMarks m) d k (repair tree (symbolHash (kindIn r)) q (tableOf ws) t m o) t m o) eo en
+      ∙ ap (λ (q : List ℕ). repairedBy (testMarks m) d (sizeIn r) (repair tree (symbolHash (kindIn r)) (rootIn r) (tableOf q) t m o) t m o) ew
       ∙ ap (λ (a : Answer). repairedBy (a then testMarks m) d (sizeIn r) (repairOf r table t m o) t m o) e
 
   -- the tests that well-formed input has passed

@@ -4,9 +4,8 @@ use Prim.Native.Nat.{ℕ}
 use Rattle.table_bytes.specs.Bytes.{wordsOf}
 use Rattle.parity_table.specs.Parse.{tableOf}
 use Rattle.symbol_hash.specs.SymbolHash.{symbolHash}
-use Rattle.symbol_hash.specs.declared.Kind.the-variants.{Plain}
 use Rattle.symbol_hash.proofs.Laws.{length-symbolHash}
-use Rattle.root_record.specs.Records.{rootIn}
+use Rattle.root_record.specs.Records.{kindIn, rootIn}
 use Rattle.model.specs.Shape.{tree}
 use Rattle.model.proofs.Shapes.{tree-ok}
 use Rattle.model.proofs.Tables.{TableLaws}
@@ -17,15 +16,14 @@ use Rattle.calls.proofs.AdmissionLaws.{table-laws-of}
 use Rattle.fault_calls.proofs.CheckingLaws.{passed}
 
 pub checker-sound : CheckerSound
-unfolding symbolHash
 checker-sound d r table b e f agr =
     let p = passed d r table b e in
     let tbl : List (List (List ℕ)) = tableOf (wordsOf table) in
     let laws : TableLaws tree tbl = table-laws-of d table (p .admits .taken .accepted) in
-    let c = sound tree (tree-ok .shape) (symbolHash Plain) (length-symbolHash Plain) tbl (rootIn r) f agr laws b (p .accepts) in
+    let c = sound tree (tree-ok .shape) (symbolHash (kindIn r)) (length-symbolHash (kindIn r)) tbl (rootIn r) f agr laws b (p .accepts) in
     record {
       collision = c;
-      sized = held-sized tree (symbolHash Plain) (rootIn r) tbl laws b (p .accepts) (c .layer) (c .number) (c .symbol) (c .is-held);
+      sized = held-sized tree (symbolHash (kindIn r)) (rootIn r) tbl laws b (p .accepts) (c .layer) (c .number) (c .symbol) (c .is-held);
       sized-in-tree = agr .coded .sized (c .layer) (c .number) (c .inside);
       equal = c .collide .equal;
     }

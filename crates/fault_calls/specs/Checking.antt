@@ -7,13 +7,12 @@ use lib.Dec.{leb}
 use Rattle.table_bytes.specs.Bytes.{wordsOf}
 use Rattle.parity_table.specs.Parse.{tableOf}
 use Rattle.symbol_hash.specs.SymbolHash.{symbolHash}
-use Rattle.symbol_hash.specs.declared.Kind.the-variants.{Plain}
 use Rattle.model.specs.Shape.{tree}
 use Rattle.model.specs.Fault.{Verdict, accepted, wrongHead, wrongLength, broken, noFault, verdict}
 use Rattle.calls.specs.declared.Stop.the-variants.{Length, Head, Hash, NoFault}
 use Rattle.calls.specs.declared.Answer.{Answer}
 use Rattle.calls.specs.declared.Answer.the-variants.{Done, Stopped}
-use Rattle.root_record.specs.Records.{rootIn}
+use Rattle.root_record.specs.Records.{kindIn, rootIn}
 use Rattle.calls.specs.Lengths.{recordSized}
 use Rattle.calls.specs.Tests.{_then_, admittedBy}
 
@@ -33,4 +32,4 @@ judged noFault = Stopped NoFault
 -- promise concerns the 512 bytes inside."
 unfoldable pub proofChecked : ℕ → List ℕ → List ℕ → List ℕ → Answer
 proofChecked d r table b =
-    admittedBy d (proofSized (length r) (length b)) r table then judged (verdict tree (symbolHash Plain) (rootIn r) (tableOf (wordsOf table)) b)
+    admittedBy d (proofSized (length r) (length b)) r table then judged (verdict tree (symbolHash (kindIn r)) (rootIn r) (tableOf (wordsOf table)) b)

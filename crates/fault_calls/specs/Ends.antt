@@ -7,12 +7,11 @@ use lib.ListN.{take}
 use Rattle.table_bytes.specs.Bytes.{wordsOf}
 use Rattle.parity_table.specs.Parse.{tableOf}
 use Rattle.symbol_hash.specs.SymbolHash.{symbolHash}
-use Rattle.symbol_hash.specs.declared.Kind.the-variants.{Plain}
 use Rattle.model.specs.Shape.{tree}
 use Rattle.model.specs.Coded.{Agrees}
 use Rattle.model.specs.Repair.{fault}
 use Rattle.model.specs.Ends.{Ended}
-use Rattle.root_record.specs.Records.{rootIn}
+use Rattle.root_record.specs.Records.{kindIn, rootIn}
 use Rattle.calls.specs.declared.Answer.the-variants.{Done}
 use Rattle.fault_calls.specs.Checking.{proofChecked}
 use Rattle.fault_calls.specs.Repairing.{repairTested, repairOf}
@@ -22,7 +21,7 @@ use Rattle.fault_calls.specs.Sound.{Colliding}
 module _ (depth : ℕ) (r table t m o : List ℕ) where
   -- one of the four ends, with what holds at every end
   abbrev pub FourWays : Type 0
-  FourWays = repairTested depth r table t m o ≡ Done → Ended tree (symbolHash Plain) (rootIn r) (tableOf (wordsOf table)) t m o (repairOf r table t m o)
+  FourWays = repairTested depth r table t m o ≡ Done → Ended tree (symbolHash (kindIn r)) (rootIn r) (tableOf (wordsOf table)) t m o (repairOf r table t m o)
 
   -- "with a fault proof that the checker accepts for them": the call that checks proofs, on the n bytes that are written
   abbrev pub FaultAccepted : Type 0
@@ -30,9 +29,9 @@ module _ (depth : ℕ) (r table t m o : List ℕ) where
       repairTested depth r table t m o ≡ Done → (j e x n : ℕ) → repairOf r table t m o .end ≡ fault j e x n
       → proofChecked depth r table (take n (repairOf r table t m o .out)) ≡ Done
 
-  -- so a fault together with a tree that agrees shows two different symbols of equal SHA-256
+  -- so a fault together with a tree that agrees shows two different symbols of equal hash
   abbrev pub FaultCollides : Type 0
   FaultCollides =
       repairTested depth r table t m o ≡ Done → (j e x n : ℕ) → repairOf r table t m o .end ≡ fault j e x n
-      → (f : ℕ → ℕ → List ℕ) → Agrees tree (symbolHash Plain) (tableOf (wordsOf table)) (rootIn r) f
-      → Colliding (tableOf (wordsOf table)) (take n (repairOf r table t m o .out)) f
+      → (f : ℕ → ℕ → List ℕ) → Agrees tree (symbolHash (kindIn r)) (tableOf (wordsOf table)) (rootIn r) f
+      → Colliding (kindIn r) (tableOf (wordsOf table)) (take n (repairOf r table t m o .out)) f

@@ -1,4 +1,5 @@
 -- What a call that repairs a tree answers and leaves, for every input. Definitions only.
+use mathlib.Core.Path.{_≡_}
 use mathlib.Core.Bool.{Bool, _&&_}
 use mathlib.Core.List.{List}
 use Prim.Native.Nat.{ℕ, _+_, _-_, _*_, _^_, _<_}
@@ -7,9 +8,10 @@ use lib.Dec.{eqb}
 use Rattle.table_bytes.specs.Bytes.{wordsOf}
 use Rattle.parity_table.specs.Parse.{tableOf}
 use Rattle.symbol_hash.specs.SymbolHash.{symbolHash}
-use Rattle.symbol_hash.specs.declared.Kind.the-variants.{Plain}
+use Rattle.symbol_hash.specs.declared.Kind.{Kind}
+use Rattle.symbol_hash.specs.declared.Kind.the-variants.{Plain, Placed}
 use Rattle.octets.specs.Choice.{pick}
-use Rattle.root_record.specs.Records.{sizeIn, rootIn}
+use Rattle.root_record.specs.Records.{kindIn, sizeIn, rootIn}
 use Rattle.model.specs.Shape.{tree}
 use Rattle.model.specs.Writer.{zeroFilled}
 use Rattle.model.specs.Repair.{End, working, whole, fault, unavailable, twins, St, repair}
@@ -47,9 +49,9 @@ repairSized d r t m o = treeSized d t m && (recordSized r && eqb o (12 + 256 * (
 unfoldable pub repairTested : ℕ → List ℕ → List ℕ → List ℕ → List ℕ → List ℕ → Answer
 repairTested d r table t m o = admittedBy d (repairSized d (length r) (length t) (length m) (length o)) r table then testMarks m
 
--- 01's steps of repair, on the lent tree, marks and output, by the root in the record
+-- 01's steps of repair, on the lent tree, marks and output, by the kind and the root in the record
 unfoldable pub repairOf : List ℕ → List ℕ → List ℕ → List ℕ → List ℕ → St
-repairOf r table t m o = repair tree (symbolHash Plain) (rootIn r) (tableOf (wordsOf table)) t m o
+repairOf r table t m o = repair tree (symbolHash (kindIn r)) (rootIn r) (tableOf (wordsOf table)) t m o
 
 -- "a tree repaired whole whose filling isn't zero ends with 13 in place of whole": the end of the steps, the filling being zero or not
 abbrev pub endedBy : Bool → ℕ → End → Result
@@ -88,13 +90,15 @@ endNumber working = 4
 abbrev pub misfilledNumber : ℕ
 misfilledNumber = 13
 
--- "a fault [..] reports the proof's length", unavailable its layer; 0 where there is nothing to report beside the symbols stored
-abbrev pub endValue : End → ℕ
-endValue whole = 0
-endValue (fault j e x n) = n
-endValue (unavailable j) = j
-endValue (twins j x) = 0
-endValue working = 0
+-- "a fault [..] reports the proof's length", unavailable its layer, and of a volume of kind 00 "its twins also report their layer and number", here in
+-- one number; 0 where there is nothing to report beside the symbols stored
+abbrev pub endValue : Kind → End → ℕ
+endValue kind whole = 0
+endValue kind (fault j e x n) = n
+endValue kind (unavailable j) = j
+endValue Plain (twins j x) = 0
+endValue Placed (twins j x) = j * 2 ^ 12 + x
+endValue kind working = 0
 
 -- the number of a result, 0 where the repair ended; its values are then the end, and above the symbols stored the end's value
 abbrev pub resultNumber : Result → ℕ
@@ -102,13 +106,19 @@ resultNumber (ended s z) = 0
 resultNumber (misfilled s) = 0
 resultNumber (stopped w) = numberOf (answer.Stopped w)
 
-abbrev pub resultValues : Result → ℕ × ℕ
-resultValues (ended s z) = (endNumber z, s + endValue z * 2 ^ 16)
-resultValues (misfilled s) = (misfilledNumber, s)
-resultValues (stopped w) = valuesOf (answer.Stopped w)
+abbrev pub resultValues : Kind → Result → ℕ × ℕ
+resultValues kind (ended s z) = (endNumber z, s + endValue kind z * 2 ^ 16)
+resultValues kind (misfilled s) = (misfilledNumber, s)
+resultValues kind (stopped w) = valuesOf (answer.Stopped w)
 
 -- the numbers that are reported have room: symbols stored and value in 16 bits each, an end and a stop's values as those of any call
-abbrev pub Fits : Result → Type 0
-Fits (ended s z) = (s < 2 ^ 16) × (endValue z < 2 ^ 16) × (endNumber z < 2 ^ 24)
-Fits (misfilled s) = s < 2 ^ 16
-Fits (stopped w) = Small (answer.Stopped w)
+abbrev pub Fits : Kind → Result → Type 0
+Fits kind (ended s z) = (s < 2 ^ 16) × (endValue kind z < 2 ^ 16) × (endNumber z < 2 ^ 24)
+Fits kind (misfilled s) = s < 2 ^ 16
+Fits kind (stopped w) = Small (answer.Stopped w)
+
+-- an end is that of a repair by a record, which has n bytes
+abbrev pub Recorded : ℕ → Result → Type 0
+Recorded n (ended s z) = n ≡ 556
+Recorded n (misfilled s) = Unit {0}
+Recorded n (stopped w) = Unit {0}

@@ -7,7 +7,6 @@ use fault_proof::Verdict;
 use parity_table::MAX_EQUATIONS;
 use parity_table::SHALLOW_EQUATIONS;
 use parity_table::is_deep;
-use symbol_hash::Kind;
 use table_bytes::MAX_WORDS;
 use table_bytes::SHALLOW_WORDS;
 ghost use mathlib.Core.Path.{_≡_};
@@ -54,9 +53,10 @@ fn check_in(
     if let Answer::Stopped(s) = admit_by(depth, sized, root_record, table, words, starts) {
         return Answer::Stopped(s);
     }
+    let kind = root_record::kind(root_record);
     let n = table.len() / 4;
     let root = &root_record[root_record::ROOT_AT..];
-    answer_of(fault_proof::check(Kind::Plain, depth, &words[..n], starts, root, proof))
+    answer_of(fault_proof::check(kind, depth, &words[..n], starts, root, proof))
 }
 
 // check for a deeper tree.

@@ -19,7 +19,7 @@ pub enum Outcome {
     Stopped(Stop),
 }
 
-// The number of an end, the symbols stored, and what goes with the end: a proof's length, a layer, or 0.
+// The number of an end, the symbols stored, and what goes with the end: a proof's length, a layer, layer and number of twins, or 0.
 pub struct Ending {
     pub end: usize,
     pub stored: usize,

@@ -2,7 +2,10 @@
 use crate::Ending;
 use repair::End;
 use repair::Report;
+use symbol_hash::Kind;
 ghost use mathlib.Core.Path.{_≡_};
+ghost use Prim.Native.Nat.{_^_, _<_};
+ghost use Rattle.model.specs.Repair.{twins};
 ghost use Rattle.repair.specs.Reports.{endOf};
 ghost use Rattle.fault_calls.specs.Repairing.{endNumber, endValue, misfilledNumber};
 
@@ -19,24 +22,60 @@ pub fn misfilled(stored: usize) -> Ending
     with(13, stored, 0)
 }
 
-pub fn ending_of(r: Report) -> Ending
-    ensures { λ n.
-        ⌜ (n .end ≡ endNumber (endOf (r .end))) × (n .stored ≡ r .stored) × (n .value ≡ endValue (endOf (r .end))) ⌝ }
+// The ends by number.
+pub fn end_number(end: End) -> usize
+    ensures { λ n. ⌜ n ≡ endNumber (endOf end) ⌝ }
 {
-    let stored = r.stored;
-    let end = r.end;
     match end {
-        End::Whole => with(0, stored, 0),
+        End::Whole => 0,
+        End::Fault {
+            layer: _,
+            equation: _,
+            withheld: _,
+            size: _,
+        } => 1,
+        End::Unavailable(_) => 2,
+        End::Twins {
+            layer: _,
+            number: _,
+        } => 3,
+    }
+}
+
+// Layer and number of twins in one number, of a volume whose symbols are hashed with their places.
+fn twins_value(kind: Kind, layer: usize, number: usize) -> usize
+    requires { ⌜ endValue kind (twins layer number) < 2 ^ 16 ⌝ }
+    ensures { λ n. ⌜ n ≡ endValue kind (twins layer number) ⌝ }
+{
+    match kind {
+        Kind::Plain => 0,
+        Kind::Placed => layer * 4096 + number,
+    }
+}
+
+// What goes with an end, of a volume of this kind.
+fn end_value(kind: Kind, end: End) -> usize
+    requires { ⌜ endValue kind (endOf end) < 2 ^ 16 ⌝ }
+    ensures { λ n. ⌜ n ≡ endValue kind (endOf end) ⌝ }
+{
+    match end {
+        End::Whole => 0,
         End::Fault {
             layer: _,
             equation: _,
             withheld: _,
             size,
-        } => with(1, stored, size),
-        End::Unavailable(layer) => with(2, stored, layer),
-        End::Twins {
-            layer: _,
-            number: _,
-        } => with(3, stored, 0),
+        } => size,
+        End::Unavailable(layer) => layer,
+        End::Twins { layer, number } => twins_value(kind, layer, number),
     }
+}
+
+pub fn ending_of(kind: Kind, r: Report) -> Ending
+    requires { ⌜ endValue kind (endOf (r .end)) < 2 ^ 16 ⌝ }
+    ensures { λ n.
+        ⌜ (n .end ≡ endNumber (endOf (r .end))) × (n .stored ≡ r .stored) × (n .value ≡ endValue kind (endOf (r .end))) ⌝ }
+{
+    let end = r.end;
+    with(end_number(end), r.stored, end_value(kind, end))
 }

@@ -1,6 +1,6 @@
 // Repairing a tree.
 use crate::Outcome;
-use crate::ending_of;
+use crate::numbering::end_number;
 use calls::Answer;
 use calls::admit_by;
 use calls::stops_at_depth;
@@ -49,18 +49,19 @@ fn ended(report: Report, depth: usize, tree: &[u8], n: usize) -> Outcome
     requires { ⌜ (1 ≤ depth) × (depth ≤ maxDepth) × (length (now tree) ≡ 256 * places shape depth) × (n ≤ 256 * kOf (depth - 1)) ⌝ }
     ensures { λ r. ⌜ outcomeOf r ≡ endedBy (zeroFilled shape depth n (now (tree .entry))) (report .stored) (endOf (report .end)) ⌝ }
 {
-    let ending = ending_of(report);
+    let end = report.end;
     // whole
-    if ending.end == 0 {
+    if end_number(end) == 0 {
         if !coded_tree::zero_filled(depth, tree, n) {
-            return Outcome::Misfilled(ending.stored);
+            return Outcome::Misfilled(report.stored);
         }
     }
     Outcome::Ended(report)
 }
 
-// Test 4, then the repair, by a table that is admitted, of a tree with a block of n bytes.
+// Test 4, then the repair, by a table that is admitted, of a tree of this kind with a block of n bytes.
 fn repair_with(
+    kind: Kind,
     depth: usize,
     words: &[u32],
     starts: &[usize],
@@ -80,14 +81,14 @@ fn repair_with(
     ensures { λ r.
         ⌜ leaves (outcomeOf r) (now (tree .exit)) (now (marks .exit)) (now (out .exit))
         ≡ repairedBy (testMarks (now (marks .entry))) depth n
-        (steps shape (symbolHash Kind.Plain) (now (root .entry)) (tableOf (now (words .entry))) (now (tree .entry)) (now (marks .entry)) (now (out .entry)))
+        (steps shape (symbolHash kind) (now (root .entry)) (tableOf (now (words .entry))) (now (tree .entry)) (now (marks .entry)) (now (out .entry)))
         (now (tree .entry)) (now (marks .entry)) (now (out .entry)) ⌝ }
 {
     if let Answer::Stopped(s) = test_marks(marks) {
         return Outcome::Stopped(s);
     }
     let report = repair::repair(
-        Kind::Plain,
+        kind,
         depth,
         words,
         starts,
@@ -132,6 +133,7 @@ fn repair_in(
     }
     let count = table.len() / 4;
     repair_with(
+        root_record::kind(root_record),
         depth,
         &words[..count],
         starts,

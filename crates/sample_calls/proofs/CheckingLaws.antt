@@ -9,7 +9,7 @@ use borrow.Author.Tests.{eqb-true}
 use Rattle.octets.proofs.Choice.{and-yes}
 use Rattle.parity_table.specs.Shape.{depthFits, nOf}
 use Rattle.symbol_hash.specs.SymbolHash.{symbolHash}
-use Rattle.symbol_hash.specs.declared.Kind.the-variants.{Plain}
+use Rattle.symbol_hash.specs.declared.Kind.{Kind}
 use Rattle.model.specs.Shape.{tree}
 use Rattle.model.specs.Climb.{Climb, leads, breaks}
 use Rattle.model.specs.Sampling.{sampleSize, sampleLayer}
@@ -18,7 +18,7 @@ use Rattle.model.proofs.Samples.{sample-breaks}
 use Rattle.sampling.specs.Lent.{BaseSymbol}
 use Rattle.calls.specs.declared.Answer.{Answer}
 use Rattle.calls.specs.declared.Answer.the-variants.{Done}
-use Rattle.root_record.specs.Records.{rootIn, headRight}
+use Rattle.root_record.specs.Records.{kindIn, rootIn, headRight}
 use Rattle.calls.specs.Lengths.{recordSized, sampleSized}
 use Rattle.calls.specs.Tests.{_then_, headed, testNumber}
 use Rattle.calls.specs.Stops.{Small}
@@ -38,24 +38,24 @@ passed d i r s e =
 
 -- the hashes decide, where tests 1, 2, 11 and 5 pass
 pub at-end : (d i : ℕ) (r s : List ℕ) → depthFits d ≡ true → checkSized d (length r) (length s) ≡ true → headRight d r ≡ true → i < nOf (d - 1)
-    → led (sampleCheck tree (symbolHash Plain) (rootIn r) d i s) ≡ sampleChecked d i r s
+    → led (sampleCheck tree (symbolHash (kindIn r)) (rootIn r) d i s) ≡ sampleChecked d i r s
 unfolding sampleChecked
 at-end d i r s f l x h =
-    let found : Answer = led (sampleCheck tree (symbolHash Plain) (rootIn r) d i s) in
+    let found : Answer = led (sampleCheck tree (symbolHash (kindIn r)) (rootIn r) d i s) in
     ap (λ (a : Answer). a then found) (number-below d i h)
     ∙ ap (λ (a : Answer). (a then testNumber d i) then found) (by-head d (checkSized d (length r) (length s)) r f l x)
 
 -- ---- its value is small
 
-small-led : (d i : ℕ) (root s : List ℕ) → BaseSymbol d i → (c : Climb) → sampleCheck tree (symbolHash Plain) root d i s ≡ c → Small (led c)
+small-led : (kind : Kind) (d i : ℕ) (root s : List ℕ) → BaseSymbol d i → (c : Climb) → sampleCheck tree (symbolHash kind) root d i s ≡ c → Small (led c)
 unfolding sampleLayer
-small-led d i root s b leads e = small-plain refl
-small-led d i root s b (breaks l) e =
-    record { first = omega (arith, b .0, b .1, sample-breaks tree (symbolHash Plain) root d i (b .0) s l e .at-layer); second = omega arith }
+small-led kind d i root s b leads e = small-plain refl
+small-led kind d i root s b (breaks l) e =
+    record { first = omega (arith, b .0, b .1, sample-breaks tree (symbolHash kind) root d i (b .0) s l e .at-layer); second = omega arith }
 
 pub small : (d i : ℕ) (r s : List ℕ) → Small (sampleChecked d i r s)
 unfolding sampleChecked
 small d i r s =
-    small-then (checkTested d i r (length s)) (led (sampleCheck tree (symbolHash Plain) (rootIn r) d i s))
+    small-then (checkTested d i r (length s)) (led (sampleCheck tree (symbolHash (kindIn r)) (rootIn r) d i s))
     (small-then (headed d (checkSized d (length r) (length s)) r) (testNumber d i) (small-headed d _ r) (λ e. small-number d i))
-    (λ e. small-led d i (rootIn r) s (passed d i r (length s) e .1) (sampleCheck tree (symbolHash Plain) (rootIn r) d i s) refl)
+    (λ e. small-led (kindIn r) d i (rootIn r) s (passed d i r (length s) e .1) (sampleCheck tree (symbolHash (kindIn r)) (rootIn r) d i s) refl)

@@ -4,14 +4,13 @@ use mathlib.Core.List.{List}
 use Prim.Native.Nat.{ℕ}
 use lib.ListN.{length}
 use Rattle.symbol_hash.specs.SymbolHash.{symbolHash}
-use Rattle.symbol_hash.specs.declared.Kind.the-variants.{Plain}
 use Rattle.model.specs.Shape.{tree}
 use Rattle.model.specs.Climb.{Climb, leads, breaks}
 use Rattle.model.specs.SampleCheck.{sampleCheck}
 use Rattle.calls.specs.declared.Stop.the-variants.{Hash}
 use Rattle.calls.specs.declared.Answer.{Answer}
 use Rattle.calls.specs.declared.Answer.the-variants.{Done, Stopped}
-use Rattle.root_record.specs.Records.{rootIn}
+use Rattle.root_record.specs.Records.{kindIn, rootIn}
 use Rattle.calls.specs.Lengths.{recordSized, sampleSized}
 use Rattle.calls.specs.Tests.{_then_, headed, testNumber}
 
@@ -28,6 +27,6 @@ abbrev pub led : Climb → Answer
 led leads = Done
 led (breaks l) = Stopped (Hash l 0)
 
--- tests 1, 2, 11, 5, 7
+-- tests 1, 2, 11, 5, 7: "A tree agrees with a record only by hashes of that record's kind."
 unfoldable pub sampleChecked : ℕ → ℕ → List ℕ → List ℕ → Answer
-sampleChecked d i r s = checkTested d i r (length s) then led (sampleCheck tree (symbolHash Plain) (rootIn r) d i s)
+sampleChecked d i r s = checkTested d i r (length s) then led (sampleCheck tree (symbolHash (kindIn r)) (rootIn r) d i s)

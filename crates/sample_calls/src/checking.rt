@@ -4,7 +4,6 @@ use calls::Stop;
 use calls::enter_by;
 use calls::test_number;
 use parity_table::depth_fits;
-use symbol_hash::Kind;
 use symbol_hash::Way;
 ghost use mathlib.Core.Path.{_≡_};
 ghost use mathlib.Core.Bool.{_&&_};
@@ -53,6 +52,7 @@ pub fn check(depth: usize, number: usize, root_record: &[u8], sample: &[u8]) -> 
     if let Answer::Stopped(s) = tests(depth, number, root_record, sample.len()) {
         return Answer::Stopped(s);
     }
+    let kind = root_record::kind(root_record);
     let root = &root_record[root_record::ROOT_AT..];
-    answer_of(sampling::check(Kind::Plain, depth, number, root, sample))
+    answer_of(sampling::check(kind, depth, number, root, sample))
 }

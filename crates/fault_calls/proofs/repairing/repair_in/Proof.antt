@@ -37,28 +37,34 @@ returns c =
 enum-told : tie.Need-enum-told
 enum-told c = search needs
 
+kind-requires : tie.Need-kind-requires
+kind-requires c κs =
+    let g = c .before .before .before .before .before .before .before .before .before .before .before .before .before .before .before .before .before .before .before .before .before .before .args in
+    let a = admission-by (g .depth) (c .before .before .before .before .before .before .before .before .before .sizes-fit .result) (g .root-record .now) (g .table .now) (sym (sym (c .enum-told .given .1) ∙ c .before .before .before .before .before .before .admit-by .ensures .0)) in
+    sizes (g .depth) (length (g .root-record .now)) (length (g .tree .now)) (length (g .marks .now)) (length (g .out .now)) (and-yes (depthFits (g .depth)) (repairSized (g .depth) (length (g .root-record .now)) (length (g .tree .now)) (length (g .marks .now)) (length (g .out .now))) (sym (c .before .before .before .before .before .before .before .before .before .sizes-fit .ensures) ∙ a .lengths) .1) .0
+
 slice-reshare-prefix-repair-with : tie.Need-slice-reshare-prefix-repair-with
 slice-reshare-prefix-repair-with c =
-    let g = c .before .before .before .before .before .before .before .before .before .before .before .before .before .before .before .before .before .before .before .before .before .before .args in
-    ready-by (g .depth) (c .before .before .before .before .before .before .before .before .before .sizes-fit .result) (g .root-record .now) (g .table .now) (sym (c .enum-told .given .1) ∙ c .before .before .before .before .before .before .admit-by .ensures .0) _ _ _ _ (c .before .before .before .before .before .before .before .before .before .before .before .before .before .before .before .before .before .before .before .before .before .before .pre .0) (c .before .before .before .before .before .before .admit-by .ensures .1) (c .before .before .before .before .before .before .admit-by .ensures .2) .words-room
+    let g = c .before .before .before .before .before .before .before .before .before .before .before .before .before .before .before .before .before .before .before .before .before .before .before .args in
+    ready-by (g .depth) (c .before .before .before .before .before .before .before .before .before .before .sizes-fit .result) (g .root-record .now) (g .table .now) (sym (c .before .enum-told .given .1) ∙ c .before .before .before .before .before .before .before .admit-by .ensures .0) _ _ _ _ (c .before .before .before .before .before .before .before .before .before .before .before .before .before .before .before .before .before .before .before .before .before .before .before .pre .0) (c .before .before .before .before .before .before .before .admit-by .ensures .1) (c .before .before .before .before .before .before .before .admit-by .ensures .2) .words-room
 
 slice-aggregate-repair-with : tie.Need-slice-aggregate-repair-with
 slice-aggregate-repair-with c =
-    let g = c .before .before .before .before .before .before .before .before .before .before .before .before .before .before .before .before .before .before .before .before .before .before .before .args in
-    ready-by (g .depth) (c .before .before .before .before .before .before .before .before .before .before .sizes-fit .result) (g .root-record .now) (g .table .now) (sym (c .before .enum-told .given .1) ∙ c .before .before .before .before .before .before .before .admit-by .ensures .0) _ _ _ _ (c .before .before .before .before .before .before .before .before .before .before .before .before .before .before .before .before .before .before .before .before .before .before .before .pre .0) (c .before .before .before .before .before .before .before .admit-by .ensures .1) (c .before .before .before .before .before .before .before .admit-by .ensures .2) .words-count
+    let g = c .before .before .before .before .before .before .before .before .before .before .before .before .before .before .before .before .before .before .before .before .before .before .before .before .args in
+    ready-by (g .depth) (c .before .before .before .before .before .before .before .before .before .before .before .sizes-fit .result) (g .root-record .now) (g .table .now) (sym (c .before .before .enum-told .given .1) ∙ c .before .before .before .before .before .before .before .before .admit-by .ensures .0) _ _ _ _ (c .before .before .before .before .before .before .before .before .before .before .before .before .before .before .before .before .before .before .before .before .before .before .before .before .pre .0) (c .before .before .before .before .before .before .before .before .admit-by .ensures .1) (c .before .before .before .before .before .before .before .before .admit-by .ensures .2) .words-count
 
 sub-repair-with : tie.Need-sub-repair-with
 sub-repair-with c =
-    let g = c .before .before .before .before .before .before .before .before .before .before .before .before .before .before .before .before .before .before .before .before .before .before .before .before .args in
-    let a = admission-by (g .depth) (c .before .before .before .before .before .before .before .before .before .before .before .sizes-fit .result) (g .root-record .now) (g .table .now) (sym (sym (c .before .before .enum-told .given .1) ∙ c .before .before .before .before .before .before .before .before .admit-by .ensures .0)) in
-    let (r, t, m, o) = sizes (g .depth) (length (g .root-record .now)) (length (g .tree .now)) (length (g .marks .now)) (length (g .out .now)) (and-yes (depthFits (g .depth)) (repairSized (g .depth) (length (g .root-record .now)) (length (g .tree .now)) (length (g .marks .now)) (length (g .out .now))) (sym (c .before .before .before .before .before .before .before .before .before .before .before .sizes-fit .ensures) ∙ a .lengths) .1) in
+    let g = c .before .before .before .before .before .before .before .before .before .before .before .before .before .before .before .before .before .before .before .before .before .before .before .before .before .args in
+    let a = admission-by (g .depth) (c .before .before .before .before .before .before .before .before .before .before .before .before .sizes-fit .result) (g .root-record .now) (g .table .now) (sym (sym (c .before .before .before .enum-told .given .1) ∙ c .before .before .before .before .before .before .before .before .before .admit-by .ensures .0)) in
+    let (r, t, m, o) = sizes (g .depth) (length (g .root-record .now)) (length (g .tree .now)) (length (g .marks .now)) (length (g .out .now)) (and-yes (depthFits (g .depth)) (repairSized (g .depth) (length (g .root-record .now)) (length (g .tree .now)) (length (g .marks .now)) (length (g .out .now))) (sym (c .before .before .before .before .before .before .before .before .before .before .before .before .sizes-fit .ensures) ∙ a .lengths) .1) in
     omega (arith, r)
 
 part-repair-with-start : tie.Need-part-repair-with-start
 part-repair-with-start c =
-    let g = c .before .before .before .before .before .before .before .before .before .before .before .before .before .before .before .before .before .before .before .before .before .before .before .before .args in
-    let a = admission-by (g .depth) (c .before .before .before .before .before .before .before .before .before .before .before .sizes-fit .result) (g .root-record .now) (g .table .now) (sym (sym (c .before .before .enum-told .given .1) ∙ c .before .before .before .before .before .before .before .before .admit-by .ensures .0)) in
-    let (r, t, m, o) = sizes (g .depth) (length (g .root-record .now)) (length (g .tree .now)) (length (g .marks .now)) (length (g .out .now)) (and-yes (depthFits (g .depth)) (repairSized (g .depth) (length (g .root-record .now)) (length (g .tree .now)) (length (g .marks .now)) (length (g .out .now))) (sym (c .before .before .before .before .before .before .before .before .before .before .before .sizes-fit .ensures) ∙ a .lengths) .1) in
+    let g = c .before .before .before .before .before .before .before .before .before .before .before .before .before .before .before .before .before .before .before .before .before .before .before .before .before .args in
+    let a = admission-by (g .depth) (c .before .before .before .before .before .before .before .before .before .before .before .before .sizes-fit .result) (g .root-record .now) (g .table .now) (sym (sym (c .before .before .before .enum-told .given .1) ∙ c .before .before .before .before .before .before .before .before .before .admit-by .ensures .0)) in
+    let (r, t, m, o) = sizes (g .depth) (length (g .root-record .now)) (length (g .tree .now)) (length (g .marks .now)) (length (g .out .now)) (and-yes (depthFits (g .depth)) (repairSized (g .depth) (length (g .root-record .now)) (length (g .tree .now)) (length (g .marks .now)) (length (g .out .now))) (sym (c .before .before .before .before .before .before .before .before .before .before .before .before .sizes-fit .ensures) ∙ a .lengths) .1) in
     omega (arith, r)
 
 part-repair-with-end : tie.Need-part-repair-with-end
@@ -66,18 +72,18 @@ part-repair-with-end c = search needs
 
 size-requires : tie.Need-size-requires
 size-requires c κs =
-    let g = c .before .before .before .before .before .before .before .before .before .before .before .before .before .before .before .before .before .before .before .before .before .before .before .before .before .args in
-    let a = admission-by (g .depth) (c .before .before .before .before .before .before .before .before .before .before .before .before .sizes-fit .result) (g .root-record .now) (g .table .now) (sym (sym (c .before .before .before .enum-told .given .1) ∙ c .before .before .before .before .before .before .before .before .before .admit-by .ensures .0)) in
-    let (r, t, m, o) = sizes (g .depth) (length (g .root-record .now)) (length (g .tree .now)) (length (g .marks .now)) (length (g .out .now)) (and-yes (depthFits (g .depth)) (repairSized (g .depth) (length (g .root-record .now)) (length (g .tree .now)) (length (g .marks .now)) (length (g .out .now))) (sym (c .before .before .before .before .before .before .before .before .before .before .before .before .sizes-fit .ensures) ∙ a .lengths) .1) in
+    let g = c .before .before .before .before .before .before .before .before .before .before .before .before .before .before .before .before .before .before .before .before .before .before .before .before .before .before .args in
+    let a = admission-by (g .depth) (c .before .before .before .before .before .before .before .before .before .before .before .before .before .sizes-fit .result) (g .root-record .now) (g .table .now) (sym (sym (c .before .before .before .before .enum-told .given .1) ∙ c .before .before .before .before .before .before .before .before .before .before .admit-by .ensures .0)) in
+    let (r, t, m, o) = sizes (g .depth) (length (g .root-record .now)) (length (g .tree .now)) (length (g .marks .now)) (length (g .out .now)) (and-yes (depthFits (g .depth)) (repairSized (g .depth) (length (g .root-record .now)) (length (g .tree .now)) (length (g .marks .now)) (length (g .out .now))) (sym (c .before .before .before .before .before .before .before .before .before .before .before .before .before .sizes-fit .ensures) ∙ a .lengths) .1) in
     r
 
 repair-with-requires : tie.Need-repair-with-requires
 repair-with-requires c κs =
-    let g = c .before .before .before .before .before .before .before .before .before .before .before .before .before .before .before .before .before .before .before .before .before .before .before .before .before .before .before .before .before .before .before .before .before .before .args in
-    let k = ready-by (g .depth) (c .before .before .before .before .before .before .before .before .before .before .before .before .before .before .before .before .before .before .before .before .before .sizes-fit .result) (g .root-record .now) (g .table .now) (sym (c .before .before .before .before .before .before .before .before .before .before .before .before .enum-told .given .1) ∙ c .before .before .before .before .before .before .before .before .before .before .before .before .before .before .before .before .before .before .admit-by .ensures .0) _ _ _ _ (c .before .before .before .before .before .before .before .before .before .before .before .before .before .before .before .before .before .before .before .before .before .before .before .before .before .before .before .before .before .before .before .before .before .before .pre .0) (c .before .before .before .before .before .before .before .before .before .before .before .before .before .before .before .before .before .before .admit-by .ensures .1) (c .before .before .before .before .before .before .before .before .before .before .before .before .before .before .before .before .before .before .admit-by .ensures .2) in
-    let a = admission-by (g .depth) (c .before .before .before .before .before .before .before .before .before .before .before .before .before .before .before .before .before .before .before .before .before .sizes-fit .result) (g .root-record .now) (g .table .now) (sym (sym (c .before .before .before .before .before .before .before .before .before .before .before .before .enum-told .given .1) ∙ c .before .before .before .before .before .before .before .before .before .before .before .before .before .before .before .before .before .before .admit-by .ensures .0)) in
-    let (r, t, m, o) = sizes (g .depth) (length (g .root-record .now)) (length (g .tree .now)) (length (g .marks .now)) (length (g .out .now)) (and-yes (depthFits (g .depth)) (repairSized (g .depth) (length (g .root-record .now)) (length (g .tree .now)) (length (g .marks .now)) (length (g .out .now))) (sym (c .before .before .before .before .before .before .before .before .before .before .before .before .before .before .before .before .before .before .before .before .before .sizes-fit .ensures) ∙ a .lengths) .1) in
-    (record { indexed = k .indexed; root-full = ap length (root-part (g .root-record .now)) ∙ root-length (g .root-record .now) r; tree-full = t; marks-full = m; out-full = o }, omega (arith, c .before .before .before .before .before .before .before .before .size .ensures, head-parts (g .depth) (g .root-record .now) (a .head) .3), c .before .before .before .before .before .before .before .before .before .before .before .before .before .before .before .before .before .before .before .before .before .before .before .before .before .before .before .before .before .before .before .before .before .before .pre .1 (a .taken .deep))
+    let g = c .before .before .before .before .before .before .before .before .before .before .before .before .before .before .before .before .before .before .before .before .before .before .before .before .before .before .before .before .before .before .before .before .before .before .before .args in
+    let k = ready-by (g .depth) (c .before .before .before .before .before .before .before .before .before .before .before .before .before .before .before .before .before .before .before .before .before .before .sizes-fit .result) (g .root-record .now) (g .table .now) (sym (c .before .before .before .before .before .before .before .before .before .before .before .before .before .enum-told .given .1) ∙ c .before .before .before .before .before .before .before .before .before .before .before .before .before .before .before .before .before .before .before .admit-by .ensures .0) _ _ _ _ (c .before .before .before .before .before .before .before .before .before .before .before .before .before .before .before .before .before .before .before .before .before .before .before .before .before .before .before .before .before .before .before .before .before .before .before .pre .0) (c .before .before .before .before .before .before .before .before .before .before .before .before .before .before .before .before .before .before .before .admit-by .ensures .1) (c .before .before .before .before .before .before .before .before .before .before .before .before .before .before .before .before .before .before .before .admit-by .ensures .2) in
+    let a = admission-by (g .depth) (c .before .before .before .before .before .before .before .before .before .before .before .before .before .before .before .before .before .before .before .before .before .before .sizes-fit .result) (g .root-record .now) (g .table .now) (sym (sym (c .before .before .before .before .before .before .before .before .before .before .before .before .before .enum-told .given .1) ∙ c .before .before .before .before .before .before .before .before .before .before .before .before .before .before .before .before .before .before .before .admit-by .ensures .0)) in
+    let (r, t, m, o) = sizes (g .depth) (length (g .root-record .now)) (length (g .tree .now)) (length (g .marks .now)) (length (g .out .now)) (and-yes (depthFits (g .depth)) (repairSized (g .depth) (length (g .root-record .now)) (length (g .tree .now)) (length (g .marks .now)) (length (g .out .now))) (sym (c .before .before .before .before .before .before .before .before .before .before .before .before .before .before .before .before .before .before .before .before .before .before .sizes-fit .ensures) ∙ a .lengths) .1) in
+    (record { indexed = k .indexed; root-full = ap length (root-part (g .root-record .now)) ∙ root-length (g .root-record .now) r; tree-full = t; marks-full = m; out-full = o }, omega (arith, c .before .before .before .before .before .before .before .before .size .ensures, head-parts (g .depth) (g .root-record .now) (a .head) .3), c .before .before .before .before .before .before .before .before .before .before .before .before .before .before .before .before .before .before .before .before .before .before .before .before .before .before .before .before .before .before .before .before .before .before .before .pre .1 (a .taken .deep))
 
 same-length-3 : tie.Need-same-length-3
 same-length-3 c = search needs
@@ -111,9 +117,9 @@ same-length-12 c = search needs
 
 returns-2 : tie.Need-returns-2
 returns-2 c =
-    let g = c .before .before .before .before .before .before .before .before .before .before .before .before .before .before .before .before .before .before .before .before .before .before .before .before .before .before .before .before .before .before .before .before .before .before .before .before .before .before .before .before .before .before .before .before .before .before .before .before .before .before .before .args in
-    let k = ready-by (g .depth) (c .before .before .before .before .before .before .before .before .before .before .before .before .before .before .before .before .before .before .before .before .before .before .before .before .before .before .before .before .before .before .before .before .before .before .before .before .before .before .sizes-fit .result) (g .root-record .now) (g .table .now) (sym (c .before .before .before .before .before .before .before .before .before .before .before .before .before .before .before .before .before .before .before .before .before .before .before .before .before .before .before .before .before .enum-told .given .1) ∙ c .before .before .before .before .before .before .before .before .before .before .before .before .before .before .before .before .before .before .before .before .before .before .before .before .before .before .before .before .before .before .before .before .before .before .before .admit-by .ensures .0) _ _ _ _ (c .before .before .before .before .before .before .before .before .before .before .before .before .before .before .before .before .before .before .before .before .before .before .before .before .before .before .before .before .before .before .before .before .before .before .before .before .before .before .before .before .before .before .before .before .before .before .before .before .before .before .before .pre .0) (c .before .before .before .before .before .before .before .before .before .before .before .before .before .before .before .before .before .before .before .before .before .before .before .before .before .before .before .before .before .before .before .before .before .before .before .admit-by .ensures .1) (c .before .before .before .before .before .before .before .before .before .before .before .before .before .before .before .before .before .before .before .before .before .before .before .before .before .before .before .before .before .before .before .before .before .before .before .admit-by .ensures .2) in
-    went-on (g .depth) (g .root-record .now) (g .table .now) (g .tree .now) (g .marks .now) (g .out .now) _ _ _ _ (root-part (g .root-record .now)) (c .before .before .before .before .before .before .before .before .before .before .before .before .before .before .before .before .before .before .before .before .before .before .before .before .before .size .ensures) (k .words-there) (c .before .before .before .before .before .before .before .before .before .before .before .before .before .before .before .before .repair-with .ensures) (sym (c .before .before .before .before .before .before .before .before .before .before .before .before .before .before .before .before .before .before .before .before .before .before .before .before .before .before .before .before .before .enum-told .given .1) ∙ (c .before .before .before .before .before .before .before .before .before .before .before .before .before .before .before .before .before .before .before .before .before .before .before .before .before .before .before .before .before .before .before .before .before .before .before .admit-by .ensures .0 ∙ admitted-by-sized (g .depth) _ (repairSized (g .depth) (length (g .root-record .now)) (length (g .tree .now)) (length (g .marks .now)) (length (g .out .now))) (g .root-record .now) (g .table .now) (c .before .before .before .before .before .before .before .before .before .before .before .before .before .before .before .before .before .before .before .before .before .before .before .before .before .before .before .before .before .before .before .before .before .before .before .before .before .before .sizes-fit .ensures)))
+    let g = c .before .before .before .before .before .before .before .before .before .before .before .before .before .before .before .before .before .before .before .before .before .before .before .before .before .before .before .before .before .before .before .before .before .before .before .before .before .before .before .before .before .before .before .before .before .before .before .before .before .before .before .before .args in
+    let k = ready-by (g .depth) (c .before .before .before .before .before .before .before .before .before .before .before .before .before .before .before .before .before .before .before .before .before .before .before .before .before .before .before .before .before .before .before .before .before .before .before .before .before .before .before .sizes-fit .result) (g .root-record .now) (g .table .now) (sym (c .before .before .before .before .before .before .before .before .before .before .before .before .before .before .before .before .before .before .before .before .before .before .before .before .before .before .before .before .before .before .enum-told .given .1) ∙ c .before .before .before .before .before .before .before .before .before .before .before .before .before .before .before .before .before .before .before .before .before .before .before .before .before .before .before .before .before .before .before .before .before .before .before .before .admit-by .ensures .0) _ _ _ _ (c .before .before .before .before .before .before .before .before .before .before .before .before .before .before .before .before .before .before .before .before .before .before .before .before .before .before .before .before .before .before .before .before .before .before .before .before .before .before .before .before .before .before .before .before .before .before .before .before .before .before .before .before .pre .0) (c .before .before .before .before .before .before .before .before .before .before .before .before .before .before .before .before .before .before .before .before .before .before .before .before .before .before .before .before .before .before .before .before .before .before .before .before .admit-by .ensures .1) (c .before .before .before .before .before .before .before .before .before .before .before .before .before .before .before .before .before .before .before .before .before .before .before .before .before .before .before .before .before .before .before .before .before .before .before .before .admit-by .ensures .2) in
+    went-on (g .depth) (g .root-record .now) (g .table .now) (g .tree .now) (g .marks .now) (g .out .now) _ _ _ _ _ (c .before .before .before .before .before .before .before .before .before .before .before .before .before .before .before .before .before .before .before .before .before .before .before .before .before .before .before .before .before .kind .ensures) (root-part (g .root-record .now)) (c .before .before .before .before .before .before .before .before .before .before .before .before .before .before .before .before .before .before .before .before .before .before .before .before .before .size .ensures) (k .words-there) (c .before .before .before .before .before .before .before .before .before .before .before .before .before .before .before .before .repair-with .ensures) (sym (c .before .before .before .before .before .before .before .before .before .before .before .before .before .before .before .before .before .before .before .before .before .before .before .before .before .before .before .before .before .before .enum-told .given .1) ∙ (c .before .before .before .before .before .before .before .before .before .before .before .before .before .before .before .before .before .before .before .before .before .before .before .before .before .before .before .before .before .before .before .before .before .before .before .before .admit-by .ensures .0 ∙ admitted-by-sized (g .depth) _ (repairSized (g .depth) (length (g .root-record .now)) (length (g .tree .now)) (length (g .marks .now)) (length (g .out .now))) (g .root-record .now) (g .table .now) (c .before .before .before .before .before .before .before .before .before .before .before .before .before .before .before .before .before .before .before .before .before .before .before .before .before .before .before .before .before .before .before .before .before .before .before .before .before .before .before .sizes-fit .ensures)))
 
 pub repair-in-spec : {M : Type 1} → statement M
 repair-in-spec =
@@ -126,6 +132,7 @@ repair-in-spec =
     same-length-2
     returns
     enum-told
+    kind-requires
     slice-reshare-prefix-repair-with
     slice-aggregate-repair-with
     sub-repair-with

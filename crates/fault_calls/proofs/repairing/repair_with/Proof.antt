@@ -19,7 +19,7 @@ same-length c = search needs
 returns : tie.Need-returns
 returns c =
     let g = c .before .before .before .before .before .before .before .before .before .before .before .before .before .before .before .before .args in
-    marks-refuse (g .root .now) (tableOf (g .words .now)) (g .depth) (g .n) (g .tree .now) (g .marks .now) (g .out .now) _ (sym (c .before .s .given .1) ∙ c .before .before .before .test-marks .ensures)
+    marks-refuse (g .kind) (g .root .now) (tableOf (g .words .now)) (g .depth) (g .n) (g .tree .now) (g .marks .now) (g .out .now) _ (sym (c .before .s .given .1) ∙ c .before .before .before .test-marks .ensures)
 
 enum-told : tie.Need-enum-told
 enum-told c = search needs
@@ -60,7 +60,7 @@ same-length-9 c = search needs
 returns-2 : tie.Need-returns-2
 returns-2 c =
     let g = c .before .before .before .before .before .before .before .before .before .before .before .before .before .before .before .before .before .before .before .before .before .before .before .before .before .before .before .before .before .before .before .before .before .before .before .before .before .before .before .before .before .before .args in
-    repairs (g .root .now) (tableOf (g .words .now)) (g .depth) (g .n) (g .tree .now) (g .marks .now) (g .out .now) _ _ _ _ _ _ (c .before .before .before .before .before .before .before .before .before .before .before .before .before .before .before .before .before .before .repair .ensures .0) (sym (c .before .before .before .before .before .before .before .before .before .before .before .before .before .before .before .before .before .before .before .before .before .before .before .before .before .before .before .enum-told .given .1) ∙ c .before .before .before .before .before .before .before .before .before .before .before .before .before .before .before .before .before .before .before .before .before .before .before .before .before .before .before .before .before .test-marks .ensures) (c .ended .ensures)
+    repairs (g .kind) (g .root .now) (tableOf (g .words .now)) (g .depth) (g .n) (g .tree .now) (g .marks .now) (g .out .now) _ _ _ _ _ _ (c .before .before .before .before .before .before .before .before .before .before .before .before .before .before .before .before .before .before .repair .ensures .0) (sym (c .before .before .before .before .before .before .before .before .before .before .before .before .before .before .before .before .before .before .before .before .before .before .before .before .before .before .before .enum-told .given .1) ∙ c .before .before .before .before .before .before .before .before .before .before .before .before .before .before .before .before .before .before .before .before .before .before .before .before .before .before .before .before .before .test-marks .ensures) (c .ended .ensures)
 
 pub repair-with-spec : {M : Type 1} → statement M
 repair-with-spec =

@@ -120,7 +120,7 @@ write-deep-returns : (t : ℕ) → write-deep-lts.Need-returns (
 write-deep-returns t c =
     let a = c .before .before .before .before .before .before .before .before .before .before .before .before .before .before .before .before .before .before .before .before .before .before .before .before .before .before .before .before .before .before .before .args in
     let k = at-depth (a .depth) _ (sym (c .before .before .before .before .before .before .before .before .before .before .before .stops-at-depth .ensures) ∙ c .before .before .before .before .before .before .before .before .before .before .if1 .taken) in
-    c .before .before .before .before .before .before .write-deep .ensures ∙ as-at-none (a .depth) (a .table .now) (a .block .now) (a .tree .now) (a .marks .now) (a .root-record .now) _ _ _ _ (c .before .before .before .before .before .before .before .before .before .before .before .before .before .before .before .before .before .before .before .before .write-in .ensures) (k .1)
+    c .before .before .before .before .before .before .write-deep .ensures ∙ as-at-none (a .depth) (a .kind) (a .table .now) (a .block .now) (a .tree .now) (a .marks .now) (a .root-record .now) _ _ _ _ (c .before .before .before .before .before .before .before .before .before .before .before .before .before .before .before .before .before .before .before .before .write-in .ensures) (k .1)
 
 write-deep-same-length-4 : (t : ℕ) → write-deep-lts.Need-same-length-4 (
   write-in-reads.Asked,
