@@ -4,6 +4,7 @@ use mathlib.Core.List.{List}
 use Prim.Native.Nat.{ℕ, _+_, _*_, _^_}
 use Rattle.sha256.specs.declared.Answer.{Answer as Hashed}
 use Rattle.sha256.specs.declared.Answer.the-variants as hashed
+use Rattle.symbol_hash.specs.declared.Kind.{Kind}
 use Rattle.calls.specs.declared.Answer.{Answer}
 use Rattle.calls.specs.Stops.{Small}
 use Rattle.calls.proofs.TestLaws.{small-plain}
@@ -38,6 +39,6 @@ module _ (r : ℕ) (a : Answer) (e : r ≡ callResult a) where
   pub sample-left : (s : List ℕ) (w : SampleLeft Answer) → taking.leaves a s ≡ w → taking.leaves r s ≡ sampleInC w
   sample-left s w q = ap (λ (x : ℕ). taking.leaves x s) e ∙ ap sampleInC q
 
-pub repair-left : (r : ℕ) (a : Result) → r ≡ repairResult a → (t m o : List ℕ) (w : RepairLeft Result) → repairing.leaves a t m o ≡ w
-    → repairing.leaves r t m o ≡ repairInC w
-repair-left r a e t m o w q = ap (λ (x : ℕ). repairing.leaves x t m o) e ∙ ap repairInC q
+pub repair-left : (kind : Kind) (r : ℕ) (a : Result) → r ≡ repairResult kind a → (t m o : List ℕ) (w : RepairLeft Result) → repairing.leaves a t m o ≡ w
+    → repairing.leaves r t m o ≡ repairInC kind w
+repair-left kind r a e t m o w q = ap (λ (x : ℕ). repairing.leaves x t m o) e ∙ ap (repairInC kind) q

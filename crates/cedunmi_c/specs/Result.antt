@@ -2,6 +2,7 @@
 use Prim.Native.Nat.{ℕ, _+_, _*_, _^_}
 use Rattle.sha256.specs.declared.Answer.{Answer as Hashed}
 use Rattle.sha256.specs.declared.Answer.the-variants as hashed
+use Rattle.symbol_hash.specs.declared.Kind.{Kind}
 use Rattle.calls.specs.declared.Stop.the-variants.{Length}
 use Rattle.calls.specs.declared.Answer.{Answer}
 use Rattle.calls.specs.declared.Answer.the-variants.{Done, Stopped}
@@ -22,9 +23,9 @@ packed number values = number + values .0 * 2 ^ 8 + values .1 * 2 ^ 32
 abbrev pub callResult : Answer → ℕ
 callResult a = packed (numberOf a) (valuesOf a)
 
--- a repair that ended has number 0
-abbrev pub repairResult : Result → ℕ
-repairResult r = packed (resultNumber r) (resultValues r)
+-- a repair, by a record of this kind, that ended has number 0
+abbrev pub repairResult : Kind → Result → ℕ
+repairResult kind r = packed (resultNumber r) (resultValues kind r)
 
 -- the hasher's answer as a call's
 abbrev pub hashAnswer : Hashed → Answer
@@ -41,5 +42,5 @@ blockInC w = reading.leaves (callResult (w .answer)) (w .block)
 abbrev pub sampleInC : SampleLeft Answer → SampleLeft ℕ
 sampleInC w = taking.leaves (callResult (w .answer)) (w .sample)
 
-abbrev pub repairInC : RepairLeft Result → RepairLeft ℕ
-repairInC w = repairing.leaves (repairResult (w .answer)) (w .tree) (w .marks) (w .out)
+abbrev pub repairInC : Kind → RepairLeft Result → RepairLeft ℕ
+repairInC kind w = repairing.leaves (repairResult kind (w .answer)) (w .tree) (w .marks) (w .out)

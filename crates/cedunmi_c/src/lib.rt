@@ -17,7 +17,8 @@ ghost use Rattle.sha256.specs.Call.{answer, after};
 ghost use Rattle.house_table.specs.House.{houseWords, houseAnswer, houseOut};
 ghost use Rattle.calls.specs.Stops.{Small};
 ghost use Rattle.calls.specs.Tests.{readAnswer, admitted};
-ghost use Rattle.volume_calls.specs.Writing.{treeWritten};
+ghost use Rattle.root_record.specs.Records.{kindIn};
+ghost use Rattle.volume_calls.specs.Writing.{treeWrittenBy};
 ghost use Rattle.volume_calls.specs.Writing as writing;
 ghost use Rattle.volume_calls.specs.Reading.{blockRead};
 ghost use Rattle.volume_calls.specs.Reading as reading;
@@ -25,8 +26,9 @@ ghost use Rattle.sample_calls.specs.Taking.{sampleTaken};
 ghost use Rattle.sample_calls.specs.Taking as taking;
 ghost use Rattle.sample_calls.specs.Checking.{sampleChecked};
 ghost use Rattle.fault_calls.specs.Checking.{proofChecked};
-ghost use Rattle.fault_calls.specs.Repairing.{repaired, outcomeOf, Fits};
+ghost use Rattle.fault_calls.specs.Repairing.{repaired, outcomeOf, Fits, Recorded};
 ghost use Rattle.fault_calls.specs.Repairing as repairing;
+ghost use Rattle.recoding.specs.Recoding.{recoded};
 ghost use Rattle.cedunmi_c.specs.Result.{packed, hashAnswer, callResult, repairResult, treeInC, blockInC, sampleInC, repairInC};
 
 // The number in the lowest eight bits, the first value in the 24 above them, the second in the upper 32.
@@ -62,12 +64,12 @@ fn end_result(e: Ending) -> u64
     })
 }
 
-fn repair_result(o: Outcome) -> u64
-    requires { ⌜ Fits (outcomeOf o) ⌝ }
-    ensures { λ r. ⌜ r ≡ repairResult (outcomeOf o) ⌝ }
+fn repair_result(root_record: &[u8], o: Outcome) -> u64
+    requires { ⌜ Fits (kindIn (now root_record)) (outcomeOf o) × Recorded (length (now root_record)) (outcomeOf o) ⌝ }
+    ensures { λ r. ⌜ r ≡ repairResult (kindIn (now (root_record .entry))) (outcomeOf o) ⌝ }
 {
     match o {
-        Outcome::Ended(r) => end_result(ending_of(r)),
+        Outcome::Ended(r) => end_result(ending_of(root_record::kind(root_record), r)),
         Outcome::Misfilled(stored) => end_result(misfilled(stored)),
         Outcome::Stopped(s) => call_result(Answer::Stopped(s)),
     }
@@ -114,11 +116,12 @@ pub extern "C" fn cmt_house_table(depth: u64, table: &mut [u8]) -> u64
     call_result(calls::answer_of(house_table::write_bytes(table, depth as usize)))
 }
 
-// Writes the tree of a block, its marks and its record. 1: the depth; 2: a length; 3: the table's first wrong word; 10: its first
-// uncovered layer and symbol.
+// Writes the tree of a block, its marks and its record, as a volume of kind 0, whose symbols are hashed with their places, or 1. 1: the depth; 2: a
+// length; 11: another kind; 3: the table's first wrong word; 10: its first uncovered layer and symbol.
 #[no_mangle]
 pub extern "C" fn cmt_tree_write(
     depth: u64,
+    kind: u64,
     table: &[u8],
     block: &[u8],
     tree: &mut [u8],
@@ -127,9 +130,17 @@ pub extern "C" fn cmt_tree_write(
 ) -> u64
     ensures { λ r.
         ⌜ writing.leaves r (now (tree .exit)) (now (marks .exit)) (now (root_record .exit))
-        ≡ treeInC (treeWritten depth (now (table .entry)) (now (block .entry)) (now (tree .entry)) (now (marks .entry)) (now (root_record .entry))) ⌝ }
+        ≡ treeInC (treeWrittenBy depth kind (now (table .entry)) (now (block .entry)) (now (tree .entry)) (now (marks .entry)) (now (root_record .entry))) ⌝ }
 {
-    call_result(volume_calls::write_tree(depth as usize, table, block, tree, marks, root_record))
+    call_result(volume_calls::write_tree_by(
+        depth as usize,
+        kind,
+        table,
+        block,
+        tree,
+        marks,
+        root_record,
+    ))
 }
 
 // Copies the block out of a tree, as many bytes as the record says; the rest of the buffer stays. 1: the depth; 2: a length; 11: the record; 4: the
@@ -189,7 +200,7 @@ pub extern "C" fn cmt_proof_check(depth: u64, root_record: &[u8], table: &[u8], 
 
 // Repairs a tree by its record and a table; the output is for a fault proof or twins. 1: the depth; 2: a length; 11: the record; 3: the table's
 // first wrong word; 10: its first uncovered layer and symbol; 12: it is another table than the record's; 4: the lowest bad mark. A repair that
-// ended: 0, its end, the symbols stored, and the proof's length or the incomplete layer.
+// ended: 0, its end, the symbols stored, and the proof's length, the incomplete layer, or, of a kind 0 record, layer and number of twins.
 #[no_mangle]
 pub extern "C" fn cmt_repair(
     depth: u64,
@@ -201,7 +212,39 @@ pub extern "C" fn cmt_repair(
 ) -> u64
     ensures { λ r.
         ⌜ repairing.leaves r (now (tree .exit)) (now (marks .exit)) (now (output .exit))
-        ≡ repairInC (repaired depth (now (root_record .entry)) (now (table .entry)) (now (tree .entry)) (now (marks .entry)) (now (output .entry))) ⌝ }
+        ≡ repairInC (kindIn (now (root_record .entry))) (repaired depth (now (root_record .entry)) (now (table .entry)) (now (tree .entry)) (now (marks .entry)) (now (output .entry))) ⌝ }
 {
-    repair_result(fault_calls::repair_tree(depth as usize, root_record, table, tree, marks, output))
+    let outcome = fault_calls::repair_tree(depth as usize, root_record, table, tree, marks, output);
+    repair_result(root_record, outcome)
+}
+
+// Codes a whole volume anew, by the same table and as the other kind, into buffers of its own; the source stays. 1: the depth; 2: a length; 11: the
+// record; 3: the table's first wrong word; 10: its first uncovered layer and symbol; 12: it is another table than the record's; 4: the lowest bad
+// mark; 14: a repair would store symbols, or end otherwise than whole.
+#[no_mangle]
+pub extern "C" fn cmt_recode(
+    depth: u64,
+    root_record: &[u8],
+    table: &[u8],
+    tree: &[u8],
+    marks: &[u8],
+    new_tree: &mut [u8],
+    new_marks: &mut [u8],
+    new_record: &mut [u8],
+) -> u64
+    ensures { λ r.
+        ⌜ writing.leaves r (now («new_tree» .exit)) (now («new_marks» .exit)) (now («new_record» .exit))
+        ≡ treeInC (recoded depth (now (root_record .entry)) (now (table .entry)) (now (tree .entry)) (now (marks .entry)) (now («new_tree» .entry))
+        (now («new_marks» .entry)) (now («new_record» .entry))) ⌝ }
+{
+    call_result(recoding::recode(
+        depth as usize,
+        root_record,
+        table,
+        tree,
+        marks,
+        new_tree,
+        new_marks,
+        new_record,
+    ))
 }
