@@ -15,12 +15,12 @@ use Rattle.table_bytes.specs.Bytes.{wordsOf}
 use Rattle.house_table.specs.House.{houseEquation, houseEquations, houseLayers, houseTable, houseWords}
 use Rattle.parity_table.proofs.Accepts.{accepted-table}
 use Rattle.symbol_hash.specs.SymbolHash.{symbolHash}
-use Rattle.symbol_hash.specs.declared.Kind.the-variants.{Plain}
+use Rattle.symbol_hash.specs.declared.Kind.{Kind}
 use Rattle.model.specs.Shape.{tree, place, places}
 use Rattle.model.specs.Symbols.{symbolIn, symAt}
 use Rattle.model.specs.Fault.{proofLength, proofLayer, proofEquation, proofMembers}
 use Rattle.model.proofs.Sound.{accepted-is}
-use Rattle.root_record.specs.Records.{rootIn}
+use Rattle.root_record.specs.Records.{kindIn, rootIn}
 use Rattle.calls.proofs.AdmissionLaws.{table-laws-of}
 use Rattle.calls.proofs.Taken.{house-taken}
 use Rattle.fault_calls.proofs.CheckingLaws.{passed}
@@ -56,7 +56,7 @@ depths d =
       table-bytes = λ b. at-test (k .table-bytes d b) (never (λ e. omega arith) (never (λ e. omega arith) (never (λ e. omega arith) (done-never (λ e. omega arith)))));
       house-words = λ n. at-test (k .house-words d n) (never (λ e. omega arith) (done-never (λ e. omega arith)));
       house-bytes = λ n. at-test (k .house-bytes d n) (never (λ e. omega arith) (done-never (λ e. omega arith)));
-      tree-writer = λ table b t m r. at-test (k .tree-writer d table b t m r) (never (λ e. omega arith) (never (λ e. omega arith) (never (λ e. omega arith) (done-never (λ e. omega arith)))));
+      tree-writer = λ kind table b t m r. at-test (k .tree-writer d kind table b t m r) (never (λ e. omega arith) (never (λ e. omega arith) (never (λ e. omega arith) (done-never (λ e. omega arith)))));
       block-reader = λ r t m b. at-test (k .block-reader d r t m b) (never (λ e. omega arith) (never (λ e. omega arith) (never (λ e. omega arith) (never (λ e. omega arith) (done-never (λ e. omega arith))))));
       sampler = λ i t m s. at-test (k .sampler d i t m s) (never (λ e. omega arith) (never (λ e. omega arith) (never (λ e. omega arith) (never (λ e. omega arith) (done-never (λ e. omega arith))))));
       sample-checker = λ i r s. at-test (k .sample-checker d i r s) (never (λ e. omega arith) (never (λ e. omega arith) (never (λ e. omega arith) (never (λ e. omega arith) (done-never (λ e. omega arith))))));
@@ -73,7 +73,7 @@ stops d n =
       table-bytes = λ b. k .table-bytes b .1 n;
       house-words = λ m. k .house-words m .1 n;
       house-bytes = λ m. k .house-bytes m .1 n;
-      tree-writer = λ table b t m r. k .tree-writer table b t m r .1 n;
+      tree-writer = λ kind table b t m r. k .tree-writer kind table b t m r .1 n;
       block-reader = λ r t m b. k .block-reader r t m b .1 n;
       sampler = λ i t m s. k .sampler i t m s .1 n;
       sample-checker = λ i r s. k .sample-checker i r s .1 n;
@@ -86,10 +86,10 @@ unfolding kOf
 has d n f p =
     record {
       in-all = p;
-      writes = λ b t m r l. (
-        λ e. let c = coding d (bytesOf (houseWords d)) b t m r e in (c .tree-full ∙ ap (λ (x : ℕ). 256 * x) p, c .marks-full ∙ p, c .record-full),
+      writes = λ kind b t m r l. (
+        λ e. let c = coding d kind (bytesOf (houseWords d)) b t m r e in (c .tree-full ∙ ap (λ (x : ℕ). 256 * x) p, c .marks-full ∙ p, c .record-full),
         λ s.
-            written-when d (bytesOf (houseWords d)) b t m r (record {
+            written-when d kind (bytesOf (houseWords d)) b t m r (record {
               taken = house-taken d f;
               block-fits = l;
               tree-full = s .0 ∙ ap (λ (x : ℕ). 256 * x) (sym p);
@@ -117,7 +117,7 @@ longest a some few =
       none-accepted = λ r table b e.
           let p = passed n r table b e in
           let tbl : List (List (List ℕ)) = equationsOf table in
-          let v = accepted-is tree (symbolHash Plain) (rootIn r) tbl b (p .accepts) in
+          let v = accepted-is tree (symbolHash (kindIn r)) (rootIn r) tbl b (p .accepts) in
           let j : ℕ = proofLayer b in
           let ms : List ℕ = equationOf tbl j (proofEquation b) in
           let deep : length tbl ≡ n = accepted-table n (wordsOf table) (p .admits .taken .accepted) .depth in
@@ -129,7 +129,7 @@ longest a some few =
 
 stands : Stands 2 31 3 224 255
 unfolding hashFor bytesFrom
-stands = record { bytes = refl; stands = λ tbl f c. c .hashes-stand 0 31 (omega arith) (omega arith) }
+stands = record { bytes = refl; stands = λ H tbl f c. c .hashes-stand 0 31 (omega arith) (omega arith) }
 
 -- ---- all of them
 
@@ -138,13 +138,13 @@ unfolding houseTable houseLayers houseEquations houseEquation houseWords tableWo
 table-size = (refl, refl)
 
 -- symbol i, as it is listed
-symbol : (i : ℕ) → symbolAt coded 0 i ≡ symAt tree listed 0 i
-symbol i = symbol-at coded 0 i ∙ ap (λ (t : List ℕ). symAt tree t 0 i) coded-is
+symbol : (kind : Kind) (i : ℕ) → symbolAt (coded kind) 0 i ≡ symAt tree listed 0 i
+symbol kind i = symbol-at (coded kind) 0 i ∙ ap (λ (t : List ℕ). symAt tree t 0 i) (coded-is kind)
 
 pub cases-hold : CasesHold
 unfolding houseTable houseLayers houseEquations houseEquation layerOf equationOf kOf nOf depthFits places place symAt symbolIn proofLength
-cases-hold =
-    refl also refl also refl also table-size also symbol 5 also symbol 7 also symbol 9
-    also two-turns also two-absent also eight-absent also all-absent also two-misfilled
+cases-hold kind =
+    refl also refl also refl also table-size also symbol kind 5 also symbol kind 7 also symbol kind 9
+    also two-turns kind also two-absent kind also eight-absent kind also all-absent kind also two-misfilled kind
     also stops 0 (λ h. omega (arith, h .0)) also stops 10 (λ h. omega (arith, h .1)) also depths also has 5 _ refl refl also has 9 _ refl refl
     also longest 3 (omega arith) (omega arith) also longest 7 (omega arith) (omega arith) also stands also none

@@ -24,12 +24,12 @@ use Rattle.calls.specs.Stops.{numberOf, valuesOf}
 use Rattle.sample_calls.specs.Checking.{checkSized}
 use Rattle.sample_calls.proofs.CheckingLaws.{sizes as check-sizes}
 use Rattle.fault_calls.specs.Checking.{proofSized, proofChecked}
-use Rattle.guarantees.specs.Layouts.{bytesFrom, allSymbols, upFrom, rootPart}
+use Rattle.guarantees.specs.Layouts.{bytesFrom, allSymbols, upFrom, kindNo, rootPart}
 use Rattle.guarantees.specs.Answers.{Answered, Answers, done, test, fails, holds, unless, one}
 use Rattle.guarantees.specs.Tables.{TableRight}
 use Rattle.guarantees.specs.Refusals.{DepthRight, RecordLength, SampleLength, HeadRight, InBase, SampleBreaks, sampleTests}
 use Rattle.guarantees.specs.FaultProofs.{givenSymbol, withheldSymbol, Named, given, Exact, GivenFits, PathFits, AllLead, ProofBreaks, ProofLengths, ProofReady, proofTests, Holds}
-use Rattle.guarantees.specs.Trees.{members, AgreesWith, Twins}
+use Rattle.guarantees.specs.Trees.{Hasher, hashBy, members, AgreesWith, Twins}
 use Rattle.guarantees.specs.Demand3.{ProofCollides}
 use Rattle.guarantees.specs.Demand2.{SampleReady}
 use Rattle.guarantees.specs.Terms.{equationsOf}
@@ -54,7 +54,7 @@ base-stable d i = decided (ltb i (allSymbols (d - 1))) (ltb-true i _) (lt-ltb i 
 
 module _ (d i : ℕ) (r s : List ℕ) (l p : ℕ) where
   abbrev broken : Type 0
-  broken = SampleBreaks d i (rootPart r) s l
+  broken = SampleBreaks (hashBy (kindNo r 0)) d i (rootPart r) s l
 
   sample-found : sampleTests d i r s 7 (l, p) → SampleReady d i r s × broken × (p ≡ 0)
   sample-found t =
@@ -64,7 +64,7 @@ module _ (d i : ℕ) (r s : List ℕ) (l p : ℕ) where
       let (k, z) = at-7 t₇ in
       (record { depth-right = dr; record-length = lr .0; sample-length = lr .1; head-right = hr; in-base = ib }, k, z)
     where
-      at-7 : test 7 (one (SampleBreaks d i (rootPart r) s)) done 7 (l, p) → broken × (p ≡ 0)
+      at-7 : test 7 (one (SampleBreaks (hashBy (kindNo r 0)) d i (rootPart r) s)) done 7 (l, p) → broken × (p ≡ 0)
       at-7 (fails e x) = (x .is, x .alone)
       at-7 (holds x y) = absurd (done-never (λ e. omega arith) (l, p) y)
 
@@ -78,6 +78,9 @@ module _ (d i : ℕ) (r s : List ℕ) (l p : ℕ) where
 module _ (d : ℕ) (r table b : List ℕ) where
   abbrev root : List ℕ
   root = rootPart r
+
+  abbrev H : Hasher
+  H = hashBy (kindNo r 0)
 
   abbrev tbl : List (List (List ℕ))
   tbl = equationsOf table
@@ -152,11 +155,11 @@ module _ (d : ℕ) (r table b : List ℕ) where
         (past-so (late 6 (omega arith) (omega arith)) (y .named) (past-so (late 2 (omega arith) (omega arith)) (y .named, y .exact) t))))
 
   -- 7, and what comes after it
-  found-7 : {l p : ℕ} → hashes 7 (l, p) → (h : Named d tbl b) × ProofBreaks root h l p
+  found-7 : {l p : ℕ} → hashes 7 (l, p) → (h : Named d tbl b) × ProofBreaks H root h l p
   found-7 (fails e x) = x .are
   found-7 {l} {p} (holds x y) = absurd (never (λ e. omega arith) (done-never (λ e. omega arith)) (l, p) y)
 
-  later-7 : {n : ℕ} {v : ℕ × ℕ} → (7 ≡ n → ⊥) → hashes n v → (l p : ℕ) (h : Named d tbl b) → ProofBreaks root h l p → ⊥
+  later-7 : {n : ℕ} {v : ℕ × ℕ} → (7 ≡ n → ⊥) → hashes n v → (l p : ℕ) (h : Named d tbl b) → ProofBreaks H root h l p → ⊥
   later-7 o (fails e x) l p h k = o (sym e)
   later-7 o (holds x y) l p h k = x (l, p) (record { are = (h, k) })
 
@@ -164,7 +167,7 @@ module _ (d : ℕ) (r table b : List ℕ) where
   from-8 (fails e x) = inr e
   from-8 (holds x (e, y)) = inl e
 
-  from-7 : {n : ℕ} {v : ℕ × ℕ} → ((l p : ℕ) (h : Named d tbl b) → ProofBreaks root h l p → ⊥) → hashes n v → (n ≡ 0) ⊎ (n ≡ 8)
+  from-7 : {n : ℕ} {v : ℕ × ℕ} → ((l p : ℕ) (h : Named d tbl b) → ProofBreaks H root h l p → ⊥) → hashes n v → (n ≡ 0) ⊎ (n ≡ 8)
   from-7 none (fails e x) = let (h, k) = x .are in absurd (none _ _ h k)
   from-7 none (holds x y) = from-8 y
 
@@ -176,30 +179,30 @@ module _ (d : ℕ) (r table b : List ℕ) where
   tested : (n : ℕ) (v : ℕ × ℕ) → Answers answer n v ↔ proofTests d r table b n v
   tested = fault-proofs .checker-answers d r table b .answers
 
-  stops : (l p : ℕ) → Answers answer 7 (l, p) ↔ ((y : ProofReady d r table b) × ProofBreaks root (y .named) l p)
+  stops : (l p : ℕ) → Answers answer 7 (l, p) ↔ ((y : ProofReady d r table b) × ProofBreaks H root (y .named) l p)
   stops l p = (
-    λ e. let (y, t) = into (λ k a c e. omega arith) (λ k a e. omega arith) (tested 7 (l, p) .0 e) in let (h, k) = found-7 t in as-named y (λ z. ProofBreaks root z l p) h k,
+    λ e. let (y, t) = into (λ k a c e. omega arith) (λ k a e. omega arith) (tested 7 (l, p) .0 e) in let (h, k) = found-7 t in as-named y (λ z. ProofBreaks H root z l p) h k,
     λ (y, k). tested 7 (l, p) .1 (back (λ k a c e. omega arith) (λ k a e. omega arith) y (fails refl (record { are = (y .named, k) }))),
   )
 
   -- an answer that comes after 7, and what comes where every way leads
-  later-leads : {n : ℕ} {v : ℕ × ℕ} → (7 ≡ n → ⊥) → (y : ProofReady d r table b) → hashes n v → AllLead root (y .named)
+  later-leads : {n : ℕ} {v : ℕ × ℕ} → (7 ≡ n → ⊥) → (y : ProofReady d r table b) → hashes n v → AllLead H root (y .named)
   later-leads o y t =
       ⊎-elim (λ a. a) (λ (l, p, k). absurd (later-7 o t l p (y .named) k))
-      (leads-or-breaks d tbl b (y .depth-right .1) (rules (y .depth-right) (y .table-right)) (y .named) root)
+      (leads-or-breaks d tbl b (y .depth-right .1) (rules (y .depth-right) (y .table-right)) (y .named) H root)
 
-  leads-then : (y : ProofReady d r table b) → AllLead root (y .named) → (numberOf answer ≡ 0) ⊎ (numberOf answer ≡ 8)
+  leads-then : (y : ProofReady d r table b) → AllLead H root (y .named) → (numberOf answer ≡ 0) ⊎ (numberOf answer ≡ 8)
   leads-then y a =
       let t = left (y .head-right) (left (y .lengths-right) (left (y .depth-right) (tested (numberOf answer) (valuesOf answer) .0 (refl, refl)))) in
       let t₁₂ = left-words d (wordsOf table) (depth-fits d (y .depth-right)) (y .table-right) (y .table-covered) t in
-      from-7 (λ l p h k. never-both d tbl b (y .depth-right .1) (rules (y .depth-right) (y .table-right)) (y .named) h root l p a k)
+      from-7 (λ l p h k. never-both d tbl b (y .depth-right .1) (rules (y .depth-right) (y .table-right)) (y .named) h H root l p a k)
       (left (y .named, y .exact) (left (y .named) (left (y .table-named) t₁₂)))
 
   after-7 : ((k : ℕ) → 1 ≤ k → k ≤ 6 → k ≡ numberOf answer → ⊥) → ((k : ℕ) → 10 ≤ k → k ≡ numberOf answer → ⊥) → (7 ≡ numberOf answer → ⊥)
-      → (y : ProofReady d r table b) × AllLead root (y .named)
+      → (y : ProofReady d r table b) × AllLead H root (y .named)
   after-7 late other o = let (y, t) = into late other (tested (numberOf answer) (valuesOf answer) .0 (refl, refl)) in (y, later-leads o y t)
 
-  leads : ((numberOf answer ≡ 0) ⊎ (numberOf answer ≡ 8)) ↔ ((y : ProofReady d r table b) × AllLead root (y .named))
+  leads : ((numberOf answer ≡ 0) ⊎ (numberOf answer ≡ 8)) ↔ ((y : ProofReady d r table b) × AllLead H root (y .named))
   leads = (
     ⊎-elim (λ e. after-7 (λ k a c f. omega arith) (λ k a f. omega arith) (λ f. omega arith))
         (λ e. after-7 (λ k a c f. omega arith) (λ k a f. omega arith) (λ f. omega arith)),
@@ -210,12 +213,12 @@ module _ (d : ℕ) (r table b : List ℕ) where
   top : (l p : ℕ) → Answers answer 7 (l, p) → (h : Named d tbl b) → h .layer ≡ 0 → (l ≡ 0) × (p < length (given h))
   top l p e h z =
       let (y, k) = stops l p .0 e in
-      let k′ = breaks-as d tbl b (y .depth-right .1) (rules (y .depth-right) (y .table-right)) (y .named) h root l p k in
+      let k′ = breaks-as d tbl b (y .depth-right .1) (rules (y .depth-right) (y .table-right)) (y .named) h H root l p k in
       ⊎-elim (λ (q, w). (omega (arith, w .on-way), q)) (λ (q, a, w). absurd (omega arith)) (k′ .breaks)
 
   -- ---- which page to ask for again
 
-  module _ (ready : ProofReady d r table b) (tb : List (List (List ℕ))) (f : ℕ → ℕ → List ℕ) (agr : AgreesWith d tb root f) where
+  module _ (ready : ProofReady d r table b) (tb : List (List (List ℕ))) (f : ℕ → ℕ → List ℕ) (agr : AgreesWith H d tb root f) where
     abbrev h : Named d tbl b
     h = ready .named
 
@@ -232,26 +235,26 @@ module _ (d : ℕ) (r table b : List ℕ) where
     unfolding layerOf equationOf
     count = ap (λ (n : ℕ). n * (j + 1)) (fitting .given-count)
 
-    shown : (l m : ℕ) (held : List ℕ) → Holds h l m held → l < d → m < allSymbols l → Twins held (f l m) → ProofCollides d table b f
+    shown : (l m : ℕ) (held : List ℕ) → Holds h l m held → l < d → m < allSymbols l → Twins H l m held (f l m) → ProofCollides H d table b f
     shown l m held there deep low twins = record { named = h; layer = l; number = m; held = held; holds = there; in-tree = (deep, low); collide = twins }
 
     given-page : (p l : ℕ) → p < g → l ≤ j
-        → WayPage j (getD (given h) p 0) (givenSymbol b j p) (λ i. GivenFits root h p (j - i)) f (ProofCollides d table b f) l
+        → WayPage j (getD (given h) p 0) (givenSymbol b j p) (λ i. GivenFits H root h p (j - i)) f (ProofCollides H d table b f) l
     unfolding kOf nOf givenSymbol bytesFrom
     given-page p l q on =
         let y : ℕ = getD (given h) p 0 in
         let below = every-below (nOf j) (given h) (subst (λ ys. every (λ y. ltb y (nOf j)) ys ≡ true) (fitting .given-are) (fitting .given-below)) p q in
-        way-page d tb root f agr j y (givenSymbol b j p) (h .has-layer) l on
+        way-page H d tb root f agr j y (givenSymbol b j p) (h .has-layer) l on
         (up-low j y l (j - l) (omega arith) (λ e. let z : j ≡ l = omega arith in subst (λ (n : ℕ). y < allSymbols n) z below))
         (λ u c. length-part b (12 + 256 * (p * (j + 1) + (j - u))) 256 (omega (arith, ready .exact, count, mul-le-mul-right {m = suc p} {n = g} (j + 1) q)))
         (λ (u, c, low, twins). shown u (upFrom j y (j - u)) (givenSymbol b j p (j - u)) (inl (p, j - u, q, (omega arith, omega arith, refl), refl)) (omega (arith, h .has-layer)) low twins)
 
     withheld-page : (l : ℕ) → l < j
-        → WayPage j (h .withheld) (withheldSymbol b j g) (λ i. PathFits root h (j - i)) f (ProofCollides d table b f) l
+        → WayPage j (h .withheld) (withheldSymbol b j g) (λ i. PathFits H root h (j - i)) f (ProofCollides H d table b f) l
     unfolding withheldSymbol bytesFrom
     withheld-page l on =
         let y : ℕ = h .withheld in
-        way-page d tb root f agr j y (withheldSymbol b j g) (h .has-layer) l (omega arith) (up-low j y l (j - l) (omega arith) (λ e. absurd (omega arith)))
+        way-page H d tb root f agr j y (withheldSymbol b j g) (h .has-layer) l (omega arith) (up-low j y l (j - l) (omega arith) (λ e. absurd (omega arith)))
         (λ u c. length-part b (12 + 256 * (g * (j + 1) + (j - u - 1))) 256 (omega (arith, ready .exact, count)))
         (λ (u, c, low, twins). shown u (upFrom j y (j - u)) (withheldSymbol b j g (j - u)) (inr (j - u, omega arith, (omega arith, omega arith, refl), refl)) (omega (arith, h .has-layer)) low twins)
 
@@ -266,9 +269,9 @@ change-4 =
       proof-leads = leads;
       proof-of-top = top;
       sample-page = λ d i r s y tbl f agr. record {
-        one-of-two = λ x h wrong t. wrong (sample-fits d tbl (rootPart r) f agr i s (y .depth-right .0) (y .in-base) x h t);
+        one-of-two = λ x h wrong t. wrong (sample-fits (hashBy (kindNo r 0)) d tbl (rootPart r) f agr i s (y .depth-right .0) (y .in-base) x h t);
         topmost = λ x h wrong above.
-            sample-alone d tbl (rootPart r) f agr i s (y .depth-right .0) (y .in-base) x h (y .sample-length) wrong above;
+            sample-alone (hashBy (kindNo r 0)) d tbl (rootPart r) f agr i s (y .depth-right .0) (y .in-base) x h (y .sample-length) wrong above;
       };
       proof-page = λ d r table b y tb f agr. record { given-page = given-page d r table b y tb f agr; withheld-page = withheld-page d r table b y tb f agr };
     }

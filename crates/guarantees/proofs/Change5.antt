@@ -1,5 +1,5 @@
 -- 02, CR 5: tests 11 and 12 by themselves, records written and read, and what a record binds.
-use mathlib.Core.Path.{_≡_, refl, sym, ap, ap₂, _∙_}
+use mathlib.Core.Path.{_≡_, refl, sym, ap, ap₂, _∙_, subst}
 use mathlib.Core.Logic.{_⊎_, _↔_, _≢_, inl, inr, ⊎-elim}
 use mathlib.Core.Bool.{Bool, true}
 use mathlib.Core.List.{List, _++_}
@@ -21,9 +21,10 @@ use Rattle.model.specs.Repair.{St}
 use Rattle.model.specs.Writer.{zeroFilled}
 use Rattle.octets.proofs.SameLaws.{same-yes, same-no}
 use Rattle.model.proofs.Filling.{back-filled, zero-is, full-filled}
-use Rattle.heads.specs.Heads.{head}
-use Rattle.root_record.specs.Records.{recordOf, sizeIn, hashIn, rootIn, headRight, namesTable}
-use Rattle.root_record.proofs.RecordLaws.{table-parts, record-length, record-root, record-size, record-right, record-names, record-read, record-read-of}
+use Rattle.heads.specs.Heads.{head, kindAt}
+use Rattle.symbol_hash.specs.declared.Kind.{Kind}
+use Rattle.root_record.specs.Records.{kindNumber, kindOf, kindIn, recordOf, sizeIn, countIn, hashIn, rootIn, headRight, namesTable}
+use Rattle.root_record.proofs.RecordLaws.{number-back, table-parts, record-length, record-root, record-size, record-right, record-names, record-read, record-read-of}
 use Rattle.calls.specs.declared.Answer.{Answer}
 use Rattle.calls.specs.declared.Answer.the-variants.{Done, Stopped}
 use Rattle.calls.specs.Stops.{valuesOf}
@@ -37,21 +38,24 @@ use Rattle.fault_calls.specs.Checking.{proofSized, proofChecked}
 use Rattle.fault_calls.specs.Repairing.{misfilled, repairSized, repairTested, repairOf, repairedBy, repaired}
 use Rattle.fault_calls.proofs.CheckingLaws.{passed}
 use Rattle.fault_calls.proofs.RepairingLaws.{ends-so, formed}
-use Rattle.guarantees.specs.Layouts.{bytesFrom, symbolAt, valueNo, recordBytes, blockSize, rootPart, blockRoom, blockStart}
+use Rattle.recoding.specs.Recoding.{recodeSized, recoded}
+use Rattle.guarantees.specs.Layouts.{bytesFrom, symbolAt, kindNo, valueNo, recordBytes, blockSize, rootPart, blockRoom, blockStart}
 use Rattle.guarantees.specs.Answers.{test, fails, holds, unless, Just}
-use Rattle.guarantees.specs.Refusals.{DepthRight, TableLength, TreeLengths, BlockLength, RecordLength, HeadRight, NamesTable, SampleLength, OutputLength, RepairLengths, takesTable, takesNamed}
+use Rattle.guarantees.specs.Refusals.{DepthRight, TableLength, TreeLengths, BlockLength, RecordLength, HeadRight, NamesTable, SampleLength, OutputLength, RepairLengths, RecodeLengths, takesTable, takesNamed}
 use Rattle.guarantees.specs.FaultProofs.{ProofLengths}
 use Rattle.guarantees.specs.Demand2.{treeAfter, marksAfter, recordAfter, TreesCollide}
+use Rattle.guarantees.specs.Trees.{kindBits, hashBy, AgreesWith}
+use Rattle.guarantees.specs.Terms.{equationsOf}
 use Rattle.guarantees.specs.Cases.{AreBytes}
 use Rattle.guarantees.specs.Change5.{StopsWith11, StopsWith12, recordFor, ReadsAs, Takes, TablesCollide, Change5}
 use Rattle.guarantees.proofs.Answers.{never, done-never}
 use Rattle.guarantees.proofs.Layouts.{tree-symbols}
-use Rattle.guarantees.proofs.Records.{block-size, word-count, table-hash, root-in, block-room, head-right, right-head, names-table, table-named, head-bytes, record-bytes}
+use Rattle.guarantees.proofs.Records.{kind-no, at-most, record-number, block-size, word-count, table-hash, root-in, block-room, head-right, right-head, names-table, table-named, head-bytes, record-bytes}
 use Rattle.guarantees.proofs.Marks.{none-bad}
-use Rattle.guarantees.proofs.Refusals.{depth-fits, size-tests, repair-own, own-repair, refusals}
+use Rattle.guarantees.proofs.Refusals.{depth-fits, size-tests, repair-own, own-repair, recode-own, own-recode, refusals}
 use Rattle.guarantees.proofs.Passing.{decided, Stable, past-words, past-words-so, past-lengths, past-lengths-so, head-front, both-stable}
 use Rattle.guarantees.proofs.FaultProofs.{fault-proofs, lengths-own as proof-own, own-lengths as own-proof}
-use Rattle.guarantees.proofs.Demand2.{coding, after-full, after-right, after-names, after-size, base-byte, reading, after-block, after-one, demand-2}
+use Rattle.guarantees.proofs.Demand2.{coding, after-full, after-bits, after-right, after-names, after-size, base-byte, reading, after-block, after-one, demand-2}
 use Rattle.guarantees.proofs.Demand3.{wayOf, passed-13, is-13, demand-3}
 
 -- ---- tests 11 and 12
@@ -112,40 +116,57 @@ repair-stable : (d : ℕ) (r table t m o : List ℕ) → Stable (RepairLengths d
 repair-stable d r table t m o =
     both-stable (repairSized d (length r) (length t) (length m) (length o)) table (repair-own d r table t m o) (own-repair d r table t m o)
 
+recode-stable : (d : ℕ) (r table t m t′ m′ r′ : List ℕ) → Stable (RecodeLengths d r table t m t′ m′ r′)
+recode-stable d r table t m t′ m′ r′ =
+    both-stable (recodeSized d (length r) (length t) (length m) (length t′) (length m′) (length r′)) table (recode-own d r table t m t′ m′ r′) (own-recode d r table t m t′ m′ r′)
+
 -- ---- reading and writing a record
 
 -- a table that calls take has few words
 few-words : (table : List ℕ) → TableLength table → length table / 4 < 2 ^ 30
 few-words table l = omega (arith, l .not-over)
 
-module _ (d n : ℕ) (table root : List ℕ) where
-  written-reads : DepthRight d → n ≤ blockRoom d → TableLength table → length root ≡ 512 → ReadsAs d n table root (recordFor d n table root)
+module _ (k d n : ℕ) (table root : List ℕ) where
+  written-reads : k ≤ 1 → DepthRight d → n ≤ blockRoom d → TableLength table → length root ≡ 512 → ReadsAs k d n table root (recordFor k d n table root)
   unfolding kOf
-  written-reads k h l full =
-      let f = depth-fits d k in
+  written-reads low deep h l full =
+      let f = depth-fits d deep in
       let c = few-words table l in
-      let r : List ℕ = recordOf d n table root in
-      rw (record-bytes d n table root)
+      let kind : Kind = kindOf k in
+      let r : List ℕ = recordOf kind d n table root in
+      let is : recordFor k d n table root ≡ r =
+      ap (λ (v : ℕ). recordFor v d n table root) (sym (number-back k low)) ∙ record-bytes kind d n table root in
+      rw is
       (record {
-        full = record-length d n table root full;
-        head = head-right d r (record-right d n table root f h c);
-        size-is = block-size r ∙ record-size d n table root f h c;
-        table-named = names-table r table (record-names d n table root f h c);
-        root-is = root-in r ∙ record-root d n table root;
+        full = record-length kind d n table root full;
+        head = head-right d r (record-right kind d n table root f h c);
+        kind-is = record-number kind d n table root f h c ∙ number-back k low;
+        size-is = block-size r ∙ record-size kind d n table root f h c;
+        table-named = names-table r table (record-names kind d n table root f h c);
+        root-is = root-in r ∙ record-root kind d n table root;
       })
 
-read-as-written : (d : ℕ) (r : List ℕ) → AreBytes r → RecordLength r → HeadRight d r → r ≡ recordBytes d (blockSize r) (valueNo r 2) (bytesFrom r 12 32) (rootPart r)
+-- the kind of a record that 11 lets pass
+pub first-kind : (d : ℕ) (r : List ℕ) → HeadRight d r → kindNumber (kindIn r) ≡ kindNo r 0
+unfolding kindIn
+first-kind d r h = number-back (kindAt r 0) (omega (arith, at-most (kindNo r 0) (h .first-kind), kind-no r 0)) ∙ sym (kind-no r 0)
+
+read-as-written : (d : ℕ) (r : List ℕ) → AreBytes r → RecordLength r → HeadRight d r
+    → r ≡ recordBytes (kindNo r 0) d (blockSize r) (valueNo r 2) (bytesFrom r 12 32) (rootPart r)
 read-as-written d r bytes full right =
     record-read d r bytes full (right-head d r right)
-    ∙ ap₂ (λ (n c : ℕ). head d n c ++ (hashIn r ++ rootIn r)) (sym (block-size r)) (sym (word-count r))
-    ∙ ap₂ (λ (h root : List ℕ). head d (blockSize r) (valueNo r 2) ++ (h ++ root)) (sym (table-hash r)) (sym (root-in r))
-    ∙ sym (head-bytes d (blockSize r) (valueNo r 2) (bytesFrom r 12 32) (rootPart r))
+    ∙ ap (λ (k : ℕ). head k d (sizeIn r) (countIn r) ++ (hashIn r ++ rootIn r)) (first-kind d r right)
+    ∙ ap₂ (λ (n c : ℕ). head (kindNo r 0) d n c ++ (hashIn r ++ rootIn r)) (sym (block-size r)) (sym (word-count r))
+    ∙ ap₂ (λ (h root : List ℕ). head (kindNo r 0) d (blockSize r) (valueNo r 2) ++ (h ++ root)) (sym (table-hash r)) (sym (root-in r))
+    ∙ sym (head-bytes (kindNo r 0) d (blockSize r) (valueNo r 2) (bytesFrom r 12 32) (rootPart r))
 
-read-was-written : (d : ℕ) (r table : List ℕ) → AreBytes r → RecordLength r → HeadRight d r → NamesTable r table → r ≡ recordFor d (blockSize r) table (rootPart r)
+read-was-written : (d : ℕ) (r table : List ℕ) → AreBytes r → RecordLength r → HeadRight d r → NamesTable r table
+    → r ≡ recordFor (kindNo r 0) d (blockSize r) table (rootPart r)
 read-was-written d r table bytes full head named =
     record-read-of d r bytes full (right-head d r head) table (table-named r table named)
-    ∙ ap₂ (λ (n : ℕ) (root : List ℕ). recordOf d n table root) (sym (block-size r)) (sym (root-in r))
-    ∙ sym (record-bytes d (blockSize r) table (rootPart r))
+    ∙ ap₂ (λ (n : ℕ) (root : List ℕ). recordOf (kindIn r) d n table root) (sym (block-size r)) (sym (root-in r))
+    ∙ sym (record-bytes (kindIn r) d (blockSize r) table (rootPart r))
+    ∙ ap (λ (k : ℕ). recordFor k d (blockSize r) table (rootPart r)) (first-kind d r head)
 
 by-words : (r ws : List ℕ) → NamesTable r (bytesOf ws) ↔ ((valueNo r 2 ≡ length ws) × (bytesFrom r 12 32 ≡ sha256 (bytesOf ws)))
 by-words r ws =
@@ -153,61 +174,62 @@ by-words r ws =
     (λ k. (k .count-is ∙ e, k .hash-is), λ (n, h). record { count-is = n ∙ sym e; hash-is = h })
 
 -- what the writer leaves
-module _ (d : ℕ) (table block t m r : List ℕ) (e : treeWritten d table block t m r .answer ≡ Done) where
+module _ (d : ℕ) (kind : Kind) (table block t m r : List ℕ) (e : treeWritten d kind table block t m r .answer ≡ Done) where
   abbrev t′ : List ℕ
-  t′ = treeAfter d table block t m r
+  t′ = treeAfter d kind table block t m r
 
   abbrev m′ : List ℕ
-  m′ = marksAfter d table block t m r
+  m′ = marksAfter d kind table block t m r
 
   abbrev r′ : List ℕ
-  r′ = recordAfter d table block t m r
+  r′ = recordAfter d kind table block t m r
 
   passes : (o : List ℕ) → OutputLength d o → repairTested d r′ table t′ m′ o ≡ Done
   unfolding repairTested
   passes o room =
-      let x = demand-2 .writes-exactly d table block t m r e in
+      let x = demand-2 .writes-exactly d kind table block t m r e in
       let own : Bool = repairSized d (length r′) (length t′) (length m′) (length o) in
       let sized : own ≡ true =
       yes-and (size-tests d t′ m′ (x .lengths))
-      (yes-and (eq-eqb (length r′) 556 (after-full d table block t m r e)) (eq-eqb (length o) (12 + 256 * (8 * d - 1)) room)) in
+      (yes-and (eq-eqb (length r′) 556 (after-full d kind table block t m r e)) (eq-eqb (length o) (12 + 256 * (8 * d - 1)) room)) in
       sym (ap₂ (λ (x y : Answer). x then y)
       (admits-by d own r′ table
       (record {
         lengths = sized;
-        head = after-right d table block t m r e;
-        taken = coding d table block t m r e .taken;
-        named = after-names d table block t m r e;
+        head = after-right d kind table block t m r e;
+        taken = coding d kind table block t m r e .taken;
+        named = after-names d kind table block t m r e;
       }))
       (marks-right m′ (none-bad m′ (λ p h. omega (arith, x .marked p (omega (arith, x .lengths .mark-bytes)))))))
 
 -- a repair by the record that the writer left, which ends with 13
-module _ (d : ℕ) (table block t m r : List ℕ) (e : treeWritten d table block t m r .answer ≡ Done) (u w o : List ℕ) (n : ℕ)
-    (x : repaired d (recordAfter d table block t m r) table u w o .answer ≡ misfilled n) where
+module _ (d : ℕ) (kind : Kind) (table block t m r : List ℕ) (e : treeWritten d kind table block t m r .answer ≡ Done) (u w o : List ℕ) (n : ℕ)
+    (x : repaired d (recordAfter d kind table block t m r) table u w o .answer ≡ misfilled n) where
   abbrev left : List ℕ
-  left = repairOf (recordAfter d table block t m r) table u w o .tree
+  left = repairOf (recordAfter d kind table block t m r) table u w o .tree
 
   abbrev made : List ℕ
-  made = treeAfter d table block t m r
+  made = treeAfter d kind table block t m r
 
   -- its tree isn't the written one, whose filling is zero
   other-tree : (p : ℕ) → length block ≤ p → p < blockRoom d → getD left (blockStart d + p) 0 ≢ 0 → left ≢ made
   unfolding kOf
   other-tree p from below z q =
-      let zero = zero-is tree d (length block) made .0 (back-filled tree d block made (after-block d table block t m r e) .0) p from below in
+      let zero = zero-is tree d (length block) made .0 (back-filled tree d block made (after-block d kind table block t m r e) .0) p from below in
       z (ap (λ (l : List ℕ). getD l (blockStart d + p) 0) q ∙ sym (base-byte d p made below) ∙ zero)
 
-  never-misfilled : TreesCollide d (symbolAt (repaired d (recordAfter d table block t m r) table u w o .tree)) (symbolAt made)
+  never-misfilled : TreesCollide (hashBy (kindBits kind)) d (symbolAt (repaired d (recordAfter d kind table block t m r) table u w o .tree)) (symbolAt made)
   never-misfilled =
-      let r′ : List ℕ = recordAfter d table block t m r in
+      let r′ : List ℕ = recordAfter d kind table block t m r in
       let k = passed-13 d r′ table u w o n x in
       let y = is-13 d r′ table u w o k n x in
       let all = demand-3 .repairs d r′ table u w o k in
       rw (all .as-the-steps .tree-left)
       (⊎-elim
       (λ q.
-      absurd (other-tree (y .byte) (omega (arith, y .in-filling .0, block-size r′, after-size d table block t m r e)) (y .in-filling .1) (y .not-zero) q)) (λ c. c)
-      (after-one d table block t m r e left (all .every-end .lengths .tree-bytes ∙ ap (λ (l : ℕ). 256 * l) (tree-symbols d)) (y .whole-tree .agrees)))
+      absurd (other-tree (y .byte) (omega (arith, y .in-filling .0, block-size r′, after-size d kind table block t m r e)) (y .in-filling .1) (y .not-zero) q)) (λ c. c)
+      (after-one d kind table block t m r e left (all .every-end .lengths .tree-bytes ∙ ap (λ (l : ℕ). 256 * l) (tree-symbols d))
+      (subst (λ (k : ℕ). AgreesWith (hashBy k) d (equationsOf table) (rootPart r′) (symbolAt left)) (after-bits d kind table block t m r e) (y .whole-tree .agrees))))
 
 -- ---- what a record binds
 
@@ -258,19 +280,24 @@ change-5 =
       repairer = λ d r table t m o.
           stops-11 d r (repair-stable d r table t m o) (repairTested d r table t m o) _ (λ k l. (k, l)) (λ b. b) (refusals .repairer d r table t m o)
           (never (λ e. omega arith) (never (λ e. omega arith) (never (λ e. omega arith) (never (λ e. omega arith) (done-never (λ e. omega arith))))));
+      recoder = λ d r table t m t′ m′ r′.
+          stops-11 d r (recode-stable d r table t m t′ m′ r′) (recoded d r table t m t′ m′ r′ .answer) _ (λ k l. (k, l)) (λ b. b) (refusals .recoder d r table t m t′ m′ r′)
+          (never (λ e. omega arith) (never (λ e. omega arith) (never (λ e. omega arith) (never (λ e. omega arith) (never (λ e. omega arith) (done-never (λ e. omega arith)))))));
       proof-checker-table = λ d r table b.
           stops-12 d r (proof-stable r table b) (proofChecked d r table b) table (fault-proofs .checker-answers d r table b)
           (never (λ e. omega arith) (never (λ e. omega arith) (never (λ e. omega arith) (never (λ e. omega arith) (done-never (λ e. omega arith))))));
       repairer-table = λ d r table t m o.
           stops-12 d r (repair-stable d r table t m o) (repairTested d r table t m o) table (refusals .repairer d r table t m o) (never (λ e. omega arith) (done-never (λ e. omega arith)));
+      recoder-table = λ d r table t m t′ m′ r′.
+          stops-12 d r (recode-stable d r table t m t′ m′ r′) (recoded d r table t m t′ m′ r′ .answer) table (refusals .recoder d r table t m t′ m′ r′) (never (λ e. omega arith) (never (λ e. omega arith) (done-never (λ e. omega arith))));
       by-words = by-words;
       written-reads = written-reads;
       read-as-written = read-as-written;
       read-was-written = read-was-written;
-      writer-passes = λ d table block t m r e. (
-        head-right d _ (after-right d table block t m r e),
-        names-table _ table (after-names d table block t m r e),
-        passes d table block t m r e,
+      writer-passes = λ d kind table block t m r e. (
+        head-right d _ (after-right d kind table block t m r e),
+        names-table _ table (after-names d kind table block t m r e),
+        passes d kind table block t m r e,
       );
       writer-never-misfilled = never-misfilled;
       one-table = one-table;

@@ -18,7 +18,7 @@ use Rattle.parity_table.proofs.Shape.{depth-is}
 use Rattle.parity_table.proofs.Accepts.{accepted-formed, accepted-depth, accepted-table}
 use Rattle.parity_table.proofs.Parse.{formed-words}
 use Rattle.symbol_hash.specs.SymbolHash.{symbolHash}
-use Rattle.symbol_hash.specs.declared.Kind.the-variants.{Plain}
+use Rattle.symbol_hash.specs.declared.Kind.{Kind}
 use Rattle.symbol_hash.proofs.Laws.{length-symbolHash}
 use Rattle.model.specs.Shape.{tree, place, places}
 use Rattle.model.specs.Symbols.{symbolIn, symAt}
@@ -39,8 +39,8 @@ use Rattle.model.proofs.Binding.{trees-same}
 use Rattle.sampling.specs.Lent.{BaseSymbol}
 use Rattle.sampling.proofs.SymbolLaws.{in-tree, sample-place-lt}
 use Rattle.model.proofs.Samples.{accepted-leads, leads-accepted, taken-length, taken-accepted, accepted-true}
-use Rattle.root_record.specs.Records.{recordOf, sizeIn, rootIn, headRight, namesTable}
-use Rattle.root_record.proofs.RecordLaws.{record-length, record-root, record-size, record-right, record-names, head-parts}
+use Rattle.root_record.specs.Records.{kindIn, recordOf, sizeIn, rootIn, headRight, namesTable}
+use Rattle.root_record.proofs.RecordLaws.{record-kind, record-length, record-root, record-size, record-right, record-names, head-parts}
 use Rattle.calls.specs.declared.Answer.{Answer}
 use Rattle.calls.specs.declared.Answer.the-variants.{Done}
 use Rattle.calls.specs.Stops.{numberOf}
@@ -57,16 +57,16 @@ use Rattle.volume_calls.proofs.ReadingLaws.{base-passed, passed as read-passed,
 use Rattle.sample_calls.proofs.CheckingLaws.{passed as check-passed, sizes as check-sizes, at-end}
 use Rattle.sample_calls.proofs.TakingLaws.{passed as take-passed, sizes as take-sizes, tests-passed as take-tests, when-done as take-left, needs-held}
 use Rattle.guarantees.specs.Terms.{equationsOf}
-use Rattle.guarantees.specs.Layouts.{bytesFrom, allSymbols, symbolAt, sampledLayer, sampledNumber, recordBytes, blockSize, rootPart, blockStart, filledUp}
+use Rattle.guarantees.specs.Layouts.{bytesFrom, allSymbols, symbolAt, sampledLayer, sampledNumber, kindNo, recordBytes, blockSize, rootPart, blockStart, filledUp}
 use Rattle.guarantees.specs.Tables.{listed}
-use Rattle.guarantees.specs.Trees.{CorrectlyCoded, RootOf, AgreesWith, HasBlock}
+use Rattle.guarantees.specs.Trees.{kindBits, hashBy, CorrectlyCoded, RootOf, AgreesWith, HasBlock}
 use Rattle.guarantees.specs.Refusals.{BlockLength, RecordLength, SampleLength, InBase}
 use Rattle.guarantees.specs.Demand2.{treeAfter, marksAfter, recordAfter, rootAfter, Exactly, CompleteTree, ReadsBase, blockAfter, GivesBack, ReadsWritten, TreesCollide, ReadsOriginal, ReadsAgreed, SampleRight, TakesExactly, AcceptsTaken, AcceptedIsTrue, Demand2}
 use Rattle.guarantees.proofs.Layouts.{tree-symbols, symbol-at, mark-at}
-use Rattle.guarantees.proofs.Records.{block-size, root-in, block-room, head-right, right-head, record-bytes}
+use Rattle.guarantees.proofs.Records.{block-size, root-in, block-room, head-right, right-head, bits-are, record-number, record-bytes}
 use Rattle.guarantees.proofs.Marks.{held-marked, none-bad, none-absent, none-needed}
 use Rattle.guarantees.proofs.Tables.{rules-ok, ok-rules, listed-words}
-use Rattle.guarantees.proofs.Trees.{symbols-are, right-coded, agrees-with, with-agrees, block-base, base-block, twins-of}
+use Rattle.guarantees.proofs.Trees.{hash-of, hash-in, symbols-are, right-coded, agrees-with, with-agrees, block-base, base-block, twins-of}
 use Rattle.guarantees.proofs.Refusals.{depth-fits, table-long, size-tests, sampled-layer, sampled-number, leads-so, so-leads}
 
 -- ---- a table that was taken
@@ -91,59 +91,59 @@ pub record WriterInput (depth : ℕ) (table block t m r : List ℕ) : Type 0 whe
   pub marks-full : length m ≡ places tree depth
   pub record-full : length r ≡ 556
 
-pub coding : (d : ℕ) (table block t m r : List ℕ) → treeWritten d table block t m r .answer ≡ Done → WriterInput d table block t m r
-coding d table block t m r e =
-    let a = admission d (writeSized d (length block) (length t) (length m) (length r)) table (write-passed d table block t m r e) in
+pub coding : (d : ℕ) (kind : Kind) (table block t m r : List ℕ) → treeWritten d kind table block t m r .answer ≡ Done → WriterInput d table block t m r
+coding d kind table block t m r e =
+    let a = admission d (writeSized d (length block) (length t) (length m) (length r)) table (write-passed d kind table block t m r e) in
     let (b, v, w, x) = write-sizes d (length block) (length t) (length m) (length r) (a .lengths) in
     record { taken = a .taken; block-fits = b; tree-full = v; marks-full = w; record-full = x }
 
-pub written-when : (d : ℕ) (table block t m r : List ℕ) → WriterInput d table block t m r → treeWritten d table block t m r .answer ≡ Done
-written-when d table block t m r k =
-    write-answer d table block t m r
+pub written-when : (d : ℕ) (kind : Kind) (table block t m r : List ℕ) → WriterInput d table block t m r → treeWritten d kind table block t m r .answer ≡ Done
+written-when d kind table block t m r k =
+    write-answer d kind table block t m r
     ∙ sym (admits d (writeSized d (length block) (length t) (length m) (length r)) table (k .taken)
     (yes-and (yes-and (eq-eqb (length t) (256 * places tree d) (k .tree-full)) (eq-eqb (length m) (places tree d) (k .marks-full)))
     (yes-and (le-leb (length block) (256 * kOf (d - 1)) (k .block-fits)) (eq-eqb (length r) 556 (k .record-full)))))
 
 -- "fills up with zeros", by either definition
-filled-up : (d : ℕ) (block : List ℕ) → filledUp d block ≡ filled tree d block
+pub filled-up : (d : ℕ) (block : List ℕ) → filledUp d block ≡ filled tree d block
 unfolding filled kOf
 filled-up d block = refl
 
-module _ (depth : ℕ) (table block : List ℕ) where
+module _ (depth : ℕ) (kind : Kind) (table block : List ℕ) where
   abbrev tbl : List (List (List ℕ))
   tbl = equationsOf table
 
   abbrev full : List ℕ
   full = filled tree depth block
 
-  module _ (t m r : List ℕ) (e : treeWritten depth table block t m r .answer ≡ Done) where
+  module _ (t m r : List ℕ) (e : treeWritten depth kind table block t m r .answer ≡ Done) where
     abbrev new : List ℕ
-    new = writeTree tree (symbolHash Plain) tbl full t
+    new = writeTree tree (symbolHash kind) tbl full t
 
     abbrev root : List ℕ
-    root = writtenRoot tree (symbolHash Plain) new
+    root = writtenRoot tree (symbolHash kind) new
 
     abbrev new-record : List ℕ
-    new-record = recordOf depth (length block) table root
+    new-record = recordOf kind depth (length block) table root
 
     c : WriterInput depth table block t m r
-    c = coding depth table block t m r e
+    c = coding depth kind table block t m r e
 
-    left : treeWritten depth table block t m r ≡ leaves Done new (writtenMarks tree depth) new-record
-    left = write-done depth table block t m r e
+    left : treeWritten depth kind table block t m r ≡ leaves Done new (writtenMarks tree depth) new-record
+    left = write-done depth kind table block t m r e
 
-    pub tree-left : treeAfter depth table block t m r ≡ new
+    pub tree-left : treeAfter depth kind table block t m r ≡ new
     tree-left = ap (λ (w : TreeLeft Answer). w .tree) left
 
-    pub marks-left : marksAfter depth table block t m r ≡ writtenMarks tree depth
+    pub marks-left : marksAfter depth kind table block t m r ≡ writtenMarks tree depth
     marks-left = ap (λ (w : TreeLeft Answer). w .marks) left
 
-    pub record-left : recordAfter depth table block t m r ≡ new-record
+    pub record-left : recordAfter depth kind table block t m r ≡ new-record
     record-left = ap (λ (w : TreeLeft Answer). w .root-record) left
 
-    pub root-left : rootAfter depth table block t m r ≡ root
+    pub root-left : rootAfter depth kind table block t m r ≡ root
     unfolding rootIn
-    root-left = ap rootPart record-left ∙ record-root depth (length block) table root
+    root-left = ap rootPart record-left ∙ record-root kind depth (length block) table root
 
     deep : length tbl ≡ depth
     deep = rules depth table (c .taken) .depth
@@ -157,8 +157,8 @@ module _ (depth : ℕ) (table block : List ℕ) where
     pub lent-length : length t ≡ 256 * places tree (length tbl)
     lent-length = c .tree-full ∙ ap (λ (d : ℕ). 256 * places tree d) (sym deep)
 
-    so : Written tree (symbolHash Plain) tbl full new
-    so = written tree tree-ok (symbolHash Plain) (length-symbolHash Plain) tbl fits full block-length t lent-length
+    so : Written tree (symbolHash kind) tbl full new
+    so = written tree tree-ok (symbolHash kind) (length-symbolHash kind) tbl fits full block-length t lent-length
 
     new-length : length new ≡ 256 * places tree depth
     new-length = so .sized ∙ ap (λ (d : ℕ). 256 * places tree d) deep
@@ -169,55 +169,62 @@ module _ (depth : ℕ) (table block : List ℕ) where
     ok : TableOk depth tbl
     ok = rules depth table (c .taken)
 
-    agrees-so : AgreesWith depth tbl root (symbolAt new)
-    agrees-so = rw (symbols-are new) (agrees-with depth tbl ok root (symAt tree new) (so .agrees))
+    agrees-so : AgreesWith (symbolHash kind) depth tbl root (symbolAt new)
+    agrees-so = rw (symbols-are new) (agrees-with kind depth tbl ok root (symAt tree new) (so .agrees))
 
     block-so : HasBlock depth (symbolAt new) full
     block-so i h =
         symbol-at new (depth - 1) i
         ∙ base-block depth (symAt tree new) full (λ q l. sym (block-symbol tree depth new q l) ∙ ap (λ (b : List ℕ). symbolIn b q) back) i h
 
-    only-so : (f : ℕ → ℕ → List ℕ) → CorrectlyCoded depth tbl f → HasBlock depth f full → (j i : ℕ) → j < depth → i < allSymbols j → symbolAt new j i ≡ f j i
+    only-so : (f : ℕ → ℕ → List ℕ) → CorrectlyCoded (symbolHash kind) depth tbl f → HasBlock depth f full → (j i : ℕ) → j < depth → i < allSymbols j → symbolAt new j i ≡ f j i
     unfolding kOf nOf
     only-so f k b j i hj hi =
         symbol-at new j i
-        ∙ so .only f (right-coded depth tbl ok f k) (subst (λ (d : ℕ). BaseOf tree d f full) (sym deep) (block-base depth f full b)) j i (omega (arith, deep), hi)
+        ∙ so .only f (right-coded kind depth tbl ok f k) (subst (λ (d : ℕ). BaseOf tree d f full) (sym deep) (block-base depth f full b)) j i (omega (arith, deep), hi)
 
-    root-so : (f : ℕ → ℕ → List ℕ) → CorrectlyCoded depth tbl f → HasBlock depth f full → RootOf f root
+    root-so : (f : ℕ → ℕ → List ℕ) → CorrectlyCoded (symbolHash kind) depth tbl f → HasBlock depth f full → RootOf (symbolHash kind) f root
     root-so f k b =
         record {
           full = agrees-so .root-of .full;
-          hashes = λ i h. agrees-so .root-of .hashes i h ∙ ap sha256 (only-so f k b 0 i (depth-is depth (c .taken .deep) .0) (omega arith));
+          hashes = λ i h. agrees-so .root-of .hashes i h ∙ ap (symbolHash kind 0 i) (only-so f k b 0 i (depth-is depth (c .taken .deep) .0) (omega arith));
         }
 
     -- the record that is written passes 11 and 12, and says what was written
     count-small : length table / 4 < 2 ^ 30
     count-small = omega (arith, table-long table (c .taken .length-fits) .not-over)
 
-    pub after-full : length (recordAfter depth table block t m r) ≡ 556
-    after-full = rw record-left (record-length depth (length block) table root (agrees-so .root-of .full))
+    pub after-full : length (recordAfter depth kind table block t m r) ≡ 556
+    after-full = rw record-left (record-length kind depth (length block) table root (agrees-so .root-of .full))
 
-    pub after-right : headRight depth (recordAfter depth table block t m r) ≡ true
-    after-right = rw record-left (record-right depth (length block) table root (c .taken .deep) (c .block-fits) count-small)
+    pub after-right : headRight depth (recordAfter depth kind table block t m r) ≡ true
+    after-right = rw record-left (record-right kind depth (length block) table root (c .taken .deep) (c .block-fits) count-small)
 
-    pub after-names : namesTable (recordAfter depth table block t m r) table ≡ true
-    after-names = rw record-left (record-names depth (length block) table root (c .taken .deep) (c .block-fits) count-small)
+    pub after-names : namesTable (recordAfter depth kind table block t m r) table ≡ true
+    after-names = rw record-left (record-names kind depth (length block) table root (c .taken .deep) (c .block-fits) count-small)
 
-    pub after-size : sizeIn (recordAfter depth table block t m r) ≡ length block
-    after-size = rw record-left (record-size depth (length block) table root (c .taken .deep) (c .block-fits) count-small)
+    pub after-size : sizeIn (recordAfter depth kind table block t m r) ≡ length block
+    after-size = rw record-left (record-size kind depth (length block) table root (c .taken .deep) (c .block-fits) count-small)
 
-    exactly : Exactly depth table block t m r
+    pub after-kind : kindIn (recordAfter depth kind table block t m r) ≡ kind
+    after-kind = rw record-left (record-kind kind depth (length block) table root (c .taken .deep) (c .block-fits) count-small)
+
+    pub after-bits : kindNo (recordAfter depth kind table block t m r) 0 ≡ kindBits kind
+    after-bits = rw record-left (record-number kind depth (length block) table root (c .taken .deep) (c .block-fits) count-small) ∙ sym (bits-are kind)
+
+    exactly : Exactly depth kind table block t m r
     exactly =
         record {
           by-rules = ok-rules depth tbl ok;
           table-words = words-listed depth table (c .taken);
           block-fits = omega (arith, c .block-fits, block-room depth);
-          agrees = rw (tree-left, root-left) agrees-so;
+          agrees = rw (tree-left, root-left, hash-of kind) agrees-so;
           has-block = rw (tree-left, filled-up depth block) block-so;
-          only = rw (tree-left, filled-up depth block) only-so;
-          only-root = rw (root-left, filled-up depth block) root-so;
-          exact-record = record-left ∙ sym (record-bytes depth (length block) table root)
-              ∙ ap (recordBytes depth (length block) (length (wordsOf table)) (sha256 table)) (sym root-left);
+          only = rw (tree-left, filled-up depth block, hash-of kind) only-so;
+          only-root = rw (root-left, filled-up depth block, hash-of kind) root-so;
+          exact-record = record-left ∙ sym (record-bytes kind depth (length block) table root)
+              ∙ ap (λ (k : ℕ). recordBytes k depth (length block) (length (wordsOf table)) (sha256 table) root) (sym (bits-are kind))
+              ∙ ap (recordBytes (kindBits kind) depth (length block) (length (wordsOf table)) (sha256 table)) (sym root-left);
           marked = rw marks-left (λ p h. marks-one tree depth p (omega (arith, tree-symbols depth)));
           lengths = rw (tree-left, marks-left)
               (record {
@@ -226,18 +233,18 @@ module _ (depth : ℕ) (table block : List ℕ) where
               });
         }
 
-  same-again : (t m r t′ m′ r′ : List ℕ) (e : treeWritten depth table block t m r .answer ≡ Done)
-      (e′ : treeWritten depth table block t′ m′ r′ .answer ≡ Done)
-      → (treeAfter depth table block t m r ≡ treeAfter depth table block t′ m′ r′)
-      × (marksAfter depth table block t m r ≡ marksAfter depth table block t′ m′ r′)
-      × (recordAfter depth table block t m r ≡ recordAfter depth table block t′ m′ r′)
+  same-again : (t m r t′ m′ r′ : List ℕ) (e : treeWritten depth kind table block t m r .answer ≡ Done)
+      (e′ : treeWritten depth kind table block t′ m′ r′ .answer ≡ Done)
+      → (treeAfter depth kind table block t m r ≡ treeAfter depth kind table block t′ m′ r′)
+      × (marksAfter depth kind table block t m r ≡ marksAfter depth kind table block t′ m′ r′)
+      × (recordAfter depth kind table block t m r ≡ recordAfter depth kind table block t′ m′ r′)
   same-again t m r t′ m′ r′ e e′ =
       let q : new t m r e ≡ new t′ m′ r′ e′ =
-      written-same tree tree-ok (symbolHash Plain) (length-symbolHash Plain) tbl (fits t m r e) full t t′ (block-length t m r e) (lent-length t m r e)
+      written-same tree tree-ok (symbolHash kind) (length-symbolHash kind) tbl (fits t m r e) full t t′ (block-length t m r e) (lent-length t m r e)
       (lent-length t′ m′ r′ e′) in (
         tree-left t m r e ∙ q ∙ sym (tree-left t′ m′ r′ e′),
         marks-left t m r e ∙ sym (marks-left t′ m′ r′ e′),
-        record-left t m r e ∙ ap (λ (w : List ℕ). recordOf depth (length block) table (writtenRoot tree (symbolHash Plain) w)) q ∙ sym (record-left t′ m′ r′ e′),
+        record-left t m r e ∙ ap (λ (w : List ℕ). recordOf kind depth (length block) table (writtenRoot tree (symbolHash kind) w)) q ∙ sym (record-left t′ m′ r′ e′),
       )
 
 -- ---- reading back
@@ -341,11 +348,11 @@ symbol-length : (u : List ℕ) (j i : ℕ) → length (symbolAt u j i) ≡ 256 �
 symbol-length u j i e = ap length (sym (symbol-at u j i)) ∙ e
 
 -- two trees that agree with one root are the same, or show a collision
-pub one-tree : (depth : ℕ) (tbl : List (List (List ℕ))) → TableOk depth tbl → (root u v : List ℕ) → length u ≡ 256 * places tree depth
-    → length v ≡ 256 * places tree depth → AgreesWith depth tbl root (symbolAt u) → AgreesWith depth tbl root (symbolAt v)
-    → (u ≡ v) ⊎ TreesCollide depth (symbolAt u) (symbolAt v)
+pub one-tree : (kind : Kind) (depth : ℕ) (tbl : List (List (List ℕ))) → TableOk depth tbl → (root u v : List ℕ) → length u ≡ 256 * places tree depth
+    → length v ≡ 256 * places tree depth → AgreesWith (symbolHash kind) depth tbl root (symbolAt u)
+    → AgreesWith (symbolHash kind) depth tbl root (symbolAt v) → (u ≡ v) ⊎ TreesCollide (symbolHash kind) depth (symbolAt u) (symbolAt v)
 unfolding kOf nOf
-one-tree depth tbl k root u v hu hv au av =
+one-tree kind depth tbl k root u v hu hv au av =
     let d : length tbl ≡ depth = k .depth in
     let far : 256 * places tree depth ≡ 256 * places tree (length tbl) = ap (λ (n : ℕ). 256 * places tree n) (sym d) in
     ⊎-elim inl
@@ -358,50 +365,52 @@ one-tree depth tbl k root u v hu hv au av =
       number = i;
       in-tree = (hj, x .inside .1);
       collide = rw (symbol-at u j i, symbol-at v j i)
-          (twins-of j i (symAt tree u j i) (symAt tree v j i) (symbol-length u j i (au .correctly-coded .sized j i hj (x .inside .1)))
+          (twins-of kind j i (symAt tree u j i) (symAt tree v j i) (symbol-length u j i (au .correctly-coded .sized j i hj (x .inside .1)))
           (symbol-length v j i (av .correctly-coded .sized j i hj (x .inside .1))) (x .collide));
     }))
-    (trees-same tree (tree-ok .shape) (symbolHash Plain) (length-symbolHash Plain) tbl root u v (hu ∙ far) (hv ∙ far)
-    (with-agrees depth tbl k root (symAt tree u) (rw (symbols-are u) at au)) (with-agrees depth tbl k root (symAt tree v) (rw (symbols-are v) at av)))
+    (trees-same tree (tree-ok .shape) (symbolHash kind) (length-symbolHash kind) tbl root u v (hu ∙ far) (hv ∙ far)
+    (with-agrees kind depth tbl k root (symAt tree u) (rw (symbols-are u) at au)) (with-agrees kind depth tbl k root (symAt tree v) (rw (symbols-are v) at av)))
 
 -- the written tree's block, and a tree that agrees with the record that was written
-module _ (depth : ℕ) (table block t m r : List ℕ) (e : treeWritten depth table block t m r .answer ≡ Done) where
-  pub after-block : blockOf tree depth (treeAfter depth table block t m r) ≡ filled tree depth block
-  after-block = ap (blockOf tree depth) (tree-left depth table block t m r e) ∙ back depth table block t m r e
+module _ (depth : ℕ) (kind : Kind) (table block t m r : List ℕ) (e : treeWritten depth kind table block t m r .answer ≡ Done) where
+  pub after-block : blockOf tree depth (treeAfter depth kind table block t m r) ≡ filled tree depth block
+  after-block = ap (blockOf tree depth) (tree-left depth kind table block t m r e) ∙ back depth kind table block t m r e
 
-  pub after-one : (u : List ℕ) → length u ≡ 256 * places tree depth → AgreesWith depth (equationsOf table) (rootAfter depth table block t m r) (symbolAt u)
-      → (u ≡ treeAfter depth table block t m r) ⊎ TreesCollide depth (symbolAt u) (symbolAt (treeAfter depth table block t m r))
+  pub after-one : (u : List ℕ) → length u ≡ 256 * places tree depth
+      → AgreesWith (hashBy (kindBits kind)) depth (equationsOf table) (rootAfter depth kind table block t m r) (symbolAt u)
+      → (u ≡ treeAfter depth kind table block t m r) ⊎ TreesCollide (hashBy (kindBits kind)) depth (symbolAt u) (symbolAt (treeAfter depth kind table block t m r))
   after-one u hu a =
-      one-tree depth (equationsOf table) (ok depth table block t m r e) (rootAfter depth table block t m r) u (treeAfter depth table block t m r) hu
-      (ap length (tree-left depth table block t m r e) ∙ new-length depth table block t m r e) a (exactly depth table block t m r e .agrees)
+      rw (hash-of kind)
+      (one-tree kind depth (equationsOf table) (ok depth kind table block t m r e) (rootAfter depth kind table block t m r) u (treeAfter depth kind table block t m r) hu
+      (ap length (tree-left depth kind table block t m r e) ∙ new-length depth kind table block t m r e) (rw (hash-of kind) at a) (rw (hash-of kind) at (exactly depth kind table block t m r e .agrees)))
 
 reads-written : ReadsWritten
-reads-written depth table block t m r b e l =
-    let x = exactly depth table block t m r e in
-    let t′ : List ℕ = treeAfter depth table block t m r in
-    let m′ : List ℕ = marksAfter depth table block t m r in
-    let r′ : List ℕ = recordAfter depth table block t m r in
+reads-written depth kind table block t m r b e l =
+    let x = exactly depth kind table block t m r e in
+    let t′ : List ℕ = treeAfter depth kind table block t m r in
+    let m′ : List ℕ = marksAfter depth kind table block t m r in
+    let r′ : List ℕ = recordAfter depth kind table block t m r in
     let done : blockRead depth r′ t′ m′ b .answer ≡ Done =
-    complete-read depth t′ m′ (record { depth-right = depth-is depth (c depth table block t m r e .taken .deep); lengths = x .lengths; all-held = x .marked })
-    r′ b (after-full depth table block t m r e) (after-right depth table block t m r e) l in
-    let is : blockOf tree depth t′ ≡ filled tree depth block = after-block depth table block t m r e in (
+    complete-read depth t′ m′ (record { depth-right = depth-is depth (c depth kind table block t m r e .taken .deep); lengths = x .lengths; all-held = x .marked })
+    r′ b (after-full depth kind table block t m r e) (after-right depth kind table block t m r e) l in
+    let is : blockOf tree depth t′ ≡ filled tree depth block = after-block depth kind table block t m r e in (
       done,
       rw (ap (λ (w : BlockLeft Answer). w .block) (read-left depth r′ t′ m′ b done))
-          (given-back depth r′ t′ b block (after-size depth table block t m r e) (ap (take (length block)) is ∙ filled-front tree depth block)),
+          (given-back depth r′ t′ b block (after-size depth kind table block t m r e) (ap (take (length block)) is ∙ filled-front tree depth block)),
     )
 
 reads-original : ReadsOriginal
-reads-original depth table block t m r e u w b q a =
-    let r′ : List ℕ = recordAfter depth table block t m r in
+reads-original depth kind table block t m r e u w b q a =
+    let r′ : List ℕ = recordAfter depth kind table block t m r in
     ⊎-elim
     (λ s.
     inl (rw (ap (λ (x : BlockLeft Answer). x .block) (read-left depth r′ u w b q))
-    (given-back depth r′ u b block (after-size depth table block t m r e)
-    (ap (take (length block)) (ap (blockOf tree depth) s ∙ after-block depth table block t m r e) ∙ filled-front tree depth block))))
-    inr (after-one depth table block t m r e u (reading depth r′ u w b q .tree-full) a)
+    (given-back depth r′ u b block (after-size depth kind table block t m r e)
+    (ap (take (length block)) (ap (blockOf tree depth) s ∙ after-block depth kind table block t m r e) ∙ filled-front tree depth block))))
+    inr (after-one depth kind table block t m r e u (reading depth r′ u w b q .tree-full) a)
 
 -- the bytes that were read are the first of the tree's block
-first-bytes : (d : ℕ) (r t m b : List ℕ) → blockRead d r t m b .answer ≡ Done → take (blockSize r) (blockAfter d r t m b) ≡ take (sizeIn r) (blockOf tree d t)
+pub first-bytes : (d : ℕ) (r t m b : List ℕ) → blockRead d r t m b .answer ≡ Done → take (blockSize r) (blockAfter d r t m b) ≡ take (sizeIn r) (blockOf tree d t)
 first-bytes d r t m b e =
     let k = reading d r t m b e in
     let x : List ℕ = blockOf tree d t in
@@ -413,7 +422,9 @@ first-bytes d r t m b e =
 reads-agreed : ReadsAgreed
 reads-agreed depth r tbl rule u w b v x c eu ev au av =
     ⊎-elim (λ s. inl (first-bytes depth r u w b eu ∙ ap (λ (l : List ℕ). take (sizeIn r) (blockOf tree depth l)) s ∙ sym (first-bytes depth r v x c ev))) inr
-    (one-tree depth tbl (rules-ok depth tbl rule) (rootPart r) u v (reading depth r u w b eu .tree-full) (reading depth r v x c ev .tree-full) au av)
+    (rw (hash-in r)
+    (one-tree (kindIn r) depth tbl (rules-ok depth tbl rule) (rootPart r) u v (reading depth r u w b eu .tree-full) (reading depth r v x c ev .tree-full)
+    (rw (hash-in r) at au) (rw (hash-in r) at av)))
 
 -- ---- samples
 
@@ -424,7 +435,7 @@ done-led (breaks j) e = absurd (omega (arith, ap numberOf e))
 sample-right : (depth i : ℕ) (r s : List ℕ) → sampleChecked depth i r s ≡ Done → SampleRight depth i r s
 unfolding sampleChecked rootIn kOf nOf
 sample-right depth i r s e =
-    let last : Answer = led (sampleCheck tree (symbolHash Plain) (rootPart r) depth i s) in
+    let last : Answer = led (sampleCheck tree (symbolHash (kindIn r)) (rootPart r) depth i s) in
     let (q, l) = then-done (checkTested depth i r (length s)) last e in
     let (k, b) = check-passed depth i r (length s) q in
     let (full, sized) = check-sizes depth (length r) (length s) (k .opened-is .lengths) in
@@ -436,12 +447,12 @@ sample-right depth i r s e =
         head-right = head-right depth r (k .head);
         in-base = b .2;
       };
-      all-lead = leads-so depth i (rootPart r) s (accepted-leads tree (symbolHash Plain) (rootPart r) depth i (k .opened-is .some) s (done-led (sampleCheck tree (symbolHash Plain) (rootPart r) depth i s) l));
+      all-lead = rw (hash-in r) (leads-so (symbolHash (kindIn r)) depth i (rootPart r) s (accepted-leads tree (symbolHash (kindIn r)) (rootPart r) depth i (k .opened-is .some) s (done-led (sampleCheck tree (symbolHash (kindIn r)) (rootPart r) depth i s) l)));
     }
 
-sample-leads : (depth i : ℕ) (r s : List ℕ) → SampleRight depth i r s → sampleCheck tree (symbolHash Plain) (rootPart r) depth i s ≡ leads
+sample-leads : (depth i : ℕ) (r s : List ℕ) → SampleRight depth i r s → sampleCheck tree (symbolHash (kindIn r)) (rootPart r) depth i s ≡ leads
 sample-leads depth i r s k =
-    leads-accepted tree (symbolHash Plain) (rootPart r) depth i (k .ready .depth-right .0) s (so-leads depth i (rootPart r) s (k .all-lead))
+    leads-accepted tree (symbolHash (kindIn r)) (rootPart r) depth i (k .ready .depth-right .0) s (so-leads (symbolHash (kindIn r)) depth i (rootPart r) s (rw (hash-in r) at (k .all-lead)))
 
 right-sample : (depth i : ℕ) (r s : List ℕ) → SampleRight depth i r s → sampleChecked depth i r s ≡ Done
 unfolding rootIn kOf nOf
@@ -483,7 +494,7 @@ takes-exactly depth i t m s e =
           ∙ sym (sampled-symbol depth i x (symbolAt t))),
     )
 
-module _ (depth i : ℕ) (root : List ℕ) (tb : List (List (List ℕ))) (keeps : TableOk depth tb) (f : ℕ → ℕ → List ℕ) (agr : Agrees tree (symbolHash Plain) tb root f)
+module _ (kind : Kind) (depth i : ℕ) (root : List ℕ) (tb : List (List (List ℕ))) (keeps : TableOk depth tb) (f : ℕ → ℕ → List ℕ) (agr : Agrees tree (symbolHash kind) tb root f)
     (fit : depthFits depth ≡ true) (hi : i < nOf (depth - 1)) where
   layered : length tb ≡ depth
   layered = keeps .depth
@@ -494,31 +505,31 @@ module _ (depth i : ℕ) (root : List ℕ) (tb : List (List (List ℕ))) (keeps 
   inside : i < nOf (length tb - 1)
   inside = subst (λ (d : ℕ). i < nOf (d - 1)) (sym layered) hi
 
-  taken-good : (r : List ℕ) → RecordLength r → headRight depth r ≡ true → rootIn r ≡ root → sampleChecked depth i r (sampleBytes tree f depth i) ≡ Done
-  taken-good r full head is =
+  taken-good : (r : List ℕ) → RecordLength r → headRight depth r ≡ true → rootIn r ≡ root → kindIn r ≡ kind → sampleChecked depth i r (sampleBytes tree f depth i) ≡ Done
+  taken-good r full head is kind-so =
       sym (at-end depth i r (sampleBytes tree f depth i) fit
       (yes-and (eq-eqb (length r) 556 full)
       (eq-eqb (length (sampleBytes tree f depth i)) (256 * sampleSize depth)
       (subst (λ (d : ℕ). length (sampleBytes tree f d i) ≡ 256 * sampleSize d) layered
-      (taken-length tree tree-ok (symbolHash Plain) (length-symbolHash Plain) tb some root f agr i inside)))) head hi)
+      (taken-length tree tree-ok (symbolHash kind) (length-symbolHash kind) tb some root f agr i inside)))) head hi)
       ∙ ap led
-      (ap (λ (x : List ℕ). sampleCheck tree (symbolHash Plain) x depth i (sampleBytes tree f depth i)) is
-      ∙ subst (λ (d : ℕ). sampleCheck tree (symbolHash Plain) root d i (sampleBytes tree f d i) ≡ leads) layered
-      (taken-accepted tree tree-ok (symbolHash Plain) (length-symbolHash Plain) tb some root f agr i inside))
+      (ap₂ (λ (x : List ℕ) (k : Kind). sampleCheck tree (symbolHash k) x depth i (sampleBytes tree f depth i)) is kind-so
+      ∙ subst (λ (d : ℕ). sampleCheck tree (symbolHash kind) root d i (sampleBytes tree f d i) ≡ leads) layered
+      (taken-accepted tree tree-ok (symbolHash kind) (length-symbolHash kind) tb some root f agr i inside))
 
-  accepted-good : (s : List ℕ) → sampleCheck tree (symbolHash Plain) root depth i s ≡ leads → SampleTrue tree f depth i s ⊎ SampleCollision tree (symbolHash Plain) f depth i s
+  accepted-good : (s : List ℕ) → sampleCheck tree (symbolHash kind) root depth i s ≡ leads → SampleTrue tree f depth i s ⊎ SampleCollision tree (symbolHash kind) f depth i s
   accepted-good s e =
-      subst (λ (d : ℕ). SampleTrue tree f d i s ⊎ SampleCollision tree (symbolHash Plain) f d i s) layered
-      (accepted-true tree tree-ok (symbolHash Plain) (length-symbolHash Plain) tb some root f agr i inside s
-      (subst (λ (d : ℕ). sampleCheck tree (symbolHash Plain) root d i s ≡ leads) (sym layered) e))
+      subst (λ (d : ℕ). SampleTrue tree f d i s ⊎ SampleCollision tree (symbolHash kind) f d i s) layered
+      (accepted-true tree tree-ok (symbolHash kind) (length-symbolHash kind) tb some root f agr i inside s
+      (subst (λ (d : ℕ). sampleCheck tree (symbolHash kind) root d i s ≡ leads) (sym layered) e))
 
 accepts-taken : AcceptsTaken
 accepts-taken depth i r t m s tbl full head rule a e =
     let k = taking depth i t m s e in
     let keeps = rules-ok depth tbl rule in
     rw (ap (λ (w : SampleLeft Answer). w .sample) (take-left depth i t m s e))
-    (taken-good depth i (rootPart r) tbl keeps (symAt tree t) (with-agrees depth tbl keeps (rootPart r) (symAt tree t) (rw (symbols-are t) at a)) (k .fit-depth)
-    (k .in-base) r full (right-head depth r head) (sym (root-in r)))
+    (taken-good (kindIn r) depth i (rootPart r) tbl keeps (symAt tree t) (with-agrees (kindIn r) depth tbl keeps (rootPart r) (symAt tree t) (rw (symbols-are t, hash-in r) at a)) (k .fit-depth)
+    (k .in-base) r full (right-head depth r head) (sym (root-in r)) refl)
 
 accepted-is-true : AcceptedIsTrue
 unfolding kOf nOf symbolIn bytesFrom
@@ -536,12 +547,12 @@ accepted-is-true depth i r s tbl rule e f a =
     inr (record {
       index = y;
       inside = x .inside;
-      collide = rw (sampled-symbol depth i y f)
-          (twins-of l n (symbolIn s y) (f l n)
+      collide = rw (hash-in r, sampled-layer depth y, sampled-number depth i y)
+          (twins-of (kindIn r) l n (symbolIn s y) (f l n)
           (omega (arith, length-take 256 (drop (256 * y) s), length-drop (256 * y) s, k .sample-length, x .inside))
           (a .correctly-coded .sized l n (there .0) (there .1)) (x .collide));
     }))
-    (accepted-good depth i (rootPart r) tbl keeps f (with-agrees depth tbl keeps (rootPart r) f a) (depth-fits depth (k .depth-right)) (k .in-base) s
+    (accepted-good (kindIn r) depth i (rootPart r) tbl keeps f (with-agrees (kindIn r) depth tbl keeps (rootPart r) f (rw (hash-in r) at a)) (depth-fits depth (k .depth-right)) (k .in-base) s
     (sample-leads depth i r s z))
 
 -- ---- the demand
@@ -549,8 +560,8 @@ accepted-is-true depth i r s tbl rule e f a =
 pub demand-2 : Demand2
 demand-2 =
     record {
-      writes-exactly = λ depth table block t m r e. exactly depth table block t m r e;
-      writes-the-same = λ depth table block t m r t′ m′ r′ e e′. same-again depth table block t m r t′ m′ r′ e e′;
+      writes-exactly = λ depth kind table block t m r e. exactly depth kind table block t m r e;
+      writes-the-same = λ depth kind table block t m r t′ m′ r′ e e′. same-again depth kind table block t m r t′ m′ r′ e e′;
       reads-complete = λ depth r t m b k full head. complete-read depth t m k r b full (right-head depth r head);
       reads-base = reads-base;
       reads-written = reads-written;

@@ -11,7 +11,6 @@ use borrow.Author.Tests.{ltb-true, eqb-false, eq-eqb, ne-eqb}
 use Rattle.octets.specs.Choice.{pick}
 use Rattle.octets.specs.ByteLists.{same}
 use Rattle.octets.proofs.Choice.{by-test, and-yes, yes-and, both, not-yes}
-use Rattle.sha256.specs.Hash.{sha256}
 use Rattle.parity_table.specs.Shape.{kOf, nOf}
 use Rattle.parity_table.specs.Members.{every, lastOf}
 use Rattle.parity_table.specs.Table.{layerOf, equationOf, TableOk}
@@ -19,8 +18,6 @@ use Rattle.table_bytes.specs.Bytes.{wordsOf}
 use Rattle.parity_table.proofs.Shape.{depth-is}
 use Rattle.parity_table.proofs.Accepts.{accepted-depth}
 use Rattle.parity_table.proofs.Rules.{members-below}
-use Rattle.symbol_hash.specs.SymbolHash.{symbolHash}
-use Rattle.symbol_hash.specs.declared.Kind.the-variants.{Plain}
 use Rattle.model.specs.Shape.{tree, place, places}
 use Rattle.model.specs.Symbols.{bit, count, others, symbolIn, xorOf, zeros, committed, symAt}
 use Rattle.model.specs.Repair.{End, working, whole, fault, unavailable, twins, St, absentAt}
@@ -33,7 +30,7 @@ use Rattle.model.proofs.Counts.{isIt, firstOf-passes, every-others, ascending-o
 use Rattle.model.proofs.Shapes.{place-lt}
 use Rattle.model.proofs.Flat.{symAt-length}
 use Rattle.model.proofs.Filling.{zero-is, not-zero}
-use Rattle.root_record.specs.Records.{sizeIn, rootIn}
+use Rattle.root_record.specs.Records.{kindIn, sizeIn, rootIn}
 use Rattle.calls.specs.declared.Answer.{Answer}
 use Rattle.calls.specs.declared.Stop.{Stop}
 use Rattle.calls.specs.declared.Answer.the-variants.{Done, Stopped}
@@ -45,9 +42,9 @@ use Rattle.calls.proofs.TestLaws.{then-done, marks-passed}
 use Rattle.fault_calls.proofs.CheckingLaws.{passed}
 use Rattle.fault_calls.proofs.RepairingLaws.{misfills, ends-so, formed}
 use Rattle.fault_calls.proofs.Ends.{four-ways, fault-accepted}
-use Rattle.guarantees.specs.Layouts.{bytesFrom, symbolNo, dataSymbols, allSymbols, symbolAt, markAt, hashFor, XorOf, rootPart, blockRoom}
+use Rattle.guarantees.specs.Layouts.{bytesFrom, symbolNo, dataSymbols, allSymbols, symbolAt, markAt, hashFor, XorOf, kindNo, rootPart, blockRoom}
 use Rattle.guarantees.specs.Tables.{IsMember}
-use Rattle.guarantees.specs.Trees.{members, EquationHolds}
+use Rattle.guarantees.specs.Trees.{Hasher, hashBy, members, EquationHolds}
 use Rattle.guarantees.specs.Terms.{equationsOf}
 use Rattle.guarantees.specs.Demand3.{howMany, meets, inLayers, NotTaken, Peeled, none-stored, stores, Gap, Tells, Took, LastOfFailing, Checker, AsTheSteps, EveryEnd, WholeTree, Filling, baseByte, EndsWhole, EndsMisfilled, EndsFault, EndsUnavailable, EndsTwins, Repair, StopsJustWhen, Demand3}
 use Rattle.guarantees.proofs.Layouts.{tree-symbols, symbol-at, mark-at, hash-for, xor-one, xor-of}
@@ -55,7 +52,7 @@ use Rattle.calls.proofs.AdmissionLaws.{TableTaken}
 use Rattle.guarantees.proofs.Membership.{every-member-of, member-other, two-passing, member-apart, last-apart, others-apart}
 use Rattle.guarantees.proofs.Marks.{held-marked, all-right}
 use Rattle.guarantees.proofs.Tables.{ok-rules}
-use Rattle.guarantees.proofs.Trees.{symbols-are, agrees-with, with-agrees, twins-of}
+use Rattle.guarantees.proofs.Trees.{hash-in, symbols-are, agrees-with, with-agrees, twins-of}
 use Rattle.guarantees.proofs.Refusals.{absent-said, absent-seen}
 use Rattle.guarantees.proofs.FaultProofs.{fault-proofs}
 use Rattle.guarantees.proofs.Records.{block-size}
@@ -69,7 +66,7 @@ checker depth r table f agr b e =
     let tbl : List (List (List ℕ)) = equationsOf table in
     let p = passed depth r table b e in
     let ok = rules depth table (p .admits .taken) in
-    let x = checker-sound depth r table b e f (with-agrees depth tbl ok (rootPart r) f agr) in
+    let x = checker-sound depth r table b e f (with-agrees (kindIn r) depth tbl ok (rootPart r) f (rw (hash-in r) at agr)) in
     let y = x .collision in
     let n = fault-proofs .accepts-just-when depth r table b .0 e .ready .named in
     let shallow = accepted-depth depth (wordsOf table) (p .admits .taken .accepted) .1 in
@@ -81,7 +78,7 @@ checker depth r table f agr b e =
       held = y .symbol;
       holds = fault-proofs .holds-exactly depth tbl b shallow (ok-rules depth tbl ok) n (y .layer) (y .number) (y .symbol) .0 (y .is-held);
       in-tree = (hj, y .inside .1);
-      collide = twins-of (y .layer) (y .number) (y .symbol) (f (y .layer) (y .number)) (x .sized) (x .sized-in-tree) (y .collide);
+      collide = rw (hash-in r) (twins-of (kindIn r) (y .layer) (y .number) (y .symbol) (f (y .layer) (y .number)) (x .sized) (x .sized-in-tree) (y .collide));
     }
 
 -- ---- well-formed input
@@ -211,6 +208,9 @@ module _ (depth : ℕ) (r table t m o : List ℕ) (e : repairTested depth r tabl
   abbrev tbl : List (List (List ℕ))
   tbl = equationsOf table
 
+  abbrev H : Hasher
+  H = hashBy (kindNo r 0)
+
   -- the end of the steps is reported, or 13 in place of whole
   abbrev blank : Bool
   blank = zeroFilled tree depth (sizeIn r) (st .tree)
@@ -243,9 +243,9 @@ module _ (depth : ℕ) (r table t m o : List ℕ) (e : repairTested depth r tabl
         out-left = ap (λ (a : Answer). repairedBy a depth (sizeIn r) st t m o .out) e;
       }
 
-  so : Ended tree (symbolHash Plain) root tbl t m o st
+  so : Ended tree H root tbl t m o st
   unfolding rootIn
-  so = four-ways depth r table t m o e
+  so = subst (λ (h : Hasher). Ended tree h root tbl t m o st) (sym (hash-in r)) (four-ways depth r table t m o e)
 
   input : RepairInput depth table m
   input = input-of depth r table t m o e
@@ -275,33 +275,33 @@ module _ (depth : ℕ) (r table t m o : List ℕ) (e : repairTested depth r tabl
     lent-low : getD m (place tree j i) 0 ≤ 1
     lent-low = input .marks-right (place tree j i) (place-lt tree depth j i hj hi)
 
-    gap-is : gapAt tree (symbolHash Plain) root t m (st .tree) j i ≡ true → Gap depth r table t m o j i
-    unfolding gapAt symbolHash
+    gap-is : gapAt tree H root t m (st .tree) j i ≡ true → Gap depth r table t m o j i
+    unfolding gapAt
     gap-is g =
         by-test (absentAt tree m j i) (λ a. inl (mark-at m j i ∙ absent-said m j i lent-low a))
         (λ a.
         inr (λ q.
         both
-        (yes-same (ap sha256 (sym (symbol-at t j i)) ∙ q ∙ committed-is j i))
-        (not-yes (same (sha256 (symAt tree t j i)) (committed tree root (symAt tree (st .tree)) j i)) (or-right (absentAt tree m j i) _ a g))))
+        (yes-same (ap (H j i) (sym (symbol-at t j i)) ∙ q ∙ committed-is j i))
+        (not-yes (same (H j i (symAt tree t j i)) (committed tree root (symAt tree (st .tree)) j i)) (or-right (absentAt tree m j i) _ a g))))
 
-    is-gap : Gap depth r table t m o j i → gapAt tree (symbolHash Plain) root t m (st .tree) j i ≡ true
-    unfolding gapAt symbolHash
+    is-gap : Gap depth r table t m o j i → gapAt tree H root t m (st .tree) j i ≡ true
+    unfolding gapAt
     is-gap (inl z) = or-first (absentAt tree m j i) _ (absent-seen m j i lent-low (sym (mark-at m j i) ∙ z))
     is-gap (inr n) =
         or-yes (absentAt tree m j i) _
-        (ap not (no-same (λ q. n (ap sha256 (symbol-at t j i) ∙ q ∙ sym (committed-is j i)))))
+        (ap not (no-same (λ q. n (ap (H j i) (symbol-at t j i) ∙ q ∙ sym (committed-is j i)))))
 
-  gap-no : (j i : ℕ) → j < depth → i < nOf j → (Gap depth r table t m o j i → ⊥) → gapAt tree (symbolHash Plain) root t m (st .tree) j i ≡ false
-  gap-no j i hj hi n = by-test (gapAt tree (symbolHash Plain) root t m (st .tree) j i) (λ g. absurd (n (gap-is j i hj hi g))) (λ g. g)
+  gap-no : (j i : ℕ) → j < depth → i < nOf j → (Gap depth r table t m o j i → ⊥) → gapAt tree H root t m (st .tree) j i ≡ false
+  gap-no j i hj hi n = by-test (gapAt tree H root t m (st .tree) j i) (λ g. absurd (n (gap-is j i hj hi g))) (λ g. g)
 
   -- ---- what holds at every end
 
   -- a gap that is now held
   abbrev stored-at : ℕ → ℕ → Bool
-  stored-at j i = gapAt tree (symbolHash Plain) root t m (st .tree) j i && not (absent j i)
+  stored-at j i = gapAt tree H root t m (st .tree) j i && not (absent j i)
 
-  layers-count : (d : ℕ) → inLayers stored-at d ≡ filled tree (symbolHash Plain) root t m (st .tree) (st .marks) d
+  layers-count : (d : ℕ) → inLayers stored-at d ≡ filled tree H root t m (st .tree) (st .marks) d
   unfolding inLayers filled filledIn kOf nOf
   layers-count zero = refl
   layers-count (suc d) = ap₂ (λ (a b : ℕ). a + b) (how-many (stored-at d) (stored-at d) (allSymbols d) (λ i h. refl)) (layers-count d)
@@ -351,7 +351,7 @@ module _ (depth : ℕ) (r table t m o : List ℕ) (e : repairTested depth r tabl
     λ (p, n). e ∙ yes-and p (ap not (ne-eqb y x n)),
   )
 
-  peeled-so : (j : ℕ) → j < depth → {a : ℕ → Bool} → Peels tree tbl (st .tree) j (gapAt tree (symbolHash Plain) root t m (st .tree) j) a
+  peeled-so : (j : ℕ) → j < depth → {a : ℕ → Bool} → Peels tree tbl (st .tree) j (gapAt tree H root t m (st .tree) j) a
       → Peeled (allSymbols j) (3 * dataSymbols j) (Gap depth r table t m o j) (symbolAt (st .tree) j) (members tbl j) a
   unfolding kOf nOf layerOf equationOf
   peeled-so j hj (model.none-stored h) =
@@ -365,7 +365,7 @@ module _ (depth : ℕ) (r table t m o : List ℕ) (e : repairTested depth r tabl
       (holds-so j e hj le z) (λ q l. not-taken j q hj (omega arith) a (low q l)) (λ y l. one-less a b x y (eb y l))
 
   every-end : EveryEnd depth r table t m o
-  unfolding kOf nOf symbolHash zeros
+  unfolding kOf nOf zeros
   every-end =
       let a = so .always in
       record {
@@ -381,7 +381,7 @@ module _ (depth : ℕ) (r table t m o : List ℕ) (e : repairTested depth r tabl
         kept = λ j i hj hi n.
             let (h, s) = a .kept j i hj hi (gap-no j i (omega (arith, in-depth)) hi n) in
             (marked-1 (st .marks) j i h, symbol-at (st .tree) j i ∙ s ∙ sym (symbol-at t j i));
-        held = λ j i hj hi h. ap sha256 (symbol-at (st .tree) j i) ∙ a .held j i hj hi (is-held (st .marks) j i h) ∙ sym (committed-is j i);
+        held = λ j i hj hi h. ap (H j i) (symbol-at (st .tree) j i) ∙ a .held j i hj hi (is-held (st .marks) j i h) ∙ sym (committed-is j i);
         above-complete = λ j i hj hi. marked-1 (st .marks) j i (a .above j hj .full i hi);
         above-holds = λ j q hj hq.
             holds-so j q (omega (arith, in-depth)) hq (a .above j hj .holds q (omega (arith, ok .equations j (omega (arith, in-depth)))));
@@ -389,7 +389,7 @@ module _ (depth : ℕ) (r table t m o : List ℕ) (e : repairTested depth r tabl
         tells-stored = λ j i hj hi.
             let lj : j < depth = omega (arith, in-depth) in (
               λ q.
-                  let (g, h) = and-yes (gapAt tree (symbolHash Plain) root t m (st .tree) j i) (not (absent j i)) q in
+                  let (g, h) = and-yes (gapAt tree H root t m (st .tree) j i) (not (absent j i)) q in
                   (gap-is j i lj hi g, marked-1 (st .marks) j i (not-yes (absent j i) h)),
               λ (g, h). yes-and (is-gap j i lj hi g) (ap not (is-held (st .marks) j i h)),
             );
@@ -401,7 +401,7 @@ module _ (depth : ℕ) (r table t m o : List ℕ) (e : repairTested depth r tabl
 
   -- ---- the equation that was taken
 
-  module _ (j q x : ℕ) (k : Taken tree (symbolHash Plain) root tbl (st .tree) (st .marks) j q x) (en : st .entered ≡ suc j) where
+  module _ (j q x : ℕ) (k : Taken tree H root tbl (st .tree) (st .marks) j q x) (en : st .entered ≡ suc j) where
     hj : j < depth
     hj = omega (arith, in-depth, en)
 
@@ -456,14 +456,14 @@ module _ (depth : ℕ) (r table t m o : List ℕ) (e : repairTested depth r tabl
   shallow : depth ≤ 9
   shallow = depth-is depth (input .taken .deep) .1
 
-  whole-tree : st .end ≡ whole → WholeEnd tree (symbolHash Plain) root tbl t m o st → WholeTree depth r table t m o
+  whole-tree : st .end ≡ whole → WholeEnd tree H root tbl t m o st → WholeTree depth r table t m o
   unfolding kOf nOf
   whole-tree q x =
       record {
         is-end = q;
         last = x .last ∙ ok .depth;
         all-held = λ j i hj hi. marked-1 (st .marks) j i (x .all-held j i (omega (arith, ok .depth)) hi);
-        agrees = rw (symbols-are (st .tree)) (agrees-with depth tbl ok root (symAt tree (st .tree)) (x .agrees));
+        agrees = rw (symbols-are (st .tree), hash-in r) (agrees-with (kindIn r) depth tbl ok root (symAt tree (st .tree)) (rw (hash-in r) at (x .agrees)));
         out-untouched = x .out-kept;
       }
 
@@ -493,7 +493,7 @@ module _ (depth : ℕ) (r table t m o : List ℕ) (e : repairTested depth r tabl
         not-zero = λ z. n (base-is p below ∙ z);
       }
 
-  ends-fault : (j q w n : ℕ) → st .end ≡ fault j q w n → FaultEnd tree (symbolHash Plain) root tbl o j q w n st → EndsFault depth r table t m o
+  ends-fault : (j q w n : ℕ) → st .end ≡ fault j q w n → FaultEnd tree H root tbl o j q w n st → EndsFault depth r table t m o
   unfolding kOf nOf layerOf equationOf
   ends-fault j q w n z x =
       let k = x .taken in
@@ -518,7 +518,7 @@ module _ (depth : ℕ) (r table t m o : List ℕ) (e : repairTested depth r tabl
         out-rest = x .out-rest;
       }
 
-  ends-unavailable : (j : ℕ) → st .end ≡ unavailable j → UnavailableEnd tree (symbolHash Plain) root tbl t m o j st → EndsUnavailable depth r table t m o
+  ends-unavailable : (j : ℕ) → st .end ≡ unavailable j → UnavailableEnd tree H root tbl t m o j st → EndsUnavailable depth r table t m o
   unfolding kOf nOf Stopping layerOf equationOf
   ends-unavailable j q x =
       let lj : j < depth = omega (arith, in-depth, x .last) in
@@ -546,8 +546,8 @@ module _ (depth : ℕ) (r table t m o : List ℕ) (e : repairTested depth r tabl
         out-untouched = x .out-kept;
       }
 
-  ends-twins : (j n : ℕ) → st .end ≡ twins j n → TwinsEnd tree (symbolHash Plain) root tbl o j n st → EndsTwins depth r table t m o
-  unfolding symbolIn bytesFrom symbolHash layerOf equationOf
+  ends-twins : (j n : ℕ) → st .end ≡ twins j n → TwinsEnd tree H root tbl o j n st → EndsTwins depth r table t m o
+  unfolding symbolIn bytesFrom layerOf equationOf
   ends-twins j n q x =
       let k = x .taken in
       let v : ℕ = x .equation in
@@ -583,7 +583,7 @@ module _ (depth : ℕ) (r table t m o : List ℕ) (e : repairTested depth r tabl
   abbrev Others : Type 0
   Others = EndsFault depth r table t m o ⊎ (EndsUnavailable depth r table t m o ⊎ EndsTwins depth r table t m o)
 
-  four : (z : End) → st .end ≡ z → EndOk tree (symbolHash Plain) root tbl t m o st z → WholeTree depth r table t m o ⊎ Others
+  four : (z : End) → st .end ≡ z → EndOk tree H root tbl t m o st z → WholeTree depth r table t m o ⊎ Others
   four working q x = absurd x
   four whole q x = inl (whole-tree q x)
   four (fault j v w n) q x = inr (inl (ends-fault j v w n q x))

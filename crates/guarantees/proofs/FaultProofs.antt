@@ -11,18 +11,16 @@ use borrow.Author.Tests.{eqb-true, eq-eqb, le-leb}
 use Rattle.octets.specs.Choice.{pick}
 use Rattle.octets.specs.ByteLists.{same}
 use Rattle.octets.proofs.Choice.{by-test, pick-no, pick-ind, yes-and, both, not-yes, not-no}
-use Rattle.sha256.specs.Hash.{sha256}
 use Rattle.parity_table.specs.Shape.{depthFits}
 use Rattle.parity_table.specs.Table.{layerOf, equationOf, TableOk, WellFormed}
 use Rattle.table_bytes.specs.Bytes.{wordsOf}
 use Rattle.parity_table.specs.Reader.{readOf}
 use Rattle.parity_table.specs.declared.Answer.the-variants.{Whole}
 use Rattle.parity_table.proofs.Shape.{depth-is}
-use Rattle.parity_table.proofs.Accepts.{accepted-formed, formed-accepted, accepted-table}
-use Rattle.coverage.proofs.Right.{covered-found, found-covered}
+use Rattle.parity_table.proofs.Accepts.{accepted-formed, accepted-table}
+use Rattle.coverage.proofs.Right.{found-covered}
 use Rattle.parity_table.proofs.Parse.{formed-rules}
 use Rattle.symbol_hash.specs.SymbolHash.{symbolHash}
-use Rattle.symbol_hash.specs.declared.Kind.the-variants.{Plain}
 use Rattle.model.specs.Shape.{tree}
 use Rattle.model.specs.Climb.{Ways, allLead, breakAt}
 use Rattle.model.specs.Fault.{proofLayer, proofMembers, proofLength, body, givenXor, afterGiven, headOk, Verdict, accepted, noFault, ruling, waysCheck, pathHash, proofCheck, withheldFits, verdict, InGiven, InPath, ProofHolds}
@@ -35,11 +33,12 @@ use Rattle.calls.specs.declared.Answer.{Answer}
 use Rattle.calls.specs.declared.Answer.the-variants.{Done, Stopped}
 use Rattle.calls.specs.Stops.{numberOf, valuesOf}
 use Rattle.fault_calls.specs.Checking.{proofSized, judged, proofChecked}
-use Rattle.root_record.specs.Records.{rootIn}
+use Rattle.root_record.specs.Records.{kindIn, rootIn}
 use Rattle.calls.proofs.AdmissionLaws.{TableTaken}
 use Rattle.calls.proofs.RecordLaws.{admits-by}
 use Rattle.fault_calls.proofs.CheckingLaws.{sizes, judged-so, passed}
-use Rattle.guarantees.specs.Layouts.{bytesFrom, hashFor, XorOf, rootPart}
+use Rattle.guarantees.specs.Layouts.{bytesFrom, hashFor, XorOf, kindNo, rootPart}
+use Rattle.guarantees.specs.Trees.{Hasher, hashBy}
 use Rattle.guarantees.specs.Refusals.{TableLength, HeadRight, NamesTable}
 use Rattle.guarantees.specs.Answers.{Answered, done, test, unless, two, Just}
 use Rattle.guarantees.specs.Terms.{equationsOf}
@@ -47,7 +46,8 @@ use Rattle.guarantees.specs.FaultProofs.{givenSymbol, Named, given, Exac
 use Rattle.guarantees.proofs.Answers.{all-done, stops-unless, stops-two, passes-unless, passes-two}
 use Rattle.guarantees.specs.Tables.{AllInTwo}
 use Rattle.guarantees.proofs.Tables.{rules-ok, right-formed, formed-right, covered-all, all-covered}
-use Rattle.guarantees.proofs.Refusals.{depth-fits, table-long, long-table, by-admitted-by}
+use Rattle.guarantees.proofs.Refusals.{depth-fits, table-long, taken-so, by-admitted-by}
+use Rattle.guarantees.proofs.Trees.{hash-in}
 use Rattle.guarantees.proofs.Records.{head-right, right-head, names-table, table-named}
 use Rattle.guarantees.proofs.Layouts.{xor-one}
 use Rattle.guarantees.proofs.ProofPlaces.{fromMember, given-xor-of, given-held, held-given, way-leads, leads-way, way-broken, broken-way, way-held, held-way, path-leads, leads-path, path-broken, broken-path, path-hash, path-held, held-path}
@@ -75,7 +75,7 @@ module _ (depth : ℕ) (tbl : List (List (List ℕ))) (b : List ℕ) (shallow : 
       ⊎-elim
       (λ y.
       let (p, k, w) = given-held b j l m s (given h) 12 y in
-      let (u, up, e) = way-held [] b j p (getD (given h) p 0) l m s w in
+      let (u, up, e) = way-held b j p (getD (given h) p 0) l m s w in
       inl (p, u, k, up, e))
       (λ y. inr (path-held b l m s j g (h .withheld) (subst (λ (c : List ℕ). InPath tree j (h .withheld) c l m s) path-there y)))
       (as-named depth tbl b shallow o h
@@ -85,75 +85,75 @@ module _ (depth : ℕ) (tbl : List (List (List ℕ))) (b : List ℕ) (shallow : 
   unfolding ProofHolds body
   named-held l m s x =
       as-read depth tbl b shallow o h (λ i y ys. InGiven tree i ys (drop 12 b) l m s ⊎ InPath tree i y (afterGiven i ys (drop 12 b)) l m s)
-      (⊎-elim (λ (p, u, k, up, e). inl (held-given b j l m s (given h) 12 p k (held-way [] b j p (getD (given h) p 0) l m s u up e)))
+      (⊎-elim (λ (p, u, k, up, e). inl (held-given b j l m s (given h) 12 p k (held-way b j p (getD (given h) p 0) l m s u up e)))
       (λ (u, a, up, e). inr (subst (λ (c : List ℕ). InPath tree j (h .withheld) c l m s) (sym path-there) (held-path b l m s j g (h .withheld) u a up e)))
       x)
 
   -- ---- its hashes
 
-  module _ (root : List ℕ) where
+  module _ (H : Hasher) (root : List ℕ) where
     abbrev checks : Ways → ℕ → ℕ → List ℕ → Type 0
-    checks w i y ys = waysCheck tree (symbolHash Plain) root i y 0 ys (drop 12 b) ≡ w
+    checks w i y ys = waysCheck tree H root i y 0 ys (drop 12 b) ≡ w
 
     -- what the check says of the ways that are named, and what they say of it
     abbrev Say : Ways → Type 0
-    Say w = WaysSay tree (symbolHash Plain) root b j (h .withheld) (given h) 12 0 w
+    Say w = WaysSay tree H root b j (h .withheld) (given h) 12 0 w
 
-    say-named : (w : Ways) → proofCheck tree (symbolHash Plain) root tbl b ≡ w → Say w
+    say-named : (w : Ways) → proofCheck tree H root tbl b ≡ w → Say w
     unfolding proofCheck body
     say-named w e =
-        subst Say (as-named depth tbl b shallow o h (checks w) e) (ways-say tree (symbolHash Plain) root b j (h .withheld) (given h) 12 0)
+        subst Say (as-named depth tbl b shallow o h (checks w) e) (ways-say tree H root b j (h .withheld) (given h) 12 0)
 
-    named-say : (w : Ways) → Say w → proofCheck tree (symbolHash Plain) root tbl b ≡ w
+    named-say : (w : Ways) → Say w → proofCheck tree H root tbl b ≡ w
     unfolding proofCheck body
-    named-say w s = as-read depth tbl b shallow o h (checks w) (ways-are tree (symbolHash Plain) root b j (h .withheld) (given h) 12 0 w s)
+    named-say w s = as-read depth tbl b shallow o h (checks w) (ways-are tree H root b j (h .withheld) (given h) 12 0 w s)
 
-    lead-named : proofCheck tree (symbolHash Plain) root tbl b ≡ allLead → AllLead root h
+    lead-named : proofCheck tree H root tbl b ≡ allLead → AllLead H root h
     lead-named e =
         let s = say-named allLead e in
         record {
-          given-lead = λ p k. way-leads root b j p (getD (given h) p 0) (s .given p k);
-          withheld-leads = path-leads root b j g (h .withheld) (s .path);
+          given-lead = λ p k. way-leads H root b j p (getD (given h) p 0) (s .given p k);
+          withheld-leads = path-leads H root b j g (h .withheld) (s .path);
         }
 
-    named-lead : AllLead root h → proofCheck tree (symbolHash Plain) root tbl b ≡ allLead
+    named-lead : AllLead H root h → proofCheck tree H root tbl b ≡ allLead
     named-lead a =
         named-say allLead
         (record {
-          given = λ p k. leads-way root b j p (getD (given h) p 0) (a .given-lead p k);
-          path = leads-path root b j g (h .withheld) (a .withheld-leads);
+          given = λ p k. leads-way H root b j p (getD (given h) p 0) (a .given-lead p k);
+          path = leads-path H root b j g (h .withheld) (a .withheld-leads);
         })
 
-    break-named : (l p : ℕ) → proofCheck tree (symbolHash Plain) root tbl b ≡ breakAt l p → ProofBreaks root h l p
+    break-named : (l p : ℕ) → proofCheck tree H root tbl b ≡ breakAt l p → ProofBreaks H root h l p
     break-named l p e =
         let (q, at, t) = say-named (breakAt l p) e in
         let is : q ≡ p = omega arith in
-        let s = subst (FirstBreaks tree (symbolHash Plain) root b j (h .withheld) (given h) 12 l) is t in
+        let s = subst (FirstBreaks tree H root b j (h .withheld) (given h) 12 l) is t in
         record {
-          lead-before = λ r k. way-leads root b j r (getD (given h) r 0) (s .before r k);
+          lead-before = λ r k. way-leads H root b j r (getD (given h) r 0) (s .before r k);
           breaks =
-              ⊎-elim (λ (k, c). inl (k, way-broken root b j p (getD (given h) p 0) l c))
-              (λ (k, c). let (a, w) = path-broken root b j g (h .withheld) l c in inr (k, a, w)) (s .here);
+              ⊎-elim (λ (k, c). inl (k, way-broken H root b j p (getD (given h) p 0) l c))
+              (λ (k, c). let (a, w) = path-broken H root b j g (h .withheld) l c in inr (k, a, w)) (s .here);
         }
 
-    named-break : (l p : ℕ) → ProofBreaks root h l p → proofCheck tree (symbolHash Plain) root tbl b ≡ breakAt l p
+    named-break : (l p : ℕ) → ProofBreaks H root h l p → proofCheck tree H root tbl b ≡ breakAt l p
     named-break l p x =
         named-say (breakAt l p) (
           p,
           omega arith,
           record {
-            before = λ r k. leads-way root b j r (getD (given h) r 0) (x .lead-before r k);
+            before = λ r k. leads-way H root b j r (getD (given h) r 0) (x .lead-before r k);
             here =
-                ⊎-elim (λ (k, c). inl (k, broken-way root b j p (getD (given h) p 0) l c))
-                (λ (k, a, w). inr (k, broken-path root b j g (h .withheld) l (a, w))) (x .breaks);
+                ⊎-elim (λ (k, c). inl (k, broken-way H root b j p (getD (given h) p 0) l c))
+                (λ (k, a, w). inr (k, broken-path H root b j g (h .withheld) l (a, w))) (x .breaks);
           },
         )
 
     -- one or the other
-    pub leads-or-breaks : AllLead root h ⊎ ((l : ℕ) × (p : ℕ) × ProofBreaks root h l p)
-    leads-or-breaks = go (proofCheck tree (symbolHash Plain) root tbl b) refl
+    pub leads-or-breaks : AllLead H root h ⊎ ((l : ℕ) × (p : ℕ) × ProofBreaks H root h l p)
+    leads-or-breaks = go (proofCheck tree H root tbl b) refl
       where
-        go : (w : Ways) → proofCheck tree (symbolHash Plain) root tbl b ≡ w → AllLead root h ⊎ ((l : ℕ) × (p : ℕ) × ProofBreaks root h l p)
+        go : (w : Ways) → proofCheck tree H root tbl b ≡ w → AllLead H root h ⊎ ((l : ℕ) × (p : ℕ) × ProofBreaks H root h l p)
         go allLead e = inl (lead-named e)
         go (breakAt l p) e = inr (l, p, break-named l p e)
 
@@ -167,30 +167,30 @@ module _ (depth : ℕ) (tbl : List (List (List ℕ))) (b : List ℕ) (shallow : 
           (omega (arith, ap (λ (n : ℕ). n * (j + 1)) (named-fitting depth tbl b shallow o h .given-count)))
           (λ p. let e : 12 + 256 * (p * (j + 1) + 0) ≡ 12 + 256 * (p * suc j) = omega arith in ap (λ (n : ℕ). bytesFrom b n 256) e)
 
-      committed-is : pathHash tree root j (h .withheld) (afterGiven j (given h) (drop 12 b)) ≡ hashFor root (path root h) j (h .withheld)
-      committed-is = ap (pathHash tree root j (h .withheld)) path-there ∙ path-hash root b j g (h .withheld)
+      committed-is : pathHash tree root j (h .withheld) (afterGiven j (given h) (drop 12 b)) ≡ hashFor root (path H root h) j (h .withheld)
+      committed-is = ap (pathHash tree root j (h .withheld)) path-there ∙ path-hash H root b j g (h .withheld)
 
       equals : ℕ → ℕ → List ℕ → Type 0
-      equals i y ys = same (symbolHash Plain i y (givenXor i ys (drop 12 b))) (pathHash tree root i y (afterGiven i ys (drop 12 b))) ≡ true
+      equals i y ys = same (H i y (givenXor i ys (drop 12 b))) (pathHash tree root i y (afterGiven i ys (drop 12 b))) ≡ true
 
-      fits-named : withheldFits tree (symbolHash Plain) root tbl b ≡ true → Fits root h
-      unfolding withheldFits body equals symbolHash
+      fits-named : withheldFits tree H root tbl b ≡ true → Fits H root h
+      unfolding withheldFits body equals
       fits-named t s y =
-          ap sha256 (xor-one _ g s _ y xor-is) ∙ same-yes _ _ (as-named depth tbl b shallow o h equals t) ∙ committed-is
+          ap (H j (h .withheld)) (xor-one _ g s _ y xor-is) ∙ same-yes _ _ (as-named depth tbl b shallow o h equals t) ∙ committed-is
 
-      named-fits : Fits root h → withheldFits tree (symbolHash Plain) root tbl b ≡ true
-      unfolding withheldFits body equals symbolHash
+      named-fits : Fits H root h → withheldFits tree H root tbl b ≡ true
+      unfolding withheldFits body equals
       named-fits f = as-read depth tbl b shallow o h equals (yes-same (f _ xor-is ∙ sym committed-is))
 
 -- two readings of one head
-module _ (depth : ℕ) (tbl : List (List (List ℕ))) (b : List ℕ) (shallow : depth ≤ 9) (o : TableOk depth tbl) (h z : Named depth tbl b) (root : List ℕ) (l p : ℕ) where
-  pub breaks-as : ProofBreaks root h l p → ProofBreaks root z l p
-  breaks-as k = break-named depth tbl b shallow o z root l p (named-break depth tbl b shallow o h root l p k)
+module _ (depth : ℕ) (tbl : List (List (List ℕ))) (b : List ℕ) (shallow : depth ≤ 9) (o : TableOk depth tbl) (h z : Named depth tbl b) (H : Hasher) (root : List ℕ) (l p : ℕ) where
+  pub breaks-as : ProofBreaks H root h l p → ProofBreaks H root z l p
+  breaks-as k = break-named depth tbl b shallow o z H root l p (named-break depth tbl b shallow o h H root l p k)
 
-  pub never-both : AllLead root h → ProofBreaks root z l p → ⊥
+  pub never-both : AllLead H root h → ProofBreaks H root z l p → ⊥
   never-both a k =
-      let e = named-lead depth tbl b shallow o h root a in
-      let f = named-break depth tbl b shallow o z root l p k in
+      let e = named-lead depth tbl b shallow o h H root a in
+      let f = named-break depth tbl b shallow o z H root l p k in
       let zero-one : _≡_ {A = ℕ} 0 1 = cc in
       omega arith
 
@@ -200,6 +200,9 @@ module _ (depth : ℕ) (r table b : List ℕ) where
   abbrev root : List ℕ
   root = rootPart r
 
+  abbrev H : Hasher
+  H = hashBy (kindNo r 0)
+
   abbrev ws : List ℕ
   ws = wordsOf table
 
@@ -208,10 +211,10 @@ module _ (depth : ℕ) (r table b : List ℕ) where
 
   -- the tests, from each of them on
   abbrev pub from8 : Answered
-  from8 = test 8 (unless ((h : Named depth tbl b) × (Fits root h → ⊥))) done
+  from8 = test 8 (unless ((h : Named depth tbl b) × (Fits H root h → ⊥))) done
 
   abbrev pub from7 : Answered
-  from7 = test 7 (two (λ l p. (h : Named depth tbl b) × ProofBreaks root h l p)) from8
+  from7 = test 7 (two (λ l p. (h : Named depth tbl b) × ProofBreaks H root h l p)) from8
 
   abbrev from2 : Answered
   from2 = test 2 (unless ((h : Named depth tbl b) × Exact h)) from7
@@ -244,12 +247,12 @@ module _ (depth : ℕ) (r table b : List ℕ) where
       exact-of : (z : Named depth tbl b) → Exact z
       exact-of z = x ∙ length-named depth tbl b (dr .1) rules z
 
-      at-8 : AllLead root h → Judged from8 (pick (withheldFits tree (symbolHash Plain) root tbl b) noFault accepted)
+      at-8 : AllLead H root h → Judged from8 (pick (withheldFits tree H root tbl b) noFault accepted)
       at-8 a =
-          pick-ind (Judged from8) (withheldFits tree (symbolHash Plain) root tbl b)
-          (λ t. stop NoFault 7 _ done refl refl (λ (z, n). n (fits-named depth tbl b (dr .1) rules z root (exact-of z) t)))
+          pick-ind (Judged from8) (withheldFits tree H root tbl b)
+          (λ t. stop NoFault 7 _ done refl refl (λ (z, n). n (fits-named depth tbl b (dr .1) rules z H root (exact-of z) t)))
           (λ t.
-          let n : Fits root h → ⊥ = λ y. both (named-fits depth tbl b (dr .1) rules h root (exact-of h) y) t in
+          let n : Fits H root h → ⊥ = λ y. both (named-fits depth tbl b (dr .1) rules h H root (exact-of h) y) t in
           pass Done 8 _ done (h, n)
           (record {
             just = all-done;
@@ -269,22 +272,22 @@ module _ (depth : ℕ) (r table b : List ℕ) where
             };
           }))
 
-      at-7 : (w : Ways) → proofCheck tree (symbolHash Plain) root tbl b ≡ w → Judged from7 (ruling w (withheldFits tree (symbolHash Plain) root tbl b))
+      at-7 : (w : Ways) → proofCheck tree H root tbl b ≡ w → Judged from7 (ruling w (withheldFits tree H root tbl b))
       unfolding ruling
       at-7 allLead e =
-          let rest = at-8 (lead-named depth tbl b (dr .1) rules h root e) in
+          let rest = at-8 (lead-named depth tbl b (dr .1) rules h H root e) in
           record {
-            just = passes-two (λ l p (z, k). let q = named-break depth tbl b (dr .1) rules z root l p k in let zero-one : _≡_ {A = ℕ} 0 1 = cc in omega arith) (rest .just);
+            just = passes-two (λ l p (z, k). let q = named-break depth tbl b (dr .1) rules z H root l p k in let zero-one : _≡_ {A = ℕ} 0 1 = cc in omega arith) (rest .just);
             only = rest .only;
           }
       at-7 (breakAt l p) e =
           record {
-            just = stops-two l p (h, break-named depth tbl b (dr .1) rules h root l p e)
-                (λ m q (z, k). let t = named-break depth tbl b (dr .1) rules z root m q k in (cc, cc));
+            just = stops-two l p (h, break-named depth tbl b (dr .1) rules h H root l p e)
+                (λ m q (z, k). let t = named-break depth tbl b (dr .1) rules z H root m q k in (cc, cc));
             only = λ f. absurd (omega (arith, ap numberOf f));
           }
 
-    at-6 : Judged from6 (verdict tree (symbolHash Plain) root tbl b)
+    at-6 : Judged from6 (verdict tree H root tbl b)
     unfolding verdict
     at-6 =
         pick-ind (Judged from6) (not (headOk tbl b))
@@ -298,10 +301,10 @@ module _ (depth : ℕ) (r table b : List ℕ) where
         (λ (z, x). both (eq-eqb (length b) n (x ∙ sym (length-named depth tbl b (dr .1) rules z))) (not-yes (eqb (length b) n) u)))
         (λ u.
         let x : length b ≡ n = eqb-true (length b) n (not-no (eqb (length b) n) u) in
-        pass _ 2 _ from7 (h, exact-of h x h) (at-7 h x (proofCheck tree (symbolHash Plain) root tbl b) refl))))
+        pass _ 2 _ from7 (h, exact-of h x h) (at-7 h x (proofCheck tree H root tbl b) refl))))
 
   abbrev ruled : Answer
-  ruled = judged (verdict tree (symbolHash Plain) root tbl b)
+  ruled = judged (verdict tree (symbolHash (kindIn r)) root tbl b)
 
   -- the lengths of record, proof and table
   abbrev own : Bool
@@ -319,7 +322,8 @@ module _ (depth : ℕ) (r table b : List ℕ) where
   unfolding proofChecked rootIn
   checked =
       by-admitted-by depth (ProofLengths r table b) own r table ruled lengths-own own-lengths
-      (λ f lr hr w c n. at-6 (depth-is depth f) lr hr (right-formed depth ws w) c n .just)
+      (λ f lr hr w c n.
+      subst (λ (h : Hasher). Just (judged (verdict tree h root tbl b)) from6) (hash-in r) (at-6 (depth-is depth f) lr hr (right-formed depth ws w) c n .just))
 
   accepted-right : proofChecked depth r table b ≡ Done → ProofRight depth r table b
   unfolding rootIn
@@ -330,7 +334,7 @@ module _ (depth : ℕ) (r table b : List ℕ) where
       at-6 (depth-is depth (t .deep)) (lengths-own (k .lengths) (table-long table (t .length-fits))) (head-right depth r (k .head))
       (accepted-formed depth ws (t .accepted) .1)
       (covered-all depth tbl (found-covered depth tbl (accepted-table depth ws (t .accepted)) (t .covered))) (names-table r table (k .named)) .only
-      (ap judged (p .accepts))
+      (ap judged (ap (λ (h : Hasher). verdict tree h root tbl b) (hash-in r) ∙ p .accepts))
 
   -- a right proof is accepted
   right-done : ProofRight depth r table b → proofChecked depth r table b ≡ Done
@@ -339,24 +343,19 @@ module _ (depth : ℕ) (r table b : List ℕ) where
       let y = x .ready in
       let t : depthFits depth ≡ true = depth-fits depth (y .depth-right) in
       let lr = y .lengths-right in
-      let whole : readOf depth ws ≡ Whole = formed-accepted depth ws t (right-formed depth ws (y .table-right)) in
       let o : TableOk depth tbl = formed-rules depth ws (right-formed depth ws (y .table-right)) (y .depth-right .1) in
       let h = y .named in
-      let unfit : withheldFits tree (symbolHash Plain) root tbl b ≡ false =
-      by-test (withheldFits tree (symbolHash Plain) root tbl b) (λ u. absurd (x .differs (fits-named depth tbl b (y .depth-right .1) o h root (y .exact) u))) (λ u. u) in
-      let k : TableTaken depth table = record {
-        deep = t;
-        length-fits = long-table table (lr .table-length);
-        accepted = whole;
-        covered = covered-found depth tbl o (all-covered depth tbl (y .table-covered));
-      } in
+      let unfit : withheldFits tree H root tbl b ≡ false =
+      by-test (withheldFits tree H root tbl b) (λ u. absurd (x .differs (fits-named depth tbl b (y .depth-right .1) o h H root (y .exact) u))) (λ u. u) in
+      let k : TableTaken depth table = taken-so depth table t (lr .table-length) (y .table-right) (y .table-covered) in
       sym (judged-so depth r table b
       (admits-by depth own r table
       (record { lengths = own-lengths lr .0; head = right-head depth r (y .head-right); taken = k; named = table-named r table (y .table-named) })))
       ∙ ap judged
-      (pick-no _ _ _ (ap not (named-ok depth tbl b (y .depth-right .1) o h))
+      (ap (λ (h : Hasher). verdict tree h root tbl b) (sym (hash-in r))
+      ∙ pick-no _ _ _ (ap not (named-ok depth tbl b (y .depth-right .1) o h))
       ∙ pick-no _ _ _ (ap not (eq-eqb (length b) _ (y .exact ∙ sym (length-named depth tbl b (y .depth-right .1) o h))))
-      ∙ ap₂ ruling (named-lead depth tbl b (y .depth-right .1) o h root (x .all-lead)) unfit
+      ∙ ap₂ ruling (named-lead depth tbl b (y .depth-right .1) o h H root (x .all-lead)) unfit
       ∙ pick-no false _ _ refl)
 
 accepts-just-when : AcceptsProofJustWhen

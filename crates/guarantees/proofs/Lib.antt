@@ -6,6 +6,7 @@ pub mod Trees
 pub mod Membership
 pub mod Marks
 pub mod Records
+pub mod Whole
 pub mod Refusals
 pub mod ProofPlaces
 pub mod ProofHeads
@@ -25,3 +26,5 @@ pub mod Pages
 pub mod Change4
 pub mod Change5
 pub mod Change6
+pub mod Recoding
+pub mod Change7

@@ -30,6 +30,7 @@ use Rattle.house_table.proofs.HouseRules.{house-rules}
 use Rattle.house_table.proofs.HouseCovered.{house-mentions}
 use Rattle.table_bytes.proofs.RoundTrip.{every-append, table-bytes-say}
 use Rattle.symbol_hash.specs.SymbolHash.{symbolHash}
+use Rattle.symbol_hash.specs.declared.Kind.{Kind}
 use Rattle.symbol_hash.specs.declared.Kind.the-variants.{Plain}
 use Rattle.heads.specs.Heads.{head}
 use Rattle.model.specs.Shape.{tree}
@@ -43,8 +44,8 @@ use Rattle.model.proofs.FaultWriter.{GoodProof, proof-good}
 use Rattle.model.proofs.Sound.{accepted-is}
 use Rattle.calls.specs.declared.Answer.the-variants.{Done}
 use Rattle.fault_calls.specs.Checking.{proofSized, judged, proofChecked}
-use Rattle.root_record.specs.Records.{recordOf, rootIn, headRight, namesTable}
-use Rattle.root_record.proofs.RecordLaws.{record-length, record-root, record-right, record-names}
+use Rattle.root_record.specs.Records.{recordOf, kindIn, rootIn, headRight, namesTable}
+use Rattle.root_record.proofs.RecordLaws.{record-length, record-kind, record-root, record-right, record-names}
 use Rattle.calls.proofs.AdmissionLaws.{TableTaken}
 use Rattle.calls.proofs.RecordLaws.{admits-by}
 use Rattle.calls.proofs.Taken.{taken-table}
@@ -381,28 +382,32 @@ module _ (a : ℕ) (some : 1 ≤ a) (few : a ≤ 7) where
       let ms : proofMembers wide proof ≡ eight = ap₂ (equationOf wide) (g .layer-is) (g .equation-is) ∙ wide-eight in
       accepted-is tree (symbolHash Plain) root wide proof (g .accepts) .exact ∙ ap₂ (λ (j : ℕ) (l : List ℕ). proofLength j (length l)) (g .layer-is) ms
 
-  -- the record of this root and table; the length of the block doesn't matter
+  -- the record of this root and table, of the plain kind; the length of the block doesn't matter
   root-record : List ℕ
-  root-record = recordOf depth 0 table root
+  root-record = recordOf Plain depth 0 table root
 
   record-full : length root-record ≡ 556
   unfolding root-record
-  record-full = record-length depth 0 table root root-length
+  record-full = record-length Plain depth 0 table root root-length
 
   root-is : rootIn root-record ≡ root
   unfolding root-record
-  root-is = record-root depth 0 table root
+  root-is = record-root Plain depth 0 table root
 
   count-small : length table / 4 < 2 ^ 30
   count-small = omega (arith, table-long table (taken .length-fits) .not-over)
 
+  kind-is : kindIn root-record ≡ Plain
+  unfolding root-record
+  kind-is = record-kind Plain depth 0 table root deep (omega arith) count-small
+
   head-so : headRight depth root-record ≡ true
   unfolding root-record
-  head-so = record-right depth 0 table root deep (omega arith) count-small
+  head-so = record-right Plain depth 0 table root deep (omega arith) count-small
 
   named-so : namesTable root-record table ≡ true
   unfolding root-record
-  named-so = record-names depth 0 table root deep (omega arith) count-small
+  named-so = record-names Plain depth 0 table root deep (omega arith) count-small
 
   checked : proofChecked depth root-record table proof ≡ Done
   unfolding proofLength
@@ -415,6 +420,7 @@ module _ (a : ℕ) (some : 1 ≤ a) (few : a ≤ 7) where
         taken = taken;
         named = named-so;
       })))
+      ∙ ap (λ (k : Kind). judged (verdict tree (symbolHash k) (rootIn root-record) (equationsOf table) proof)) kind-is
       ∙ ap₂ (λ (x : List ℕ) (tbl : List (List (List ℕ))). judged (verdict tree (symbolHash Plain) x tbl proof)) root-is says
       ∙ ap judged (good .accepts)
 

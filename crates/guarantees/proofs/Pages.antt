@@ -10,7 +10,6 @@ use lib.ListN.{length}
 use Rattle.octets.specs.ByteLists.{same}
 use Rattle.octets.proofs.ListLaws.{length-part}
 use Rattle.octets.proofs.Choice.{by-test, both}
-use Rattle.sha256.specs.Hash.{sha256}
 use Rattle.parity_table.specs.Shape.{kOf, nOf}
 use Rattle.model.specs.Shape.{tree}
 use Rattle.model.specs.Sampling.{sampleNumber, dataNo}
@@ -18,7 +17,7 @@ use Rattle.model.proofs.Shapes.{tree-ok}
 use Rattle.octets.proofs.SameLaws.{same-yes, yes-same}
 use Rattle.model.proofs.Samples.{data-layer, data-number, data-under, places-are}
 use Rattle.guarantees.specs.Layouts.{bytesFrom, symbolNo, dataSymbols, allSymbols, spread, hashFor, sampledLayer, sampledNumber, upFrom}
-use Rattle.guarantees.specs.Trees.{AgreesWith, Twins}
+use Rattle.guarantees.specs.Trees.{Hasher, AgreesWith, Twins}
 use Rattle.guarantees.specs.Refusals.{SampleLength, InBase, SampleFits}
 use Rattle.guarantees.specs.Demand2.{SampleCollides}
 use Rattle.guarantees.specs.Change4.{SampleHasThere, WayHasThere, WayPage}
@@ -41,8 +40,8 @@ up-step j i u h =
     let c : j - (j - suc u) ≡ suc u = omega arith in
     ap (upFrom j i) a ∙ ap (λ (n : ℕ). upFrom j i (j - suc u) % spread n) c
 
-module _ (d : ℕ) (tbl : List (List (List ℕ))) (root : List ℕ) (f : ℕ → ℕ → List ℕ) (agr : AgreesWith d tbl root f) where
-  tree-hash : (l m : ℕ) → l < d → m < allSymbols l → sha256 (f l m) ≡ hashFor root f l m
+module _ (H : Hasher) (d : ℕ) (tbl : List (List (List ℕ))) (root : List ℕ) (f : ℕ → ℕ → List ℕ) (agr : AgreesWith H d tbl root f) where
+  pub tree-hash : (l m : ℕ) → l < d → m < allSymbols l → H l m (f l m) ≡ hashFor root f l m
   unfolding hashFor
   tree-hash zero m hl hm = sym (agr .root-of .hashes m hm)
   tree-hash (suc j) m hl hm = sym (agr .correctly-coded .hashes-stand j m hl hm)
@@ -54,20 +53,20 @@ module _ (d : ℕ) (tbl : List (List (List ℕ))) (root : List ℕ) (f : ℕ →
   hash-above w (suc j) m e = ap (λ (s : List ℕ). bytesFrom s (32 * (m / spread (suc j))) 32) (sym (e j refl))
 
   fits : (w : ℕ → List ℕ) (l m : ℕ) (s : List ℕ) → l < d → m < allSymbols l → s ≡ f l m → ((u : ℕ) → suc u ≡ l → w u ≡ f u (m % spread l))
-      → sha256 s ≡ hashFor root (λ u n. w u) l m
-  fits w l m s hl hm e above = ap sha256 e ∙ tree-hash l m hl hm ∙ hash-above w l m above
+      → H l m s ≡ hashFor root (λ u n. w u) l m
+  fits w l m s hl hm e above = ap (H l m) e ∙ tree-hash l m hl hm ∙ hash-above w l m above
 
   -- ---- symbols w by layer, with the numbers m, of the layers above `top`: where each has the committed hash, each is the tree's, or one shows a collision
 
   module _ (w : ℕ → List ℕ) (m : ℕ → ℕ) (top : ℕ) (deep : top ≤ d) (low : (u : ℕ) → u < top → m u < allSymbols u)
       (up : (u : ℕ) → suc u < top → m u ≡ m (suc u) % spread (suc u)) (sized : (u : ℕ) → u < top → length (w u) ≡ 256)
-      (fit : (u : ℕ) → u < top → sha256 (w u) ≡ hashFor root (λ q n. w q) u (m u)) where
+      (fit : (u : ℕ) → u < top → H u (m u) (w u) ≡ hashFor root (λ q n. w q) u (m u)) where
     -- the symbol above layer l is the tree's
     abbrev pub Above : ℕ → Type 0
     Above l = (u : ℕ) → suc u ≡ l → w u ≡ f u (m u)
 
     abbrev pub Collision : Type 0
-    Collision = (u : ℕ) × (u < top) × Twins (w u) (f u (m u))
+    Collision = (u : ℕ) × (u < top) × Twins H u (m u) (w u) (f u (m u))
 
     own-or : (u : ℕ) → u < top → Above u → (w u ≡ f u (m u)) ⊎ Collision
     own-or u h above =
@@ -105,7 +104,7 @@ module _ (d : ℕ) (tbl : List (List (List ℕ))) (root : List ℕ) (f : ℕ →
     unfolding dataNo kOf
     data-at-number u k = sampled-number d i (dataAt u) ∙ data-number tree d i u k
 
-    pub sample-fits : SampleHasThere d i s f x → SampleFits d i root s x
+    pub sample-fits : SampleHasThere d i s f x → SampleFits H d i root s x
     unfolding dataNo kOf nOf
     sample-fits t =
         let l : ℕ = sampledLayer d x in
@@ -118,8 +117,8 @@ module _ (d : ℕ) (tbl : List (List (List ℕ))) (root : List ℕ) (f : ℕ →
         t .above u e ∙ ap (f u) (sym (ap₂ (λ (a b : ℕ). a % b) (sampled-number d i x) (ap spread (sym e) ∙ spread-is u) ∙ up)))
 
     -- the same where each data symbol above it has the committed hash
-    pub sample-alone : SampleLength d s → (SampleFits d i root s x → ⊥) → ((u : ℕ) → u < sampledLayer d x → SampleFits d i root s (dataAt u))
-        → (symbolNo s x ≢ f (sampledLayer d x) (sampledNumber d i x)) ⊎ SampleCollides d i s f
+    pub sample-alone : SampleLength d s → (SampleFits H d i root s x → ⊥) → ((u : ℕ) → u < sampledLayer d x → SampleFits H d i root s (dataAt u))
+        → (symbolNo s x ≢ f (sampledLayer d x) (sampledNumber d i x)) ⊎ SampleCollides H d i s f
     unfolding dataNo kOf nOf bytesFrom
     sample-alone full wrong fit =
         let deep : sampledLayer d x < d = omega (arith, sampled-layer d x, places-are tree tree-ok i d some base x h .0 .0) in
@@ -127,16 +126,16 @@ module _ (d : ℕ) (tbl : List (List (List ℕ))) (root : List ℕ) (f : ℕ →
         (λ (u, k, twins). inr (record {
           index = dataAt u;
           inside = omega arith;
-          collide = subst (λ (n : ℕ). Twins (symbolNo s (dataAt u)) (f n (sampledNumber d i (dataAt u)))) (sym (data-at-layer u (omega arith)))
-              (subst (λ (n : ℕ). Twins (symbolNo s (dataAt u)) (f u n)) (sym (data-at-number u (omega arith))) twins);
+          collide = subst (λ (n : ℕ). Twins H n (sampledNumber d i (dataAt u)) (symbolNo s (dataAt u)) (f n (sampledNumber d i (dataAt u)))) (sym (data-at-layer u (omega arith)))
+              (subst (λ (n : ℕ). Twins H u n (symbolNo s (dataAt u)) (f u n)) (sym (data-at-number u (omega arith))) twins);
         }))
         (above-or (λ q. symbolNo s (dataAt q)) (λ q. i % dataSymbols q) (sampledLayer d x) (omega arith)
         (λ u k. omega (arith, mod-lt i {m = kOf u} (tree-ok .shape .some u)))
         (λ u k. sym (ap (λ (n : ℕ). i % dataSymbols (suc u) % n) (spread-is u) ∙ data-under tree tree-ok i (suc u) u refl))
         (λ u k. length-part s (256 * dataAt u) 256 (omega arith))
         (λ u k.
-        subst (λ (n : ℕ). sha256 (symbolNo s (dataAt u)) ≡ hashFor root (λ q n. symbolNo s (dataAt q)) n (i % dataSymbols u)) (data-at-layer u (omega arith))
-        (subst (λ (n : ℕ). sha256 (symbolNo s (dataAt u)) ≡ hashFor root (λ q n. symbolNo s (dataAt q)) (sampledLayer d (dataAt u)) n) (data-at-number u (omega arith))
+        subst (λ (n : ℕ). H n (i % dataSymbols u) (symbolNo s (dataAt u)) ≡ hashFor root (λ q n. symbolNo s (dataAt q)) n (i % dataSymbols u)) (data-at-layer u (omega arith))
+        (subst (λ (n : ℕ). H (sampledLayer d (dataAt u)) n (symbolNo s (dataAt u)) ≡ hashFor root (λ q n. symbolNo s (dataAt q)) (sampledLayer d (dataAt u)) n) (data-at-number u (omega arith))
         (fit u k)))
         (sampledLayer d x) (omega arith))
 
@@ -145,18 +144,18 @@ module _ (d : ℕ) (tbl : List (List (List ℕ))) (root : List ℕ) (f : ℕ →
   module _ (j y : ℕ) (s : ℕ → List ℕ) (hj : j < d) where
     -- it has the committed hash at layer l
     abbrev WayFits : ℕ → Type 0
-    WayFits l = sha256 (s (j - l)) ≡ hashFor root (λ q n. s (j - q)) (j - (j - l)) (upFrom j y (j - l))
+    WayFits l = H (j - (j - l)) (upFrom j y (j - l)) (s (j - l)) ≡ hashFor root (λ q n. s (j - q)) (j - (j - l)) (upFrom j y (j - l))
 
     has-fits : (l : ℕ) → l ≤ j → upFrom j y (j - l) < allSymbols l → WayHasThere j y s f l → WayFits l
     has-fits l hl low t =
         let e : l ≡ j - (j - l) = omega arith in
-        subst (λ (q : ℕ). sha256 (s (j - l)) ≡ hashFor root (λ q n. s (j - q)) q (upFrom j y (j - l))) e
+        subst (λ (q : ℕ). H q (upFrom j y (j - l)) (s (j - l)) ≡ hashFor root (λ q n. s (j - q)) q (upFrom j y (j - l))) e
         (fits (λ q. s (j - q)) l (upFrom j y (j - l)) (s (j - l)) (omega arith) low (t .here)
         (λ u q. t .above u q ∙ ap (f u) (up-step j y u (omega arith) ∙ ap (λ (n : ℕ). upFrom j y (j - n) % spread n) q)))
 
     -- a symbol above layer l shows a collision
     abbrev pub Shown : ℕ → Type 0
-    Shown l = (u : ℕ) × (u < l) × (upFrom j y (j - u) < allSymbols u) × Twins (s (j - u)) (f u (upFrom j y (j - u)))
+    Shown l = (u : ℕ) × (u < l) × (upFrom j y (j - u) < allSymbols u) × Twins H u (upFrom j y (j - u)) (s (j - u)) (f u (upFrom j y (j - u)))
 
     alone : (l : ℕ) → l ≤ j → ((u : ℕ) → u < l → length (s (j - u)) ≡ 256) → ((u : ℕ) → u < l → WayFits u) → (WayHasThere j y s f l → ⊥)
         → (s (j - l) ≢ f l (upFrom j y (j - l))) ⊎ Shown l
@@ -166,7 +165,7 @@ module _ (d : ℕ) (tbl : List (List (List ℕ))) (root : List ℕ) (f : ℕ →
         (above-or (λ q. s (j - q)) (λ q. upFrom j y (j - q)) l (omega arith) low (λ u h. up-step j y u (omega arith)) sized
         (λ u h.
         let e : j - (j - u) ≡ u = omega arith in
-        subst (λ (n : ℕ). sha256 (s (j - u)) ≡ hashFor root (λ q n. s (j - q)) n (upFrom j y (j - u))) e (fit u h))
+        subst (λ (n : ℕ). H n (upFrom j y (j - u)) (s (j - u)) ≡ hashFor root (λ q n. s (j - q)) n (upFrom j y (j - u))) e (fit u h))
         l (omega arith))
 
     pub way-page : (l : ℕ) → l ≤ j → upFrom j y (j - l) < allSymbols l → ((u : ℕ) → u < l → length (s (j - u)) ≡ 256)

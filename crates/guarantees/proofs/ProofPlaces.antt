@@ -1,5 +1,5 @@
 -- Where the symbols of a fault proof stand: the given members with their paths one after the other, then the withheld member's path.
-use mathlib.Core.Path.{_≡_, refl, sym, ap, _∙_, subst}
+use mathlib.Core.Path.{_≡_, refl, sym, ap, ap₂, _∙_, subst}
 use mathlib.Core.Logic.{inl, inr, ⊎-elim}
 use mathlib.Core.List.{List, [], _∷_}
 use Prim.Native.Nat.{ℕ, zero, suc, _+_, _-_, _*_, _%_, _≤_, _<_}
@@ -7,15 +7,13 @@ use native.Mathlib.Omega.{arith}
 use lib.ListN.{length, getD, take, drop}
 use lib.Seq.{drop-drop}
 use Rattle.octets.proofs.ListLaws.{length-part}
-use Rattle.sha256.specs.Hash.{sha256}
-use Rattle.symbol_hash.specs.SymbolHash.{symbolHash}
-use Rattle.symbol_hash.specs.declared.Kind.the-variants.{Plain}
 use Rattle.model.specs.Shape.{tree}
 use Rattle.model.specs.Symbols.{symbolIn, committed}
 use Rattle.model.specs.Climb.{leads, breaks}
 use Rattle.model.specs.Fault.{reached, next, givenXor, wayCheck, pathCheck, pathHash, InWay, InGiven, InPath}
 use Rattle.model.proofs.Ways.{reached-past, next-at, committed-same, path-committed, WayFit, way-fits, fits-way, way-breaks, breaks-way}
 use Rattle.guarantees.specs.Layouts.{bytesFrom, hashFor, XorOf, upFrom}
+use Rattle.guarantees.specs.Trees.{Hasher}
 use Rattle.guarantees.specs.FaultProofs.{givenSymbol, withheldSymbol, BreaksAt, Up}
 use Rattle.guarantees.proofs.Layouts.{hash-for, up-from, xor-none, xor-more}
 
@@ -90,13 +88,13 @@ pub hash-above : (root : List ℕ) (w v : ℕ → List ℕ) (l m n : ℕ) → m 
 hash-above root w v l m n e eq =
     committed-same tree root w (λ q i. v q) l m eq ∙ sym (hash-for root (λ q i. v q) l m) ∙ ap (hashFor root (λ q i. v q) l) e
 
-module _ (root b : List ℕ) (j : ℕ) where
+module _ (H : Hasher) (root b : List ℕ) (j : ℕ) where
   -- ---- the way up from given member number p, which is symbol i
 
   module _ (p i : ℕ) where
     -- the symbol u layers up has the hash that the next one up, or the root, has for it
     abbrev pub Fits : ℕ → Type 0
-    Fits u = sha256 (givenSymbol b j p u) ≡ hashFor root (λ l m. givenSymbol b j p (j - l)) (j - u) (upFrom j i u)
+    Fits u = H (j - u) (upFrom j i u) (givenSymbol b j p u) ≡ hashFor root (λ l m. givenSymbol b j p (j - l)) (j - u) (upFrom j i u)
 
     above : (u : ℕ) → u ≤ j
         → committed tree root (λ q n. symbolIn (fromMember b j p) (j - q)) (j - u) (reached tree j i u)
@@ -106,48 +104,47 @@ module _ (root b : List ℕ) (j : ℕ) where
         (sym (up-from j i u h)) (λ q z. given-symbol b j p (j - q))
 
     abbrev way : ℕ → Type 0
-    way u = WayFit tree (symbolHash Plain) root j i (fromMember b j p) u (j - u) (reached tree j i u)
+    way u = WayFit tree H root j i (fromMember b j p) u (j - u) (reached tree j i u)
 
     said : (u : ℕ) → u ≤ j → way u → Fits u
-    unfolding symbolHash
-    said u h e = ap sha256 (sym (given-symbol b j p u)) ∙ e ∙ above u h
+    said u h e = ap₂ (H (j - u)) (up-from j i u h) (sym (given-symbol b j p u)) ∙ e ∙ above u h
 
     seen : (u : ℕ) → u ≤ j → Fits u → way u
-    unfolding symbolHash
-    seen u h e = ap sha256 (given-symbol b j p u) ∙ e ∙ sym (above u h)
+    seen u h e = ap₂ (H (j - u)) (sym (up-from j i u h)) (given-symbol b j p u) ∙ e ∙ sym (above u h)
 
-    pub way-leads : wayCheck tree (symbolHash Plain) root j i (fromMember b j p) ≡ leads → (u : ℕ) → u ≤ j → Fits u
-    way-leads e u h = said u h (way-fits tree (symbolHash Plain) root j i (fromMember b j p) e u h)
+    pub way-leads : wayCheck tree H root j i (fromMember b j p) ≡ leads → (u : ℕ) → u ≤ j → Fits u
+    way-leads e u h = said u h (way-fits tree H root j i (fromMember b j p) e u h)
 
-    pub leads-way : ((u : ℕ) → u ≤ j → Fits u) → wayCheck tree (symbolHash Plain) root j i (fromMember b j p) ≡ leads
-    leads-way all = fits-way tree (symbolHash Plain) root j i (fromMember b j p) (λ u h. seen u h (all u h))
+    pub leads-way : ((u : ℕ) → u ≤ j → Fits u) → wayCheck tree H root j i (fromMember b j p) ≡ leads
+    leads-way all = fits-way tree H root j i (fromMember b j p) (λ u h. seen u h (all u h))
 
-    pub way-broken : (l : ℕ) → wayCheck tree (symbolHash Plain) root j i (fromMember b j p) ≡ breaks l → BreaksAt (λ k. Fits (j - k)) j l
+    pub way-broken : (l : ℕ) → wayCheck tree H root j i (fromMember b j p) ≡ breaks l → BreaksAt (λ k. Fits (j - k)) j l
     way-broken l e =
-        let w = way-breaks tree (symbolHash Plain) root j i (fromMember b j p) l e in
+        let w = way-breaks tree H root j i (fromMember b j p) l e in
         record {
           on-way = w .layer;
           lead-below = λ k a h. said (j - k) (omega arith) (w .below (j - k) (omega arith));
           broken = λ f. w .broken (seen (j - l) (omega arith) f);
         }
 
-    pub broken-way : (l : ℕ) → BreaksAt (λ k. Fits (j - k)) j l → wayCheck tree (symbolHash Plain) root j i (fromMember b j p) ≡ breaks l
+    pub broken-way : (l : ℕ) → BreaksAt (λ k. Fits (j - k)) j l → wayCheck tree H root j i (fromMember b j p) ≡ breaks l
     broken-way l w =
-        breaks-way tree (symbolHash Plain) root j i (fromMember b j p) l
+        breaks-way tree H root j i (fromMember b j p) l
         (record {
           layer = w .on-way;
           below = λ u h. let e : j - (j - u) ≡ u = omega arith in seen u (omega arith) (subst Fits e (w .lead-below (j - u) (omega arith) (omega arith)));
           broken = λ f. w .broken (said (j - l) (omega arith) f);
         })
 
-    -- what it holds
-    pub way-held : (l m : ℕ) (s : List ℕ) → InWay tree j i (fromMember b j p) l m s → (u : ℕ) × Up j i u l m × (s ≡ givenSymbol b j p u)
-    unfolding InWay
-    way-held l m s (u, h, el, em, es) = (u, (h, el, em ∙ sym (up-from j i u h)), es ∙ given-symbol b j p u)
+-- what it holds
+module _ (b : List ℕ) (j p i : ℕ) where
+  pub way-held : (l m : ℕ) (s : List ℕ) → InWay tree j i (fromMember b j p) l m s → (u : ℕ) × Up j i u l m × (s ≡ givenSymbol b j p u)
+  unfolding InWay
+  way-held l m s (u, h, el, em, es) = (u, (h, el, em ∙ sym (up-from j i u h)), es ∙ given-symbol b j p u)
 
-    pub held-way : (l m : ℕ) (s : List ℕ) (u : ℕ) → Up j i u l m → s ≡ givenSymbol b j p u → InWay tree j i (fromMember b j p) l m s
-    unfolding InWay
-    held-way l m s u (h, el, em) es = (u, h, el, em ∙ up-from j i u h, es ∙ sym (given-symbol b j p u))
+  pub held-way : (l m : ℕ) (s : List ℕ) (u : ℕ) → Up j i u l m → s ≡ givenSymbol b j p u → InWay tree j i (fromMember b j p) l m s
+  unfolding InWay
+  held-way l m s u (h, el, em) es = (u, h, el, em ∙ up-from j i u h, es ∙ sym (given-symbol b j p u))
 
 -- ---- the path of the withheld member, symbol i of layer j, after g given ones
 
@@ -155,10 +152,10 @@ module _ (root b : List ℕ) (j : ℕ) where
 path-number : (j i x : ℕ) → x ≤ j → reached tree j (i % tree .k j) x ≡ upFrom (suc j) i (suc x)
 path-number j i x h = sym (reached-past tree j i x h) ∙ sym (up-from (suc j) i (suc x) (omega arith))
 
-module _ (root b : List ℕ) where
+module _ (H : Hasher) (root b : List ℕ) where
   -- its symbol u layers up has the hash that the next one up, or the root, has for it
   abbrev pub PathFits : ℕ → ℕ → ℕ → ℕ → Type 0
-  PathFits j g i u = sha256 (withheldSymbol b j g u) ≡ hashFor root (λ l m. withheldSymbol b j g (j - l)) (j - u) (upFrom j i u)
+  PathFits j g i u = H (j - u) (upFrom j i u) (withheldSymbol b j g u) ≡ hashFor root (λ l m. withheldSymbol b j g (j - l)) (j - u) (upFrom j i u)
 
   path-above : (j g i x : ℕ) → x ≤ j
       → committed tree root (λ q n. symbolIn (fromMember b (suc j) g) (j - q)) (j - x) (reached tree j (i % tree .k j) x)
@@ -173,38 +170,42 @@ module _ (root b : List ℕ) where
       ∙ ap (λ (l : ℕ). hashFor root (λ q m. withheldSymbol b (suc j) g (suc j - q)) l (upFrom (suc j) i (suc x))) e
 
   abbrev path-way : ℕ → ℕ → ℕ → ℕ → Type 0
-  path-way j g i x = WayFit tree (symbolHash Plain) root j (i % tree .k j) (fromMember b (suc j) g) x (j - x) (reached tree j (i % tree .k j) x)
+  path-way j g i x = WayFit tree H root j (i % tree .k j) (fromMember b (suc j) g) x (j - x) (reached tree j (i % tree .k j) x)
 
   path-said : (j g i x : ℕ) → x ≤ j → path-way j g i x → PathFits (suc j) g i (suc x)
-  unfolding symbolHash
-  path-said j g i x h e = ap sha256 (sym (withheld-symbol b (suc j) g x)) ∙ e ∙ path-above j g i x h
+  path-said j g i x h e =
+      let q : suc j - suc x ≡ j - x = omega arith in
+      ap (λ (l : ℕ). H l (upFrom (suc j) i (suc x)) (withheldSymbol b (suc j) g (suc x))) q
+      ∙ ap₂ (H (j - x)) (sym (path-number j i x h)) (sym (withheld-symbol b (suc j) g x)) ∙ e ∙ path-above j g i x h
 
   path-seen : (j g i x : ℕ) → x ≤ j → PathFits (suc j) g i (suc x) → path-way j g i x
-  unfolding symbolHash
-  path-seen j g i x h e = ap sha256 (withheld-symbol b (suc j) g x) ∙ e ∙ sym (path-above j g i x h)
+  path-seen j g i x h e =
+      let q : j - x ≡ suc j - suc x = omega arith in
+      ap₂ (H (j - x)) (path-number j i x h) (withheld-symbol b (suc j) g x)
+      ∙ ap (λ (l : ℕ). H l (upFrom (suc j) i (suc x)) (withheldSymbol b (suc j) g (suc x))) q ∙ e ∙ sym (path-above j g i x h)
 
-  pub path-leads : (j g i : ℕ) → pathCheck tree (symbolHash Plain) root j i (fromMember b j g) ≡ leads → (u : ℕ) → 1 ≤ u → u ≤ j → PathFits j g i u
+  pub path-leads : (j g i : ℕ) → pathCheck tree H root j i (fromMember b j g) ≡ leads → (u : ℕ) → 1 ≤ u → u ≤ j → PathFits j g i u
   unfolding pathCheck
   path-leads zero g i e u a h = absurd (omega arith)
   path-leads (suc j) g i e zero a h = absurd (omega arith)
   path-leads (suc j) g i e (suc x) a h =
-      path-said j g i x (omega arith) (way-fits tree (symbolHash Plain) root j (i % tree .k j) (fromMember b (suc j) g) e x (omega arith))
+      path-said j g i x (omega arith) (way-fits tree H root j (i % tree .k j) (fromMember b (suc j) g) e x (omega arith))
 
-  pub leads-path : (j g i : ℕ) → ((u : ℕ) → 1 ≤ u → u ≤ j → PathFits j g i u) → pathCheck tree (symbolHash Plain) root j i (fromMember b j g) ≡ leads
+  pub leads-path : (j g i : ℕ) → ((u : ℕ) → 1 ≤ u → u ≤ j → PathFits j g i u) → pathCheck tree H root j i (fromMember b j g) ≡ leads
   unfolding pathCheck
   leads-path zero g i all = refl
   leads-path (suc j) g i all =
-      fits-way tree (symbolHash Plain) root j (i % tree .k j) (fromMember b (suc j) g) (λ x h. path-seen j g i x h (all (suc x) (omega arith) (omega arith)))
+      fits-way tree H root j (i % tree .k j) (fromMember b (suc j) g) (λ x h. path-seen j g i x h (all (suc x) (omega arith) (omega arith)))
 
   -- it breaks, the path starting at the layer above its symbol
   abbrev pub PathBreaks : ℕ → ℕ → ℕ → ℕ → Type 0
   PathBreaks j g i l = (1 ≤ j) × BreaksAt (λ k. PathFits j g i (j - k)) (j - 1) l
 
-  pub path-broken : (j g i l : ℕ) → pathCheck tree (symbolHash Plain) root j i (fromMember b j g) ≡ breaks l → PathBreaks j g i l
+  pub path-broken : (j g i l : ℕ) → pathCheck tree H root j i (fromMember b j g) ≡ breaks l → PathBreaks j g i l
   unfolding pathCheck
   path-broken zero g i l e = absurd (let z : _≡_ {A = ℕ} 0 1 = cc in omega arith)
   path-broken (suc j) g i l e =
-      let w = way-breaks tree (symbolHash Plain) root j (i % tree .k j) (fromMember b (suc j) g) l e in (
+      let w = way-breaks tree H root j (i % tree .k j) (fromMember b (suc j) g) l e in (
         omega arith,
         record {
           on-way = omega (arith, w .layer);
@@ -216,11 +217,11 @@ module _ (root b : List ℕ) where
         },
       )
 
-  pub broken-path : (j g i l : ℕ) → PathBreaks j g i l → pathCheck tree (symbolHash Plain) root j i (fromMember b j g) ≡ breaks l
+  pub broken-path : (j g i l : ℕ) → PathBreaks j g i l → pathCheck tree H root j i (fromMember b j g) ≡ breaks l
   unfolding pathCheck
   broken-path zero g i l (a, w) = absurd (omega arith)
   broken-path (suc j) g i l (a, w) =
-      breaks-way tree (symbolHash Plain) root j (i % tree .k j) (fromMember b (suc j) g) l
+      breaks-way tree H root j (i % tree .k j) (fromMember b (suc j) g) l
       (record {
         layer = omega (arith, w .on-way);
         below = λ x h.

@@ -84,11 +84,11 @@ module _ (f : ℕ → ℕ → List ℕ) (j : ℕ) (sized : (l i : ℕ) → l ≤
 
     past-head : drop 12 bytes ≡ rest
     unfolding proofBytes
-    past-head = after-head j e x rest
+    past-head = after-head 1 j e x rest
 
     words : (wordAt bytes 0 ≡ kindValue 1 j) × (wordAt bytes 4 ≡ kindValue 2 e) × (wordAt bytes 8 ≡ kindValue 3 x)
     unfolding proofBytes
-    words = head-words j e x rest (fit .small-layer) (fit .small-equation) (fit .small-member)
+    words = head-words 1 j e x rest (omega arith) (fit .small-layer) (fit .small-equation) (fit .small-member)
 
     pub word-layer : wordAt bytes 0 ≡ kindValue 1 j
     word-layer = words .0
@@ -108,8 +108,8 @@ module _ (f : ℕ → ℕ → List ℕ) (j : ℕ) (sized : (l i : ℕ) → l ≤
         omega (
           arith,
           ap (λ (n : ℕ). n * (j + 1)) count,
-          length-append (head j e x) rest,
-          length-head j e x,
+          length-append (head 1 j e x) rest,
+          length-head 1 j e x,
           length-append (givenBytes tree f j ys) (pathBytes tree f j x),
           given-length tree (tree-ok .shape) f j sized inLayer below ys (fit .given-below),
           path-length tree (tree-ok .shape) f j sized j x (omega arith),

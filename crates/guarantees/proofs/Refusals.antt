@@ -1,12 +1,12 @@
 -- Every call answers as its tests say: with which number and values, and just when.
 use mathlib.Core.Path.{_≡_, refl, sym, ap, ap₂, _∙_, subst}
-use mathlib.Core.Logic.{_≢_}
+use mathlib.Core.Logic.{_⊎_, _≢_}
 use mathlib.Core.Bool.{Bool, true, false, not, _&&_, true≢false}
 use mathlib.Core.List.{List}
 use Prim.Native.Nat.{ℕ, zero, suc, _+_, _-_, _*_, _%_, _^_, _≤_, _<_}
 use native.Mathlib.Omega.{arith}
 use native.Mathlib.Decide.{decLt}
-use lib.ListN.{length, getD}
+use lib.ListN.{length, getD, replicate, length-replicate}
 use lib.Dec.{leb, ltb, eqb}
 use borrow.Author.Tests.{ltb-true, ltb-false, leb-true, eqb-true, eqb-false, lt-ltb, le-leb, eq-eqb, ne-eqb}
 use Rattle.octets.specs.Choice.{pick}
@@ -26,10 +26,10 @@ use Rattle.parity_table.proofs.Parse.{formed-rules}
 use Rattle.coverage.specs.declared.Coverage.{Coverage}
 use Rattle.coverage.specs.declared.Coverage.the-variants as coverage
 use Rattle.coverage.specs.Coverage.{coverageOf, Right as Covers}
-use Rattle.coverage.proofs.Right.{coverage-right, not-covered, first-unique as thin-unique}
+use Rattle.coverage.proofs.Right.{coverage-right, covered-found, not-covered, first-unique as thin-unique}
 use Rattle.house_table.specs.House.{houseWords, houseAnswer}
 use Rattle.parity_table.proofs.Shape.{depth-is}
-use Rattle.parity_table.proofs.Accepts.{read-right, read-depth, first-unique}
+use Rattle.parity_table.proofs.Accepts.{read-right, read-depth, first-unique, formed-accepted}
 use Rattle.house_table.proofs.HouseRules.{house-count}
 use Rattle.model.specs.Shape.{tree, place, places}
 use Rattle.model.specs.Symbols.{lowest, symbolIn}
@@ -41,14 +41,14 @@ use Rattle.model.proofs.Counts.{lowest-is}
 use Rattle.model.proofs.Shapes.{place-lt}
 use Rattle.model.proofs.Samples.{Fit, all-fit, BrokenSample, sample-breaks}
 use Rattle.symbol_hash.specs.SymbolHash.{symbolHash}
-use Rattle.symbol_hash.specs.declared.Kind.the-variants.{Plain}
+use Rattle.symbol_hash.specs.declared.Kind.{Kind}
 use Rattle.sampling.specs.declared.Found.the-variants.{At, Nothing}
 use Rattle.sampling.specs.Absent.{absent, foundBelow, firstAbsent}
 use Rattle.sampling.specs.Lent.{BaseSymbol}
 use Rattle.sampling.proofs.SymbolLaws.{sample-place-lt}
-use Rattle.root_record.specs.Records.{rootIn, headRight, namesTable}
+use Rattle.root_record.specs.Records.{kindIn, rootIn, headRight, namesTable}
 use Rattle.calls.specs.declared.Stop.{Stop}
-use Rattle.calls.specs.declared.Stop.the-variants.{Depth, Length, Table, Mark, Number, Head, Hash, NoFault, Absent, Uncovered, Record, OtherTable}
+use Rattle.calls.specs.declared.Stop.the-variants.{Depth, Length, Table, Mark, Number, Head, Hash, NoFault, Absent, Uncovered, Record, OtherTable, NotWhole}
 use Rattle.calls.specs.declared.Answer.{Answer}
 use Rattle.calls.specs.declared.Answer.the-variants.{Done, Stopped}
 use Rattle.calls.specs.Stops.{numberOf, valuesOf}
@@ -56,24 +56,31 @@ use Rattle.calls.specs.Marks.{isBad}
 use Rattle.calls.specs.Lengths.{treeSized, blockFits, blockSized, recordSized, sampleSized}
 use Rattle.calls.specs.Tests.{_then_, testDepth, testLengths, testHead, readAnswer, coverAnswer, testNamed, testMarks, testNumber, opened, headed, wordsTested, admitted, admittedBy}
 use Rattle.volume_calls.specs.Reading.{readSized, testBase, blockRead}
-use Rattle.volume_calls.specs.Writing.{writeSized, treeWritten}
+use Rattle.volume_calls.specs.Writing.{writeSized, treeWritten, testKind, treeWrittenBy}
 use Rattle.sample_calls.specs.Checking.{checkSized, led, sampleChecked}
 use Rattle.sample_calls.specs.Taking.{takeSized, needed, sampleTaken}
-use Rattle.fault_calls.specs.Repairing.{repairSized, repairTested}
+use Rattle.fault_calls.specs.Repairing.{repairSized, repairTested, repaired}
+use Rattle.recoding.specs.Recoding.{recodeSized, nothingToDo, calledWhole, testWhole, recoded}
+use Rattle.calls.proofs.TestLaws.{marks-right}
+use Rattle.calls.proofs.AdmissionLaws.{TableTaken}
+use Rattle.calls.proofs.RecordLaws.{admits-by}
 use Rattle.volume_calls.proofs.WritingLaws.{answer-is as written-answer}
 use Rattle.volume_calls.proofs.ReadingLaws.{answer-is as block-answer}
 use Rattle.sample_calls.proofs.CheckingLaws.{sizes as check-sizes}
 use Rattle.sample_calls.proofs.TakingLaws.{answer-is as sample-answer}
 use Rattle.cedunmi_c.specs.Result.{hashAnswer}
-use Rattle.guarantees.specs.Layouts.{bytesFrom, dataSymbols, treeSymbols, markAt, hashFor, sampledLayer, sampledNumber, rootPart}
+use Rattle.guarantees.specs.Layouts.{bytesFrom, symbolNo, dataSymbols, treeSymbols, markAt, hashFor, sampledLayer, sampledNumber, kindNo, rootPart}
+use Rattle.guarantees.specs.Trees.{Hasher, hashBy}
 use Rattle.guarantees.specs.Tables.{TableRight, FirstWrongWord, AllInTwo, FirstNotInTwo}
 use Rattle.guarantees.specs.Answers.{done, test, unless, one, two, Just}
 use Rattle.guarantees.specs.Terms.{equationsOf}
-use Rattle.guarantees.specs.Refusals.{LowestOf, DepthRight, TableLength, TreeLengths, BlockLength, RecordLength, SampleLength, HeadRight, NamesTable, BadMark, AbsentSampled, InBase, dataOfSample, AllHashesLead, SampleFits, SampleBreaks, hashTests, takesWords, takesTable, takesNamed, wordsTests, tableTests, houseTests, WriterLengths, writerTests, blockTests, samplerTests, sampleTests, RepairLengths, repairTests, Refusals}
+use Rattle.guarantees.specs.Refusals.{LowestOf, DepthRight, TableLength, TreeLengths, BlockLength, RecordLength, SampleLength, HeadRight, NamesTable, BadMark, AbsentSampled, InBase, dataOfSample, AllHashesLead, SampleFits, SampleBreaks, hashTests, takesWords, takesTable, takesNamed, wordsTests, tableTests, houseTests, WriterLengths, writerTests, numberedTests, blockTests, samplerTests, sampleTests, RepairLengths, repairTests, OutputLength, CalledWhole, RecodeLengths, recodeTests, Refusals}
 use Rattle.guarantees.proofs.Answers.{all-done, stops-unless, stops-one, stops-two, passes-unless, passes-one, passes-two}
 use Rattle.guarantees.proofs.Layouts.{tree-symbols, mark-at, hash-for}
-use Rattle.guarantees.proofs.Marks.{all-right}
-use Rattle.guarantees.proofs.Records.{head-right, right-head, names-table, table-named}
+use Rattle.guarantees.proofs.Marks.{all-right, none-bad}
+use Rattle.guarantees.proofs.Whole.{result-whole, lent-called, called-lent}
+use Rattle.guarantees.proofs.Trees.{hash-in}
+use Rattle.guarantees.proofs.Records.{either, at-most, head-right, right-head, names-table, table-named}
 use Rattle.guarantees.proofs.Tables.{first-wrong, wrong-first, right-formed, formed-right, covered-all, all-covered, first-not, not-first}
 
 -- ---- depth and table
@@ -385,10 +392,23 @@ module _ (d : ℕ) (table b t m r : List ℕ) where
     k .table-length,
   )
 
-  tree-writer : Just (treeWritten d table b t m r .answer) (writerTests d table b t m r)
-  tree-writer =
-      subst (λ (z : Answer). Just z (writerTests d table b t m r)) (then-none (admitted d own table) ∙ sym (written-answer d table b t m r))
+  tree-writer : (kind : Kind) → Just (treeWritten d kind table b t m r .answer) (writerTests d table b t m r)
+  tree-writer kind =
+      subst (λ (z : Answer). Just z (writerTests d table b t m r)) (then-none (admitted d own table) ∙ sym (written-answer d kind table b t m r))
       (by-admitted d (WriterLengths d table b t m r) own table Done lengths-own own-lengths (λ f k w c. all-done))
+
+  tree-writer-by : (number : ℕ) → Just (treeWrittenBy d number table b t m r .answer) (numberedTests d table b t m r number)
+  unfolding treeWrittenBy testKind
+  tree-writer-by number =
+      by-opened d (WriterLengths d table b t m r) (own && lengthFits (length table)) (testKind number then wordsTested d (wordsOf table))
+      (λ l. let (p, q) = and-yes own (lengthFits (length table)) l in lengths-own p (table-long table q))
+      (λ k. let (p, q) = own-lengths k in yes-and p (long-table table q))
+      (λ f k.
+      by-right 11 ((number ≡ 0) ⊎ (number ≡ 1)) (leb number 1) Record (wordsTested d (wordsOf table)) refl refl
+      (λ h. either number (leb-true number 1 h)) (λ e. le-leb number 1 (at-most number e))
+      (λ e.
+      subst (λ (z : Answer). Just z (takesTable d table done)) (then-none (wordsTested d (wordsOf table)))
+      (by-words d (wordsOf table) f Done (λ w c. all-done))))
 
 module _ (d : ℕ) (r t m b : List ℕ) where
   block-reader : Just (blockRead d r t m b .answer) (blockTests d r t m b)
@@ -469,45 +489,45 @@ module _ (d i : ℕ) (t m s : List ℕ) where
       (by-search (absent d i m) (λ x. markAt m (sampledLayer d x) (sampledNumber d i x) ≡ 0) (sampleSize d) (sampled-said low base) (sampled-seen low base) 9
       Absent Done (λ v. refl) (λ v. refl) (λ q. all-done))))))
 
-module _ (d i : ℕ) (root s : List ℕ) where
-  pub leads-so : SampleLeads tree (symbolHash Plain) root d i s → AllHashesLead d i root s
-  unfolding sampleHas sampleData sampleParity symbolIn bytesFrom dataNo parityNo symbolHash kOf
+module _ (H : Hasher) (d i : ℕ) (root s : List ℕ) where
+  pub leads-so : SampleLeads tree H root d i s → AllHashesLead H d i root s
+  unfolding sampleHas sampleData sampleParity symbolIn bytesFrom dataNo parityNo kOf
   leads-so k =
       record {
-        base = k .base ∙ sym (hash-for root (dataOfSample d i root s) (d - 1) i);
-        data-symbol = λ j h. k .data-symbol j h ∙ sym (hash-for root (dataOfSample d i root s) j (i % dataSymbols j));
-        parity-symbol = λ j h. k .parity-symbol j h ∙ sym (hash-for root (dataOfSample d i root s) j (dataSymbols j + i % (3 * dataSymbols j)));
+        base = k .base ∙ sym (hash-for root (dataOfSample H d i root s) (d - 1) i);
+        data-symbol = λ j h. k .data-symbol j h ∙ sym (hash-for root (dataOfSample H d i root s) j (i % dataSymbols j));
+        parity-symbol = λ j h. k .parity-symbol j h ∙ sym (hash-for root (dataOfSample H d i root s) j (dataSymbols j + i % (3 * dataSymbols j)));
       }
 
-  pub so-leads : AllHashesLead d i root s → SampleLeads tree (symbolHash Plain) root d i s
-  unfolding sampleHas sampleData sampleParity symbolIn bytesFrom dataNo parityNo symbolHash kOf
+  pub so-leads : AllHashesLead H d i root s → SampleLeads tree H root d i s
+  unfolding sampleHas sampleData sampleParity symbolIn bytesFrom dataNo parityNo kOf
   so-leads k =
       record {
-        base = k .base ∙ hash-for root (dataOfSample d i root s) (d - 1) i;
-        data-symbol = λ j h. k .data-symbol j h ∙ hash-for root (dataOfSample d i root s) j (i % dataSymbols j);
-        parity-symbol = λ j h. k .parity-symbol j h ∙ hash-for root (dataOfSample d i root s) j (dataSymbols j + i % (3 * dataSymbols j));
+        base = k .base ∙ hash-for root (dataOfSample H d i root s) (d - 1) i;
+        data-symbol = λ j h. k .data-symbol j h ∙ hash-for root (dataOfSample H d i root s) j (i % dataSymbols j);
+        parity-symbol = λ j h. k .parity-symbol j h ∙ hash-for root (dataOfSample H d i root s) j (dataSymbols j + i % (3 * dataSymbols j));
       }
 
   -- symbol x of the sample has the hash, by either numbering
   module _ (some : 1 ≤ d) (x : ℕ) where
     abbrev fit : Type 0
-    fit = Fit tree (symbolHash Plain) root d i some s x (sampleLayer d x) (sampleNumber tree d i x)
+    fit = Fit tree H root d i some s x (sampleLayer d x) (sampleNumber tree d i x)
 
-    hash-is : sampleHas tree root d s (sampleLayer d x) (sampleNumber tree d i x) ≡ hashFor root (dataOfSample d i root s) (sampledLayer d x) (sampledNumber d i x)
+    hash-is : sampleHas tree root d s (sampleLayer d x) (sampleNumber tree d i x) ≡ hashFor root (dataOfSample H d i root s) (sampledLayer d x) (sampledNumber d i x)
     unfolding sampleHas sampleData symbolIn bytesFrom
     hash-is =
-        sym (hash-for root (dataOfSample d i root s) (sampleLayer d x) (sampleNumber tree d i x))
-        ∙ sym (ap₂ (hashFor root (dataOfSample d i root s)) (sampled-layer d x) (sampled-number d i x))
+        sym (hash-for root (dataOfSample H d i root s) (sampleLayer d x) (sampleNumber tree d i x))
+        ∙ sym (ap₂ (hashFor root (dataOfSample H d i root s)) (sampled-layer d x) (sampled-number d i x))
 
-    hash-said : fit → SampleFits d i root s x
-    unfolding symbolIn bytesFrom symbolHash
-    hash-said e = e ∙ hash-is
+    hash-said : fit → SampleFits H d i root s x
+    unfolding symbolIn bytesFrom
+    hash-said e = ap₂ (λ (l n : ℕ). H l n (symbolNo s x)) (sampled-layer d x) (sampled-number d i x) ∙ e ∙ hash-is
 
-    hash-seen : SampleFits d i root s x → fit
-    unfolding symbolIn bytesFrom symbolHash
-    hash-seen e = e ∙ sym hash-is
+    hash-seen : SampleFits H d i root s x → fit
+    unfolding symbolIn bytesFrom
+    hash-seen e = ap₂ (λ (l n : ℕ). H l n (symbolNo s x)) (sym (sampled-layer d x)) (sym (sampled-number d i x)) ∙ e ∙ sym hash-is
 
-  breaks-so : (some : 1 ≤ d) (l : ℕ) → BrokenSample tree (symbolHash Plain) root d i some s l → SampleBreaks d i root s l
+  breaks-so : (some : 1 ≤ d) (l : ℕ) → BrokenSample tree H root d i some s l → SampleBreaks H d i root s l
   breaks-so some l w =
       record {
         index = w .index;
@@ -518,28 +538,30 @@ module _ (d i : ℕ) (root s : List ℕ) where
       }
 
   -- there is one such layer
-  pub breaks-one : (v l : ℕ) → SampleBreaks d i root s v → SampleBreaks d i root s l → v ≡ l
+  pub breaks-one : (v l : ℕ) → SampleBreaks H d i root s v → SampleBreaks H d i root s l → v ≡ l
   breaks-one v l a c =
       let not-below : v < l → ⊥ = λ h. c .breaks (a .lead-below (c .index) (c .inside) (omega (arith, c .at-layer))) in
       let not-above : l < v → ⊥ = λ h. a .breaks (c .lead-below (a .index) (a .inside) (omega (arith, a .at-layer))) in
       omega arith
 
-  by-climb : 1 ≤ d → (c : Climb) → sampleCheck tree (symbolHash Plain) root d i s ≡ c → Just (led c) (test 7 (one (SampleBreaks d i root s)) done)
+  by-climb : 1 ≤ d → (c : Climb) → sampleCheck tree H root d i s ≡ c → Just (led c) (test 7 (one (SampleBreaks H d i root s)) done)
   by-climb some leads e =
-      passes-one (λ v k. k .breaks (hash-said some (k .index) (all-fit tree (symbolHash Plain) root d i some s e (k .index) (k .inside)))) all-done
+      passes-one (λ v k. k .breaks (hash-said some (k .index) (all-fit tree H root d i some s e (k .index) (k .inside)))) all-done
   by-climb some (breaks l) e =
-      let k = breaks-so some l (sample-breaks tree (symbolHash Plain) root d i some s l e) in stops-one l k (λ v z. breaks-one v l z k)
+      let k = breaks-so some l (sample-breaks tree H root d i some s l e) in stops-one l k (λ v z. breaks-one v l z k)
 
 sample-checker : (d i : ℕ) (r s : List ℕ) → Just (sampleChecked d i r s) (sampleTests d i r s)
 unfolding sampleChecked rootIn kOf nOf
 sample-checker d i r s =
-    let last : Answer = led (sampleCheck tree (symbolHash Plain) (rootPart r) d i s) in
+    let last : Answer = led (sampleCheck tree (symbolHash (kindIn r)) (rootPart r) d i s) in
     let fits : Bool = checkSized d (length r) (length s) in
     subst (λ (z : Answer). Just z (sampleTests d i r s)) (sym (then-assoc (headed d fits r) (testNumber d i) last))
     (by-headed d r (RecordLength r × SampleLength d s) fits (testNumber d i then last)
     (check-sizes d (length r) (length s))
     (λ k. yes-and (eq-eqb (length r) 556 (k .0)) (eq-eqb (length s) (256 * sampleSize d) (k .1)))
-    (λ f k h. by-number d i last (λ b. by-climb d i (rootPart r) s (depth-right d f .0) (sampleCheck tree (symbolHash Plain) (rootPart r) d i s) refl)))
+    (λ f k h. by-number d i last (λ b.
+    by-climb (hashBy (kindNo r 0)) d i (rootPart r) s (depth-right d f .0) (sampleCheck tree (symbolHash (kindIn r)) (rootPart r) d i s)
+    (ap (λ (h : Hasher). sampleCheck tree h (rootPart r) d i s) (hash-in r)))))
 
 -- ---- repair
 
@@ -573,6 +595,86 @@ module _ (d : ℕ) (r table t m o : List ℕ) where
       subst (λ (z : Answer). Just z (test 4 (one (BadMark d m)) done)) (then-none (testMarks m))
       (by-marks d m (k .tree-lengths .mark-bytes) Done (λ low. all-done)))
 
+-- ---- the recoder
+
+-- a table that passes its tests is one that calls take
+pub taken-so : (d : ℕ) (table : List ℕ) → depthFits d ≡ true → TableLength table → TableRight d (wordsOf table) → AllInTwo d (equationsOf table) → TableTaken d table
+taken-so d table f l w c =
+    let formed = right-formed d (wordsOf table) w in
+    record {
+      deep = f;
+      length-fits = long-table table l;
+      accepted = formed-accepted d (wordsOf table) f formed;
+      covered = covered-found d (equationsOf table) (formed-rules d (wordsOf table) formed (depth-is d f .1)) (all-covered d (equationsOf table) c);
+    }
+
+module _ (d : ℕ) (r table t m t′ m′ r′ : List ℕ) where
+  abbrev lent-both : Bool
+  lent-both = recodeSized d (length r) (length t) (length m) (length t′) (length m′) (length r′)
+
+  pub recode-own : lent-both ≡ true → TableLength table → RecodeLengths d r table t m t′ m′ r′
+  recode-own h l =
+      let (u, q) = and-yes (treeSized d (length t) (length m)) (treeSized d (length t′) (length m′) && (recordSized (length r) && recordSized (length r′))) h in
+      let (v, p) = and-yes (treeSized d (length t′) (length m′)) (recordSized (length r) && recordSized (length r′)) q in
+      let (x, y) = and-yes (recordSized (length r)) (recordSized (length r′)) p in
+      record {
+        record-length = eqb-true (length r) 556 x;
+        table-length = l;
+        tree-lengths = sized d t m u;
+        new-tree-lengths = sized d t′ m′ v;
+        new-record-length = eqb-true (length r′) 556 y;
+      }
+
+  pub own-recode : RecodeLengths d r table t m t′ m′ r′ → (lent-both ≡ true) × TableLength table
+  own-recode k = (
+    yes-and (size-tests d t m (k .tree-lengths))
+        (yes-and (size-tests d t′ m′ (k .new-tree-lengths)) (yes-and (eq-eqb (length r) 556 (k .record-length)) (eq-eqb (length r′) 556 (k .new-record-length)))),
+    k .table-length,
+  )
+
+  -- a repair of the source is then of well-formed input
+  module _ (f : depthFits d ≡ true) (k : RecodeLengths d r table t m t′ m′ r′) (hr : HeadRight d r) (taken : TableTaken d table) (n : NamesTable r table)
+      (low : (p : ℕ) → p < treeSymbols d → getD m p 0 ≤ 1) where
+    source-formed : (o : List ℕ) → OutputLength d o → repairTested d r table t m o ≡ Done
+    unfolding repairTested
+    source-formed o x =
+        sym (ap₂ (λ (a b : Answer). a then b)
+        (admits-by d (repairSized d (length r) (length t) (length m) (length o)) r table
+        (record {
+          lengths = yes-and (size-tests d t m (k .tree-lengths)) (yes-and (eq-eqb (length r) 556 (k .record-length)) (eq-eqb (length o) (12 + 256 * (8 * d - 1)) x));
+          head = right-head d r hr;
+          taken = taken;
+          named = table-named r table n;
+        }))
+        (marks-right m (none-bad m (λ p h. low p (omega (arith, k .tree-lengths .mark-bytes))))))
+
+    -- by one output buffer, and so by every other
+    abbrev blank : List ℕ
+    blank = replicate (12 + 256 * (8 * d - 1)) 0
+
+    blank-length : OutputLength d blank
+    blank-length = length-replicate {A = ℕ} (12 + 256 * (8 * d - 1)) 0
+
+    whole-said : nothingToDo (repaired d r table t m blank .answer) ≡ true → CalledWhole d r table t m
+    whole-said b o x =
+        lent-called d r table t m o (source-formed o x)
+        (called-lent d r table t m blank (source-formed blank blank-length) (result-whole (repaired d r table t m blank .answer) b))
+
+    whole-seen : CalledWhole d r table t m → nothingToDo (repaired d r table t m blank .answer) ≡ true
+    whole-seen w = ap nothingToDo (w blank blank-length)
+
+  recoder : Just (recoded d r table t m t′ m′ r′ .answer) (recodeTests d r table t m t′ m′ r′)
+  unfolding recoded testWhole
+  recoder =
+      by-admitted-by d (RecodeLengths d r table t m t′ m′ r′) lent-both r table (testMarks m then testWhole (calledWhole d r table t m)) recode-own own-recode
+      (λ f k hr w c n.
+      let taken = taken-so d table f (k .table-length) w c in
+      by-marks d m (k .tree-lengths .mark-bytes) (testWhole (calledWhole d r table t m))
+      (λ low.
+      subst (λ (z : Answer). Just z (test 14 (unless (CalledWhole d r table t m)) done)) (then-none (testWhole (calledWhole d r table t m)))
+      (by-right 14 (CalledWhole d r table t m) (nothingToDo (repaired d r table t m (blank f k hr taken n low) .answer)) NotWhole Done refl refl
+      (whole-said f k hr taken n low) (whole-seen f k hr taken n low) (λ x. all-done))))
+
 -- ---- the number 0
 
 pub done-only : (a : Answer) → numberOf a ≡ 0 → a ≡ Done
@@ -589,6 +691,7 @@ done-only (Stopped (Absent x)) e = absurd (omega arith)
 done-only (Stopped (Uncovered j i)) e = absurd (omega arith)
 done-only (Stopped Record) e = absurd (omega arith)
 done-only (Stopped OtherTable) e = absurd (omega arith)
+done-only (Stopped NotWhole) e = absurd (omega arith)
 
 whole-only : (a : Read) → numberOf (readAnswer a) ≡ 0 → a ≡ read.Whole
 whole-only read.Depth e = absurd (omega arith)
@@ -613,9 +716,11 @@ refusals =
       table-bytes = table-bytes;
       house-words = λ d n. house d 1 n (length (houseWords d)) (house-count d ∙ omega arith);
       house-bytes = λ d n. house d 4 n (length (houseWords d) * 4) (omega (arith, house-count d));
-      tree-writer = tree-writer;
+      tree-writer = λ d kind table b t m r. tree-writer d table b t m r kind;
+      tree-writer-by = λ d number table b t m r. tree-writer-by d table b t m r number;
       block-reader = block-reader;
       sampler = sampler;
       sample-checker = sample-checker;
       repairer = repairer;
+      recoder = recoder;
     }

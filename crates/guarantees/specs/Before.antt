@@ -14,12 +14,12 @@ use Rattle.table_bytes.specs.Bytes.{wordsOf}
 use Rattle.house_table.specs.House.{houseAnswer}
 use Rattle.coverage.specs.Coverage.{coverageOf}
 use Rattle.symbol_hash.specs.SymbolHash.{symbolHash}
-use Rattle.symbol_hash.specs.declared.Kind.the-variants.{Plain}
+use Rattle.symbol_hash.specs.declared.Kind.{Kind}
 use Rattle.model.specs.Shape.{tree}
 use Rattle.model.specs.Fault.{verdict}
 use Rattle.model.specs.SampleCheck.{sampleCheck}
 use Rattle.sampling.specs.Absent.{firstAbsent}
-use Rattle.root_record.specs.Records.{sizeIn, rootIn}
+use Rattle.root_record.specs.Records.{kindIn, sizeIn, rootIn}
 use Rattle.calls.specs.declared.Stop.the-variants.{Depth}
 use Rattle.calls.specs.declared.Answer.{Answer}
 use Rattle.calls.specs.declared.Answer.the-variants.{Done, Stopped}
@@ -36,7 +36,7 @@ pub record Calls : Type 0 where
   pub table-words : (d : ℕ) (ws : List ℕ) → Answer
   pub table-bytes : (d : ℕ) (table : List ℕ) → Answer
   pub house : (d n m : ℕ) → Read
-  pub tree-writer : (d : ℕ) (table b t m r : List ℕ) → TreeLeft Answer
+  pub tree-writer : (d : ℕ) (kind : Kind) (table b t m r : List ℕ) → TreeLeft Answer
   pub block-reader : (d : ℕ) (r t m b : List ℕ) → BlockLeft Answer
   pub sampler : (d i : ℕ) (t m s : List ℕ) → SampleLeft Answer
   pub sample-checker : (d i : ℕ) (r s : List ℕ) → Answer
@@ -97,14 +97,14 @@ module _ (largest most : ℕ) where
         table-words = wordsBy;
         table-bytes = λ d table. tableBy d true table;
         house = λ d n m. pick (deep d) (pick (eqb n m) read.Whole read.Length) read.Depth;
-        tree-writer = λ d table b t m r. writtenBy (tableBy d (writeSized d (length b) (length t) (length m) (length r)) table) d table b t m r;
+        tree-writer = λ d kind table b t m r. writtenBy (tableBy d (writeSized d (length b) (length t) (length m) (length r)) table) d kind table b t m r;
         block-reader = λ d r t m b. readBy (headBy d (readSized d (length r) (length t) (length m) (length b)) r then testMarks m then testBase d m) d r t b;
         sampler = λ d i t m s.
             takenBy (begun d (takeSized d (length t) (length m) (length s)) then testMarks m then testNumber d i then needed (firstAbsent d i m)) d i t s;
         sample-checker = λ d i r s.
-            (headBy d (checkSized d (length r) (length s)) r then testNumber d i) then led (sampleCheck tree (symbolHash Plain) (rootIn r) d i s);
+            (headBy d (checkSized d (length r) (length s)) r then testNumber d i) then led (sampleCheck tree (symbolHash (kindIn r)) (rootIn r) d i s);
         proof-checker = λ d r table b.
-            namedBy d (proofSized (length r) (length b)) r table then judged (verdict tree (symbolHash Plain) (rootIn r) (tableOf (wordsOf table)) b);
+            namedBy d (proofSized (length r) (length b)) r table then judged (verdict tree (symbolHash (kindIn r)) (rootIn r) (tableOf (wordsOf table)) b);
         repair-tests = repairBy;
         repairer = λ d r table t m o. repairedBy (repairBy d r table t m o) d (sizeIn r) (repairOf r table t m o) t m o;
       }

@@ -1,5 +1,5 @@
 -- 01, "Cases at depth 1, house table": the starred cases as rows of one table. What a row says is `Holds`; that all hold is one theorem,
--- `cases-hold` of proofs/Cases.antt. Statements only.
+-- `cases-hold` of proofs/Cases.antt, of volumes of either kind. Statements only.
 use mathlib.Core.Path.{_≡_}
 use mathlib.Core.Logic.{_↔_}
 use mathlib.Core.Bool.{true, false}
@@ -13,7 +13,7 @@ use Rattle.parity_table.specs.Members.{every, lastOf}
 use Rattle.parity_table.specs.Table.{equationOf}
 use Rattle.house_table.specs.House.{houseTable, houseWords}
 use Rattle.symbol_hash.specs.SymbolHash.{symbolHash}
-use Rattle.symbol_hash.specs.declared.Kind.the-variants.{Plain}
+use Rattle.symbol_hash.specs.declared.Kind.{Kind}
 use Rattle.model.specs.Shape.{tree, places}
 use Rattle.model.specs.Symbols.{zeros, symAt, putAt}
 use Rattle.model.specs.Fault.{proofLength}
@@ -25,7 +25,7 @@ use Rattle.volume_calls.specs.Writing.{treeWritten}
 use Rattle.fault_calls.specs.Checking.{proofChecked}
 use Rattle.fault_calls.specs.Repairing.{Result, ended, misfilled, RepairLeft, repaired}
 use Rattle.guarantees.specs.Layouts.{dataSymbols, symbolAt, kindValue, recordBytes, rootPart}
-use Rattle.guarantees.specs.Trees.{CorrectlyCoded}
+use Rattle.guarantees.specs.Trees.{Hasher, kindBits, CorrectlyCoded}
 use Rattle.guarantees.specs.Terms.{equationsOf}
 use Rattle.guarantees.specs.Demand2.{treeAfter, recordAfter}
 use Rattle.guarantees.specs.Before.{Calls, now}
@@ -41,69 +41,69 @@ unfoldable pub houseBytes : List ℕ
 houseBytes = bytesOf (houseWords 1)
 
 -- the tree and the record that the call of the writer leaves, in buffers that held zeros
-unfoldable pub coded : List ℕ
-coded = treeAfter 1 houseBytes block (replicate 4096 0) (replicate 16 0) (replicate 556 0)
+unfoldable pub coded : Kind → List ℕ
+coded kind = treeAfter 1 kind houseBytes block (replicate 4096 0) (replicate 16 0) (replicate 556 0)
 
-unfoldable pub codedRecord : List ℕ
-codedRecord = recordAfter 1 houseBytes block (replicate 4096 0) (replicate 16 0) (replicate 556 0)
+unfoldable pub codedRecord : Kind → List ℕ
+codedRecord kind = recordAfter 1 kind houseBytes block (replicate 4096 0) (replicate 16 0) (replicate 556 0)
 
 -- the marks of all sixteen symbols but these, and the tree with zeros for these
 unfoldable pub marksBut : List ℕ → List ℕ
 marksBut [] = replicate 16 1
 marksBut (x ∷ xs) = set (marksBut xs) x 0
 
-unfoldable pub treeBut : List ℕ → List ℕ
-treeBut [] = coded
-treeBut (x ∷ xs) = putAt tree (treeBut xs) 0 x zeros
+unfoldable pub treeBut : Kind → List ℕ → List ℕ
+treeBut kind [] = coded kind
+treeBut kind (x ∷ xs) = putAt tree (treeBut kind xs) 0 x zeros
 
 -- ---- a repair of it with these symbols absent, lent the output o
 
 -- what the call answers and leaves
-unfoldable pub left : List ℕ → List ℕ → RepairLeft Result
-left absent o = repaired 1 codedRecord houseBytes coded (marksBut absent) o
+unfoldable pub left : Kind → List ℕ → List ℕ → RepairLeft Result
+left kind absent o = repaired 1 (codedRecord kind) houseBytes (coded kind) (marksBut absent) o
 
 -- layer 0 once it is entered: (a) is done
-unfoldable pub entered : List ℕ → List ℕ → St
-entered absent o =
-    enter tree (symbolHash Plain) (rootPart codedRecord) (equationsOf houseBytes) 0
-    (record { tree = coded; marks = marksBut absent; out = o; used = []; stored = 0; entered = 0; end = working })
+unfoldable pub entered : Kind → List ℕ → List ℕ → St
+entered kind absent o =
+    enter tree (symbolHash kind) (rootPart (codedRecord kind)) (equationsOf houseBytes) 0
+    (record { tree = coded kind; marks = marksBut absent; out = o; used = []; stored = 0; entered = 0; end = working })
 
 -- a turn of (b)
-unfoldable pub turn : St → St
-turn st = step tree (symbolHash Plain) (rootPart codedRecord) (equationsOf houseBytes) 0 st
+unfoldable pub turn : Kind → St → St
+turn kind st = step tree (symbolHash kind) (rootPart (codedRecord kind)) (equationsOf houseBytes) 0 st
 
 -- the turn takes equation e, which gives symbol x
-pub record Gives (e x : ℕ) (st : St) : Type 0 where
+pub record Gives (kind : Kind) (e x : ℕ) (st : St) : Type 0 where
   pub takes : lowestEq tree (equationsOf houseBytes) 0 st ≡ e
   pub was-absent : absentAt tree (st .marks) 0 x ≡ true
-  pub now-held : absentAt tree (turn st .marks) 0 x ≡ false
-  pub symbol : symAt tree (turn st .tree) 0 x ≡ symAt tree coded 0 x
-  pub counted : turn st .stored ≡ suc (st .stored)
+  pub now-held : absentAt tree (turn kind st .marks) 0 x ≡ false
+  pub symbol : symAt tree (turn kind st .tree) 0 x ≡ symAt tree (coded kind) 0 x
+  pub counted : turn kind st .stored ≡ suc (st .stored)
 
 -- the next turns take these equations, each giving its symbol
-abbrev pub Turns : List (ℕ × ℕ) → St → Type 0
-Turns [] st = Unit {0}
-Turns (g ∷ gs) st = Gives (g .0) (g .1) st × Turns gs (turn st)
+abbrev pub Turns : Kind → List (ℕ × ℕ) → St → Type 0
+Turns kind [] st = Unit {0}
+Turns kind (g ∷ gs) st = Gives kind (g .0) (g .1) st × Turns kind gs (turn kind st)
 
 -- the call reports this end and this number stored, and leaves these symbols missing (marked 0 and zeroed) and every other one held
-pub record Leaves (absent : List ℕ) (end : End) (missing : List ℕ) (stored : ℕ) (o : List ℕ) : Type 0 where
-  pub reports : left absent o .answer ≡ ended stored end
-  pub marks-are : left absent o .marks ≡ marksBut missing
-  pub tree-is : left absent o .tree ≡ treeBut missing
-  pub out-untouched : left absent o .out ≡ o
+pub record Leaves (kind : Kind) (absent : List ℕ) (end : End) (missing : List ℕ) (stored : ℕ) (o : List ℕ) : Type 0 where
+  pub reports : left kind absent o .answer ≡ ended stored end
+  pub marks-are : left kind absent o .marks ≡ marksBut missing
+  pub tree-is : left kind absent o .tree ≡ treeBut kind missing
+  pub out-untouched : left kind absent o .out ≡ o
 
 -- ---- a repair of it by a record that says another length
 
 -- the record of the same table and root that says so many bytes
-unfoldable pub recordSaying : ℕ → List ℕ
-recordSaying size = recordBytes 1 size 61 (sha256 houseBytes) (rootPart codedRecord)
+unfoldable pub recordSaying : Kind → ℕ → List ℕ
+recordSaying kind size = recordBytes (kindBits kind) 1 size 61 (sha256 houseBytes) (rootPart (codedRecord kind))
 
 -- the call by it reports 13 and this number stored, and leaves every symbol held
-pub record Misfills (absent : List ℕ) (size stored : ℕ) (o : List ℕ) : Type 0 where
-  pub reports : repaired 1 (recordSaying size) houseBytes coded (marksBut absent) o .answer ≡ misfilled stored
-  pub marks-are : repaired 1 (recordSaying size) houseBytes coded (marksBut absent) o .marks ≡ marksBut []
-  pub tree-is : repaired 1 (recordSaying size) houseBytes coded (marksBut absent) o .tree ≡ coded
-  pub out-untouched : repaired 1 (recordSaying size) houseBytes coded (marksBut absent) o .out ≡ o
+pub record Misfills (kind : Kind) (absent : List ℕ) (size stored : ℕ) (o : List ℕ) : Type 0 where
+  pub reports : repaired 1 (recordSaying kind size) houseBytes (coded kind) (marksBut absent) o .answer ≡ misfilled stored
+  pub marks-are : repaired 1 (recordSaying kind size) houseBytes (coded kind) (marksBut absent) o .marks ≡ marksBut []
+  pub tree-is : repaired 1 (recordSaying kind size) houseBytes (coded kind) (marksBut absent) o .tree ≡ coded kind
+  pub out-untouched : repaired 1 (recordSaying kind size) houseBytes (coded kind) (marksBut absent) o .out ≡ o
 
 -- ---- other claims
 
@@ -113,7 +113,7 @@ pub record EveryCall (calls : Calls) (depth : ℕ) (P : ℕ → Type 0) : Type 0
   pub table-bytes : (b : List ℕ) → P (numberOf (calls .table-bytes depth b))
   pub house-words : (n : ℕ) → P (numberOf (readAnswer (calls .house depth n (length (houseWords depth)))))
   pub house-bytes : (n : ℕ) → P (numberOf (readAnswer (calls .house depth n (length (houseWords depth) * 4))))
-  pub tree-writer : (table b t m r : List ℕ) → P (numberOf (calls .tree-writer depth table b t m r .answer))
+  pub tree-writer : (kind : Kind) (table b t m r : List ℕ) → P (numberOf (calls .tree-writer depth kind table b t m r .answer))
   pub block-reader : (r t m b : List ℕ) → P (numberOf (calls .block-reader depth r t m b .answer))
   pub sampler : (i : ℕ) (t m s : List ℕ) → P (numberOf (calls .sampler depth i t m s .answer))
   pub sample-checker : (i : ℕ) (r s : List ℕ) → P (numberOf (calls .sample-checker depth i r s))
@@ -127,8 +127,8 @@ Depths least most = (depth : ℕ) → EveryCall now depth (λ number. (number �
 -- With the house table and a block that fits, the writer is done just when it is lent a tree of so many symbols, a mark for each, and a record.
 pub record Has (depth symbols : ℕ) : Type 0 where
   pub in-all : places tree depth ≡ symbols
-  pub writes : (b t m r : List ℕ) → length b ≤ 256 * dataSymbols (depth - 1)
-      → (treeWritten depth (bytesOf (houseWords depth)) b t m r .answer ≡ Done) ↔ ((length t ≡ 256 * symbols) × (length m ≡ symbols) × (length r ≡ 556))
+  pub writes : (kind : Kind) (b t m r : List ℕ) → length b ≤ 256 * dataSymbols (depth - 1)
+      → (treeWritten depth kind (bytesOf (houseWords depth)) b t m r .answer ≡ Done) ↔ ((length t ≡ 256 * symbols) × (length m ≡ symbols) × (length r ≡ 556))
 
 -- each of these is a byte
 abbrev pub AreBytes : List ℕ → Type 0
@@ -154,7 +154,8 @@ pub record Longest (depth bytes : ℕ) : Type 0 where
 -- In every correctly coded tree of this depth the hash of base symbol i stands in data symbol s of the layer above, in these bytes.
 pub record Stands (depth i s from upto : ℕ) : Type 0 where
   pub bytes : upto ≡ from + 31
-  pub stands : (tbl : List (List (List ℕ))) (f : ℕ → ℕ → List ℕ) → CorrectlyCoded depth tbl f → take 32 (drop from (f (depth - 2) s)) ≡ sha256 (f (depth - 1) i)
+  pub stands : (H : Hasher) (tbl : List (List (List ℕ))) (f : ℕ → ℕ → List ℕ) → CorrectlyCoded H depth tbl f
+      → take 32 (drop from (f (depth - 2) s)) ≡ H (depth - 1) i (f (depth - 1) i)
 
 -- ---- the table
 
@@ -172,19 +173,19 @@ pub data Case : Type 0 where
   longestProof : (depth bytes : ℕ) → Case
   hashStands : (depth i s from upto : ℕ) → Case
 
--- what a row says
-abbrev pub Holds : Case → Type 0
-Holds (equationIs e ms) = equationOf (houseTable 1) 0 e ≡ ms
-Holds (tableHas n v) = (length (houseWords 1) ≡ n) × (lastOf (houseWords 1) 0 ≡ kindValue 3 v)
-Holds (symbolIs i b) = symbolAt coded 0 i ≡ replicate 256 b
-Holds (repairGives absent gs) = (o : List ℕ) → Turns gs (entered absent o)
-Holds (repairLeaves absent z missing n) = (o : List ℕ) → length o ≡ 12 + 256 * (8 * 1 - 1) → Leaves absent z missing n o
-Holds (repairMisfills absent size n) = (o : List ℕ) → length o ≡ 12 + 256 * (8 * 1 - 1) → Misfills absent size n o
-Holds (depthStops d) = EveryCall now d (λ number. number ≡ 1)
-Holds (depthsAre a b) = Depths a b
-Holds (depthHas d n) = Has d n
-Holds (longestProof d n) = Longest d n
-Holds (hashStands d i s a b) = Stands d i s a b
+-- what a row says of volumes of this kind
+abbrev pub Holds : Kind → Case → Type 0
+Holds kind (equationIs e ms) = equationOf (houseTable 1) 0 e ≡ ms
+Holds kind (tableHas n v) = (length (houseWords 1) ≡ n) × (lastOf (houseWords 1) 0 ≡ kindValue 3 v)
+Holds kind (symbolIs i b) = symbolAt (coded kind) 0 i ≡ replicate 256 b
+Holds kind (repairGives absent gs) = (o : List ℕ) → Turns kind gs (entered kind absent o)
+Holds kind (repairLeaves absent z missing n) = (o : List ℕ) → length o ≡ 12 + 256 * (8 * 1 - 1) → Leaves kind absent z missing n o
+Holds kind (repairMisfills absent size n) = (o : List ℕ) → length o ≡ 12 + 256 * (8 * 1 - 1) → Misfills kind absent size n o
+Holds kind (depthStops d) = EveryCall now d (λ number. number ≡ 1)
+Holds kind (depthsAre a b) = Depths a b
+Holds kind (depthHas d n) = Has d n
+Holds kind (longestProof d n) = Longest d n
+Holds kind (hashStands d i s a b) = Stands d i s a b
 
 abbrev pub cases : List Case
 cases =
@@ -230,4 +231,4 @@ pub data Every (P : Case → Type 0) : List Case → Type 0 where
   _also_ : {c : Case} {cs : List Case} → P c → Every P cs → Every P (c ∷ cs)
 
 abbrev pub CasesHold : Type 0
-CasesHold = Every Holds cases
+CasesHold = (kind : Kind) → Every (Holds kind) cases

@@ -11,15 +11,17 @@ use Rattle.octets.specs.BigEndian.{bytesOf}
 use Rattle.table_bytes.specs.Bytes.{wordsOf}
 use Rattle.parity_table.specs.Parse.{tableOf}
 use Rattle.house_table.specs.House.{houseTable, houseWords}
+use Rattle.symbol_hash.specs.declared.Kind.{Kind}
 use Rattle.calls.specs.declared.Answer.{Answer}
 use Rattle.calls.specs.declared.Answer.the-variants.{Done}
 use Rattle.calls.specs.Tests.{wordsTested, admitted}
 use Rattle.volume_calls.specs.Writing.{treeWritten}
 use Rattle.fault_calls.specs.Checking.{proofChecked}
 use Rattle.fault_calls.specs.Repairing.{repairTested}
+use Rattle.recoding.specs.Recoding.{recoded}
 use Rattle.guarantees.specs.Answers.{Answers}
 use Rattle.guarantees.specs.Tables.{TableRight, FirstWrongWord, AllInTwo, FirstNotInTwo}
-use Rattle.guarantees.specs.Refusals.{DepthRight, TableLength, HeadRight, WriterLengths, RepairLengths}
+use Rattle.guarantees.specs.Refusals.{DepthRight, TableLength, HeadRight, WriterLengths, RepairLengths, RecodeLengths}
 use Rattle.guarantees.specs.FaultProofs.{ProofLengths}
 use Rattle.guarantees.specs.Terms.{equationsOf}
 
@@ -48,12 +50,14 @@ module _ (d : ℕ) (ws : List ℕ) (before : Type 0) (a : Answer) where
 pub record Change1 : Type 0 where
   pub words-check : (d : ℕ) (ws : List ℕ) → Table d ws (DepthRight d) (wordsTested d ws)
   pub table-check : (d : ℕ) (table : List ℕ) → Table d (wordsOf table) (DepthRight d × TableLength table) (admitted d true table)
-  pub tree-writer : (d : ℕ) (table b t m r : List ℕ)
-      → Table d (wordsOf table) (DepthRight d × WriterLengths d table b t m r) (treeWritten d table b t m r .answer)
+  pub tree-writer : (d : ℕ) (kind : Kind) (table b t m r : List ℕ)
+      → Table d (wordsOf table) (DepthRight d × WriterLengths d table b t m r) (treeWritten d kind table b t m r .answer)
   pub proof-checker : (d : ℕ) (r table b : List ℕ)
       → Table d (wordsOf table) (DepthRight d × ProofLengths r table b × HeadRight d r) (proofChecked d r table b)
   pub repairer : (d : ℕ) (r table t m o : List ℕ)
       → Table d (wordsOf table) (DepthRight d × RepairLengths d r table t m o × HeadRight d r) (repairTested d r table t m o)
+  pub recoder : (d : ℕ) (r table t m t′ m′ r′ : List ℕ)
+      → Table d (wordsOf table) (DepthRight d × RecodeLengths d r table t m t′ m′ r′ × HeadRight d r) (recoded d r table t m t′ m′ r′ .answer)
   -- and a table is taken just when it is so
   pub words-taken : (d : ℕ) (ws : List ℕ) → (wordsTested d ws ≡ Done) ↔ (DepthRight d × TableRight d ws × AllInTwo d (tableOf ws))
   pub table-taken : (d : ℕ) (table : List ℕ)

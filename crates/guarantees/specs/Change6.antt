@@ -10,6 +10,7 @@ use Prim.Native.Nat.{ℕ, _-_, _*_, _%_, _≤_, _<_}
 use lib.ListN.{length}
 use Rattle.octets.specs.BigEndian.{bytesOf}
 use Rattle.house_table.specs.House.{houseWords, houseAnswer}
+use Rattle.symbol_hash.specs.declared.Kind.{Kind}
 use Rattle.calls.specs.declared.Answer.the-variants.{Done}
 use Rattle.calls.specs.Stops.{numberOf}
 use Rattle.calls.specs.Tests.{wordsTested, admitted}
@@ -69,7 +70,7 @@ pub record AsBefore (d : ℕ) : Type 0 where
   pub table-words : (ws : List ℕ) → wordsTested d ws ≡ before .table-words d ws
   pub table-bytes : (table : List ℕ) → LengthAsBefore d table → admitted d true table ≡ before .table-bytes d table
   pub house : (n m : ℕ) → houseAnswer d n m ≡ before .house d n m
-  pub tree-writer : (table b t m r : List ℕ) → LengthAsBefore d table → treeWritten d table b t m r ≡ before .tree-writer d table b t m r
+  pub tree-writer : (kind : Kind) (table b t m r : List ℕ) → LengthAsBefore d table → treeWritten d kind table b t m r ≡ before .tree-writer d kind table b t m r
   pub block-reader : (r t m b : List ℕ) → blockRead d r t m b ≡ before .block-reader d r t m b
   pub sampler : (i : ℕ) (t m s : List ℕ) → sampleTaken d i t m s ≡ before .sampler d i t m s
   pub sample-checker : (i : ℕ) (r s : List ℕ) → sampleChecked d i r s ≡ before .sample-checker d i r s
@@ -81,8 +82,8 @@ pub record AsBefore (d : ℕ) : Type 0 where
 pub record LongerTable (d : ℕ) (table : List ℕ) : Type 0 where
   pub check-before : numberOf (before .table-bytes d table) ≡ 2
   pub check-now : numberOf (admitted d true table) ≡ 3
-  pub writer-before : (b t m r : List ℕ) → numberOf (before .tree-writer d table b t m r .answer) ≡ 2
-  pub writer-now : (b t m r : List ℕ) → WriterLengths d table b t m r → numberOf (treeWritten d table b t m r .answer) ≡ 3
+  pub writer-before : (kind : Kind) (b t m r : List ℕ) → numberOf (before .tree-writer d kind table b t m r .answer) ≡ 2
+  pub writer-now : (kind : Kind) (b t m r : List ℕ) → WriterLengths d table b t m r → numberOf (treeWritten d kind table b t m r .answer) ≡ 3
   pub proof-before : (r b : List ℕ) → numberOf (before .proof-checker d r table b) ≡ 2
   pub proof-now : (r b : List ℕ) → ProofLengths r table b → HeadRight d r → numberOf (proofChecked d r table b) ≡ 3
   pub repair-before : (r t m o : List ℕ) → numberOf (before .repair-tests d r table t m o) ≡ 2

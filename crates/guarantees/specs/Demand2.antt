@@ -1,6 +1,7 @@
 -- Demand 2: "A block, its depth and its parity table give exactly the symbols and root that the coded Merkle tree's definition and FIPS 180-4
 -- give. A complete tree gives back exactly that block, and a sample is accepted just when its hashes lead to the root." 02, CR 5: "Demand 2's root is
--- now this record." Statements only. The definition is that of Trees.antt, 01's, with `sha256`, FIPS 180-4's.
+-- now this record." CR 7: "the writer is told which kind to make"; "A tree agrees with a record only by hashes of that record's kind." Statements only. The
+-- definition is that of Trees.antt, 01's and 02's, with `sha256`, FIPS 180-4's.
 use mathlib.Core.Path.{_≡_}
 use mathlib.Core.Logic.{_⊎_, _↔_}
 use mathlib.Core.List.{List}
@@ -13,34 +14,35 @@ use Rattle.volume_calls.specs.Reading.{blockRead}
 use Rattle.volume_calls.specs.Writing.{treeWritten}
 use Rattle.sample_calls.specs.Checking.{sampleChecked}
 use Rattle.sample_calls.specs.Taking.{sampleTaken}
-use Rattle.guarantees.specs.Layouts.{symbolNo, dataSymbols, allSymbols, treeSymbols, symbolAt, markAt, sampledLayer, sampledNumber, recordBytes, blockSize, rootPart, blockStart, filledUp}
+use Rattle.guarantees.specs.Layouts.{symbolNo, dataSymbols, allSymbols, treeSymbols, symbolAt, markAt, sampledLayer, sampledNumber, kindNo, recordBytes, blockSize, rootPart, blockStart, filledUp}
 use Rattle.guarantees.specs.Tables.{TableRules, listed}
-use Rattle.guarantees.specs.Trees.{CorrectlyCoded, RootOf, AgreesWith, HasBlock, Twins}
+use Rattle.symbol_hash.specs.declared.Kind.{Kind}
+use Rattle.guarantees.specs.Trees.{Hasher, kindBits, hashBy, CorrectlyCoded, RootOf, AgreesWith, HasBlock, Twins}
 use Rattle.guarantees.specs.Refusals.{DepthRight, TreeLengths, BlockFits, BlockLength, RecordLength, HeadRight, SampleLength, InBase, AllHashesLead}
 use Rattle.guarantees.specs.Terms.{equationsOf}
 
 -- ---- what a call of the writer leaves, that was lent the buffers t, m and r
 
-module _ (depth : ℕ) (table block t m r : List ℕ) where
+module _ (depth : ℕ) (kind : Kind) (table block t m r : List ℕ) where
   abbrev pub treeAfter : List ℕ
-  treeAfter = treeWritten depth table block t m r .tree
+  treeAfter = treeWritten depth kind table block t m r .tree
 
   abbrev pub marksAfter : List ℕ
-  marksAfter = treeWritten depth table block t m r .marks
+  marksAfter = treeWritten depth kind table block t m r .marks
 
   abbrev pub recordAfter : List ℕ
-  recordAfter = treeWritten depth table block t m r .root-record
+  recordAfter = treeWritten depth kind table block t m r .root-record
 
 -- ---- "A block, its depth and its parity table give exactly the symbols and root that the coded Merkle tree's definition and FIPS 180-4 give."
 
 -- "The block length is 0 to 256·k of the base; the writer fills up with zeros."
-module _ (depth : ℕ) (table block t m r : List ℕ) where
+module _ (depth : ℕ) (kind : Kind) (table block t m r : List ℕ) where
   -- symbol i of layer j that is written, and the root inside the record
   abbrev pub symbol : ℕ → ℕ → List ℕ
-  symbol = symbolAt (treeAfter depth table block t m r)
+  symbol = symbolAt (treeAfter depth kind table block t m r)
 
   abbrev pub rootAfter : List ℕ
-  rootAfter = rootPart (recordAfter depth table block t m r)
+  rootAfter = rootPart (recordAfter depth kind table block t m r)
 
   pub record Exactly : Type 0 where
     -- the equations are by the rules, and theirs are the words that were lent
@@ -48,28 +50,28 @@ module _ (depth : ℕ) (table block t m r : List ℕ) where
     pub table-words : wordsOf table ≡ listed (equationsOf table)
     -- the block has room; the tree is correctly coded, its layer 0 has the hashes that are the root, and its base has the block's bytes and then zeros
     pub block-fits : BlockFits depth block
-    pub agrees : AgreesWith depth (equationsOf table) rootAfter symbol
+    pub agrees : AgreesWith (hashBy (kindBits kind)) depth (equationsOf table) rootAfter symbol
     pub has-block : HasBlock depth symbol (filledUp depth block)
     -- and every correctly coded tree with that base has these symbols and this root
-    pub only : (f : ℕ → ℕ → List ℕ) → CorrectlyCoded depth (equationsOf table) f → HasBlock depth f (filledUp depth block)
+    pub only : (f : ℕ → ℕ → List ℕ) → CorrectlyCoded (hashBy (kindBits kind)) depth (equationsOf table) f → HasBlock depth f (filledUp depth block)
         → (j i : ℕ) → j < depth → i < allSymbols j → symbol j i ≡ f j i
-    pub only-root : (f : ℕ → ℕ → List ℕ) → CorrectlyCoded depth (equationsOf table) f → HasBlock depth f (filledUp depth block) → RootOf f rootAfter
+    pub only-root : (f : ℕ → ℕ → List ℕ) → CorrectlyCoded (hashBy (kindBits kind)) depth (equationsOf table) f → HasBlock depth f (filledUp depth block) → RootOf (hashBy (kindBits kind)) f rootAfter
     -- the record, byte for byte
-    pub exact-record : recordAfter depth table block t m r ≡ recordBytes depth (length block) (length (wordsOf table)) (sha256 table) rootAfter
+    pub exact-record : recordAfter depth kind table block t m r ≡ recordBytes (kindBits kind) depth (length block) (length (wordsOf table)) (sha256 table) rootAfter
     -- "The writer sets every mark to 1."
-    pub marked : (p : ℕ) → p < treeSymbols depth → getD (marksAfter depth table block t m r) p 0 ≡ 1
-    pub lengths : TreeLengths depth (treeAfter depth table block t m r) (marksAfter depth table block t m r)
+    pub marked : (p : ℕ) → p < treeSymbols depth → getD (marksAfter depth kind table block t m r) p 0 ≡ 1
+    pub lengths : TreeLengths depth (treeAfter depth kind table block t m r) (marksAfter depth kind table block t m r)
 
 abbrev pub WritesExactly : Type 0
-WritesExactly = (depth : ℕ) (table block t m r : List ℕ) → treeWritten depth table block t m r .answer ≡ Done → Exactly depth table block t m r
+WritesExactly = (depth : ℕ) (kind : Kind) (table block t m r : List ℕ) → treeWritten depth kind table block t m r .answer ≡ Done → Exactly depth kind table block t m r
 
 -- whatever the lent buffers held
 abbrev pub WritesTheSame : Type 0
 WritesTheSame =
-    (depth : ℕ) (table block t m r t′ m′ r′ : List ℕ) → treeWritten depth table block t m r .answer ≡ Done → treeWritten depth table block t′ m′ r′ .answer ≡ Done
-    → (treeAfter depth table block t m r ≡ treeAfter depth table block t′ m′ r′)
-    × (marksAfter depth table block t m r ≡ marksAfter depth table block t′ m′ r′)
-    × (recordAfter depth table block t m r ≡ recordAfter depth table block t′ m′ r′)
+    (depth : ℕ) (kind : Kind) (table block t m r t′ m′ r′ : List ℕ) → treeWritten depth kind table block t m r .answer ≡ Done → treeWritten depth kind table block t′ m′ r′ .answer ≡ Done
+    → (treeAfter depth kind table block t m r ≡ treeAfter depth kind table block t′ m′ r′)
+    × (marksAfter depth kind table block t m r ≡ marksAfter depth kind table block t′ m′ r′)
+    × (recordAfter depth kind table block t m r ≡ recordAfter depth kind table block t′ m′ r′)
 
 -- ---- "A complete tree gives back exactly that block"
 
@@ -109,32 +111,32 @@ pub record GivesBack (block b after : List ℕ) : Type 0 where
 -- of a tree that was written, with its record: exactly the block
 abbrev pub ReadsWritten : Type 0
 ReadsWritten =
-    (depth : ℕ) (table block t m r b : List ℕ) → treeWritten depth table block t m r .answer ≡ Done → BlockLength depth b
-    → (blockRead depth (recordAfter depth table block t m r) (treeAfter depth table block t m r) (marksAfter depth table block t m r) b .answer ≡ Done)
-    × GivesBack block b (blockAfter depth (recordAfter depth table block t m r) (treeAfter depth table block t m r) (marksAfter depth table block t m r) b)
+    (depth : ℕ) (kind : Kind) (table block t m r b : List ℕ) → treeWritten depth kind table block t m r .answer ≡ Done → BlockLength depth b
+    → (blockRead depth (recordAfter depth kind table block t m r) (treeAfter depth kind table block t m r) (marksAfter depth kind table block t m r) b .answer ≡ Done)
+    × GivesBack block b (blockAfter depth (recordAfter depth kind table block t m r) (treeAfter depth kind table block t m r) (marksAfter depth kind table block t m r) b)
 
--- two trees show, at one layer and number, two different symbols of equal SHA-256
-pub record TreesCollide (depth : ℕ) (f g : ℕ → ℕ → List ℕ) : Type 0 where
+-- two trees show, at one layer and number, two different symbols of equal hash
+pub record TreesCollide (H : Hasher) (depth : ℕ) (f g : ℕ → ℕ → List ℕ) : Type 0 where
   pub layer : ℕ
   pub number : ℕ
   pub in-tree : (layer < depth) × (number < allSymbols layer)
-  pub collide : Twins (f layer number) (g layer number)
+  pub collide : Twins H layer number (f layer number) (g layer number)
 
 -- of any tree u that agrees with the record that was written, as one that was repaired whole does: the block, or a collision of the two trees
 abbrev pub ReadsOriginal : Type 0
 ReadsOriginal =
-    (depth : ℕ) (table block t m r : List ℕ) → treeWritten depth table block t m r .answer ≡ Done
-    → (u w b : List ℕ) → blockRead depth (recordAfter depth table block t m r) u w b .answer ≡ Done
-    → AgreesWith depth (equationsOf table) (rootAfter depth table block t m r) (symbolAt u)
-    → GivesBack block b (blockAfter depth (recordAfter depth table block t m r) u w b) ⊎ TreesCollide depth (symbolAt u) (symbol depth table block t m r)
+    (depth : ℕ) (kind : Kind) (table block t m r : List ℕ) → treeWritten depth kind table block t m r .answer ≡ Done
+    → (u w b : List ℕ) → blockRead depth (recordAfter depth kind table block t m r) u w b .answer ≡ Done
+    → AgreesWith (hashBy (kindBits kind)) depth (equationsOf table) (rootAfter depth kind table block t m r) (symbolAt u)
+    → GivesBack block b (blockAfter depth (recordAfter depth kind table block t m r) u w b) ⊎ TreesCollide (hashBy (kindBits kind)) depth (symbolAt u) (symbol depth kind table block t m r)
 
 -- of two trees that agree with a record, by one table, as those that two readers repaired whole or misfilled: the same bytes, or a collision of the two
 abbrev pub ReadsAgreed : Type 0
 ReadsAgreed =
     (depth : ℕ) (r : List ℕ) (tbl : List (List (List ℕ))) → TableRules depth tbl → (u w b v x c : List ℕ)
     → blockRead depth r u w b .answer ≡ Done → blockRead depth r v x c .answer ≡ Done
-    → AgreesWith depth tbl (rootPart r) (symbolAt u) → AgreesWith depth tbl (rootPart r) (symbolAt v)
-    → (take (blockSize r) (blockAfter depth r u w b) ≡ take (blockSize r) (blockAfter depth r v x c)) ⊎ TreesCollide depth (symbolAt u) (symbolAt v)
+    → AgreesWith (hashBy (kindNo r 0)) depth tbl (rootPart r) (symbolAt u) → AgreesWith (hashBy (kindNo r 0)) depth tbl (rootPart r) (symbolAt v)
+    → (take (blockSize r) (blockAfter depth r u w b) ≡ take (blockSize r) (blockAfter depth r v x c)) ⊎ TreesCollide (hashBy (kindNo r 0)) depth (symbolAt u) (symbolAt v)
 
 -- ---- "and a sample is accepted just when its hashes lead to the root"
 
@@ -149,7 +151,7 @@ pub record SampleReady (depth i : ℕ) (r s : List ℕ) : Type 0 where
 -- and every hash in the sample leads to the root
 pub record SampleRight (depth i : ℕ) (r s : List ℕ) : Type 0 where
   pub ready : SampleReady depth i r s
-  pub all-lead : AllHashesLead depth i (rootPart r) s
+  pub all-lead : AllHashesLead (hashBy (kindNo r 0)) depth i (rootPart r) s
 
 abbrev pub AcceptsJustWhen : Type 0
 AcceptsJustWhen = (depth i : ℕ) (r s : List ℕ) → (sampleChecked depth i r s ≡ Done) ↔ SampleRight depth i r s
@@ -177,18 +179,18 @@ TakesExactly =
 abbrev pub AcceptsTaken : Type 0
 AcceptsTaken =
     (depth i : ℕ) (r t m s : List ℕ) (tbl : List (List (List ℕ))) → RecordLength r → HeadRight depth r → TableRules depth tbl
-    → AgreesWith depth tbl (rootPart r) (symbolAt t) → sampleTaken depth i t m s .answer ≡ Done → sampleChecked depth i r (sampleAfter depth i t m s) ≡ Done
+    → AgreesWith (hashBy (kindNo r 0)) depth tbl (rootPart r) (symbolAt t) → sampleTaken depth i t m s .answer ≡ Done → sampleChecked depth i r (sampleAfter depth i t m s) ≡ Done
 
 -- an accepted sample has the symbols of every tree that agrees, or shows a collision with it
-pub record SampleCollides (depth i : ℕ) (s : List ℕ) (f : ℕ → ℕ → List ℕ) : Type 0 where
+pub record SampleCollides (H : Hasher) (depth i : ℕ) (s : List ℕ) (f : ℕ → ℕ → List ℕ) : Type 0 where
   pub index : ℕ
   pub inside : index < 2 * depth - 1
-  pub collide : Twins (symbolNo s index) (f (sampledLayer depth index) (sampledNumber depth i index))
+  pub collide : Twins H (sampledLayer depth index) (sampledNumber depth i index) (symbolNo s index) (f (sampledLayer depth index) (sampledNumber depth i index))
 
 abbrev pub AcceptedIsTrue : Type 0
 AcceptedIsTrue =
     (depth i : ℕ) (r s : List ℕ) (tbl : List (List (List ℕ))) → TableRules depth tbl → sampleChecked depth i r s ≡ Done
-    → (f : ℕ → ℕ → List ℕ) → AgreesWith depth tbl (rootPart r) f → SampleHas depth i s f ⊎ SampleCollides depth i s f
+    → (f : ℕ → ℕ → List ℕ) → AgreesWith (hashBy (kindNo r 0)) depth tbl (rootPart r) f → SampleHas depth i s f ⊎ SampleCollides (hashBy (kindNo r 0)) depth i s f
 
 -- ---- the demand
 

@@ -1,4 +1,5 @@
--- Demand 3. Statements only. The tree is 01's (Trees.antt), with `sha256`; the equations are those that the table's words say.
+-- Demand 3. Statements only. The tree is 01's (Trees.antt), with hashes of the record's kind, 02's CR 7: "A kind 00 volume has the same fault promise and the
+-- same four ends of repair, equal hashes meaning those of place and symbol together". The equations are those that the table's words say.
 use mathlib.Core.Path.{_≡_}
 use mathlib.Core.Logic.{_⊎_, _↔_, _≢_}
 use mathlib.Core.Bool.{Bool, true, false}
@@ -6,15 +7,14 @@ use mathlib.Core.List.{List, [], _∷_, _++_}
 use Prim.Native.Nat.{ℕ, zero, suc, _+_, _*_, _≤_, _<_}
 use lib.ListN.{length, getD, take, drop, replicate}
 use Rattle.octets.specs.Choice.{pick}
-use Rattle.sha256.specs.Hash.{sha256}
 use Rattle.model.specs.Repair.{whole, fault, unavailable, twins, St}
 use Rattle.calls.specs.declared.Stop.{Stop}
 use Rattle.calls.specs.declared.Answer.the-variants.{Done, Stopped}
 use Rattle.fault_calls.specs.Checking.{proofChecked}
 use Rattle.fault_calls.specs.Repairing.{Result, repairTested, repairOf, repaired, ended, misfilled, stopped}
-use Rattle.guarantees.specs.Layouts.{symbolNo, dataSymbols, allSymbols, treeSymbols, symbolAt, markAt, hashFor, XorOf, blockSize, rootPart, blockRoom, blockStart}
+use Rattle.guarantees.specs.Layouts.{symbolNo, dataSymbols, allSymbols, treeSymbols, symbolAt, markAt, hashFor, XorOf, kindNo, blockSize, rootPart, blockRoom, blockStart}
 use Rattle.guarantees.specs.Tables.{IsMember}
-use Rattle.guarantees.specs.Trees.{members, EquationHolds, AgreesWith, Twins}
+use Rattle.guarantees.specs.Trees.{Hasher, hashBy, members, EquationHolds, AgreesWith, Twins}
 use Rattle.guarantees.specs.Refusals.{TreeLengths}
 use Rattle.guarantees.specs.FaultProofs.{Named, Holds, Written}
 use Rattle.guarantees.specs.Terms.{equationsOf}
@@ -23,19 +23,19 @@ use Rattle.guarantees.specs.Terms.{equationsOf}
 -- checker accepts the bytes for that root and table only when proof and tree hold, at one layer and number, two different symbols of equal
 -- SHA-256."
 
-pub record ProofCollides (depth : ℕ) (table b : List ℕ) (f : ℕ → ℕ → List ℕ) : Type 0 where
+pub record ProofCollides (H : Hasher) (depth : ℕ) (table b : List ℕ) (f : ℕ → ℕ → List ℕ) : Type 0 where
   pub named : Named depth (equationsOf table) b
   pub layer : ℕ
   pub number : ℕ
   pub held : List ℕ
   pub holds : Holds named layer number held
   pub in-tree : (layer < depth) × (number < allSymbols layer)
-  pub collide : Twins held (f layer number)
+  pub collide : Twins H layer number held (f layer number)
 
 abbrev pub Checker : Type 0
 Checker =
-    (depth : ℕ) (r table : List ℕ) (f : ℕ → ℕ → List ℕ) → AgreesWith depth (equationsOf table) (rootPart r) f
-    → (b : List ℕ) → proofChecked depth r table b ≡ Done → ProofCollides depth table b f
+    (depth : ℕ) (r table : List ℕ) (f : ℕ → ℕ → List ℕ) → AgreesWith (hashBy (kindNo r 0)) depth (equationsOf table) (rootPart r) f
+    → (b : List ℕ) → proofChecked depth r table b ≡ Done → ProofCollides (hashBy (kindNo r 0)) depth table b f
 
 -- ---- "And whatever symbols and marks the shops send back, right, wrong or none, every repair of well-formed input .."
 
@@ -96,13 +96,17 @@ module _ (depth : ℕ) (r table t m o : List ℕ) where
   abbrev pub equation : ℕ → ℕ → List ℕ
   equation = members (equationsOf table)
 
+  -- the hash of a symbol of the record's kind
+  abbrev pub hash : Hasher
+  hash = hashBy (kindNo r 0)
+
   -- "The committed hash of a symbol is the one that the root, or the layer above as the call leaves it, has for it."
   abbrev pub committed : ℕ → ℕ → List ℕ
   committed = hashFor (rootPart r) symbol
 
   -- "The gaps of an entered layer are the places lent with mark 0 or with a symbol of another hash than the committed one"
   abbrev pub Gap : ℕ → ℕ → Type 0
-  Gap j i = (markAt m j i ≡ 0) ⊎ (sha256 (symbolAt t j i) ≢ committed j i)
+  Gap j i = (markAt m j i ≡ 0) ⊎ (hash j i (symbolAt t j i) ≢ committed j i)
 
   -- "no equation meets [the set] exactly once"
   abbrev pub NeverOnce : ℕ → (ℕ → Bool) → Type 0
@@ -125,7 +129,7 @@ module _ (depth : ℕ) (r table t m o : List ℕ) where
     -- what is no gap is held and stays
     pub kept : (j i : ℕ) → j < steps .entered → i < allSymbols j → (Gap j i → ⊥) → (mark j i ≡ 1) × (symbol j i ≡ symbolAt t j i)
     -- "each symbol then marked held in an entered layer has the committed hash"
-    pub held : (j i : ℕ) → j < steps .entered → i < allSymbols j → mark j i ≡ 1 → sha256 (symbol j i) ≡ committed j i
+    pub held : (j i : ℕ) → j < steps .entered → i < allSymbols j → mark j i ≡ 1 → hash j i (symbol j i) ≡ committed j i
     -- "every layer above the last one entered is complete, all its equations holding"
     pub above-complete : (j i : ℕ) → suc j < steps .entered → i < allSymbols j → mark j i ≡ 1
     pub above-holds : (j e : ℕ) → suc j < steps .entered → e < 3 * dataSymbols j → EquationHolds (symbol j) (equation j e)
@@ -144,7 +148,7 @@ module _ (depth : ℕ) (r table t m o : List ℕ) where
     pub is-end : steps .end ≡ whole
     pub last : steps .entered ≡ depth
     pub all-held : (j i : ℕ) → j < depth → i < allSymbols j → mark j i ≡ 1
-    pub agrees : AgreesWith depth (equationsOf table) (rootPart r) symbol
+    pub agrees : AgreesWith hash depth (equationsOf table) (rootPart r) symbol
     pub out-untouched : steps .out ≡ o
 
   -- byte p of the base's data symbols, from the block's length on: the filling
@@ -234,12 +238,12 @@ module _ (depth : ℕ) (r table t m o : List ℕ) where
     pub reported : answer ≡ ended (steps .stored) (twins layer number)
     pub took : Took layer equation-no number
     pub why : LastOfFailing layer equation-no number
-    pub shown : Twins (symbolNo (steps .out) 0) (symbolNo (steps .out) 1)
+    pub shown : Twins hash layer number (symbolNo (steps .out) 0) (symbolNo (steps .out) 1)
     pub first-is : symbolNo (steps .out) 0 ≡ symbol layer number
     pub front : List ℕ
     pub splits : equation layer equation-no ≡ front ++ (number ∷ [])
     pub second-is : XorOf (λ q. symbol layer (getD front q 0)) (length front) (symbolNo (steps .out) 1)
-    pub is-committed : sha256 (symbolNo (steps .out) 0) ≡ committed layer number
+    pub is-committed : hash layer number (symbolNo (steps .out) 0) ≡ committed layer number
     pub out-rest : drop 512 (steps .out) ≡ drop 512 o
 
   -- the sentence, of a repair whose input no numbered test turns away; 13 counts as the first of the demand's four ways

@@ -4,15 +4,14 @@ use mathlib.Core.Logic.{_⊎_, _↔_}
 use mathlib.Core.List.{List, _∷_, _++_}
 use Prim.Native.Nat.{ℕ, _+_, _-_, _*_, _≤_, _<_}
 use lib.ListN.{length, getD}
-use Rattle.sha256.specs.Hash.{sha256}
 use Rattle.table_bytes.specs.Bytes.{wordsOf}
 use Rattle.model.specs.Shape.{tree}
 use Rattle.model.specs.Fault.{proofBytes, ProofHolds}
 use Rattle.calls.specs.declared.Answer.the-variants.{Done}
 use Rattle.fault_calls.specs.Checking.{proofChecked}
-use Rattle.guarantees.specs.Layouts.{bytesFrom, dataSymbols, allSymbols, hashFor, XorOf, upFrom, wordNo, kindValue, rootPart}
+use Rattle.guarantees.specs.Layouts.{bytesFrom, dataSymbols, allSymbols, hashFor, XorOf, upFrom, wordNo, kindValue, kindNo, rootPart}
 use Rattle.guarantees.specs.Tables.{TableRules, TableRight, AllInTwo}
-use Rattle.guarantees.specs.Trees.{members}
+use Rattle.guarantees.specs.Trees.{Hasher, hashBy, members}
 use Rattle.guarantees.specs.Refusals.{DepthRight, TableLength, RecordLength, HeadRight, NamesTable, takesNamed}
 use Rattle.guarantees.specs.Answers.{Answered, done, test, unless, two, Just}
 use Rattle.guarantees.specs.Terms.{equationsOf}
@@ -63,12 +62,12 @@ pub record BreaksAt (fits : ℕ → Type 0) (from l : ℕ) : Type 0 where
   pub lead-below : (i : ℕ) → l < i → i ≤ from → fits i
   pub broken : fits l → ⊥
 
-module _ {depth : ℕ} {tbl : List (List (List ℕ))} {b : List ℕ} (root : List ℕ) (h : Named depth tbl b) where
+module _ {depth : ℕ} {tbl : List (List (List ℕ))} {b : List ℕ} (H : Hasher) (root : List ℕ) (h : Named depth tbl b) where
   -- "every hash leads to the root": each symbol has the hash that the next symbol up, or the root, has for it; on the way up from given member
   -- number p, and above the withheld one
   abbrev pub GivenFits : ℕ → ℕ → Type 0
   GivenFits p u =
-      sha256 (givenSymbol b (h .layer) p u)
+      H (h .layer - u) (upFrom (h .layer) (getD (given h) p 0) u) (givenSymbol b (h .layer) p u)
       ≡ hashFor root (λ l m. givenSymbol b (h .layer) p (h .layer - l)) (h .layer - u) (upFrom (h .layer) (getD (given h) p 0) u)
 
   abbrev pub GivenLeads : ℕ → Type 0
@@ -80,7 +79,8 @@ module _ {depth : ℕ} {tbl : List (List (List ℕ))} {b : List ℕ} (root : Lis
 
   abbrev pub PathFits : ℕ → Type 0
   PathFits u =
-      sha256 (withheldSymbol b (h .layer) (length (given h)) u) ≡ hashFor root path (h .layer - u) (upFrom (h .layer) (h .withheld) u)
+      H (h .layer - u) (upFrom (h .layer) (h .withheld) u) (withheldSymbol b (h .layer) (length (given h)) u)
+      ≡ hashFor root path (h .layer - u) (upFrom (h .layer) (h .withheld) u)
 
   abbrev pub WithheldLeads : Type 0
   WithheldLeads = (u : ℕ) → 1 ≤ u → u ≤ h .layer → PathFits u
@@ -100,7 +100,7 @@ module _ {depth : ℕ} {tbl : List (List (List ℕ))} {b : List ℕ} (root : Lis
   -- "the hash of the exclusive-or of the given members" is "the hash committed for the withheld one"
   abbrev pub Fits : Type 0
   Fits =
-      (s : List ℕ) → XorOf (λ p. givenSymbol b (h .layer) p 0) (length (given h)) s → sha256 s ≡ hashFor root path (h .layer) (h .withheld)
+      (s : List ℕ) → XorOf (λ p. givenSymbol b (h .layer) p 0) (length (given h)) s → H (h .layer) (h .withheld) s ≡ hashFor root path (h .layer) (h .withheld)
 
 -- ---- the checker
 
@@ -125,8 +125,8 @@ pub record ProofReady (depth : ℕ) (r table b : List ℕ) : Type 0 where
 -- the withheld one."
 pub record ProofRight (depth : ℕ) (r table b : List ℕ) : Type 0 where
   pub ready : ProofReady depth r table b
-  pub all-lead : AllLead (rootPart r) (ready .named)
-  pub differs : Fits (rootPart r) (ready .named) → ⊥
+  pub all-lead : AllLead (hashBy (kindNo r 0)) (rootPart r) (ready .named)
+  pub differs : Fits (hashBy (kindNo r 0)) (rootPart r) (ready .named) → ⊥
 
 abbrev pub AcceptsProofJustWhen : Type 0
 AcceptsProofJustWhen = (depth : ℕ) (r table b : List ℕ) → (proofChecked depth r table b ≡ Done) ↔ ProofRight depth r table b
@@ -139,8 +139,8 @@ proofTests depth r table b =
     (takesNamed depth r table
     (test 6 (unless (Named depth (equationsOf table) b))
     (test 2 (unless ((h : Named depth (equationsOf table) b) × Exact h))
-    (test 7 (two (λ l p. (h : Named depth (equationsOf table) b) × ProofBreaks (rootPart r) h l p))
-    (test 8 (unless ((h : Named depth (equationsOf table) b) × (Fits (rootPart r) h → ⊥))) done))))))
+    (test 7 (two (λ l p. (h : Named depth (equationsOf table) b) × ProofBreaks (hashBy (kindNo r 0)) (rootPart r) h l p))
+    (test 8 (unless ((h : Named depth (equationsOf table) b) × (Fits (hashBy (kindNo r 0)) (rootPart r) h → ⊥))) done))))))
 
 abbrev pub ProofCheckerAnswers : Type 0
 ProofCheckerAnswers =

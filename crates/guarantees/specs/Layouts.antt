@@ -101,10 +101,10 @@ wordBytes x = x / 2 ^ 24 % 256 ∷ x / 2 ^ 16 % 256 ∷ x / 2 ^ 8 % 256 ∷ x % 
 -- ---- 02, "Length and table written in the root record"
 
 -- "three big-endian words (kind 01 the depth, 10 the block length in bytes, 11 the number of table words), then the SHA-256 of the table words as
--- big-endian bytes, then the old 512 bytes: 556 in all"; hash is that SHA-256
-abbrev pub recordBytes : (depth size count : ℕ) (hash root : List ℕ) → List ℕ
-recordBytes depth size count hash root =
-    wordBytes (kindValue 1 depth) ++ wordBytes (kindValue 2 size) ++ wordBytes (kindValue 3 count) ++ hash ++ root
+-- big-endian bytes, then the old 512 bytes: 556 in all"; hash is that SHA-256. CR 7: "In a new record the first word's kind is 00."
+abbrev pub recordBytes : (kind depth size count : ℕ) (hash root : List ℕ) → List ℕ
+recordBytes kind depth size count hash root =
+    wordBytes (kindValue kind depth) ++ wordBytes (kindValue 2 size) ++ wordBytes (kindValue 3 count) ++ hash ++ root
 
 -- the block length in a record, and the old 512 bytes
 abbrev pub blockSize : List ℕ → ℕ

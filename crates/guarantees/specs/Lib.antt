@@ -17,3 +17,4 @@ pub mod Change1
 pub mod Change4
 pub mod Change5
 pub mod Change6
+pub mod Change7

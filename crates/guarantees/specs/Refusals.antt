@@ -1,7 +1,7 @@
 -- "What stops a call", of every call but the check of a fault proof (FaultProofs.antt): which number and values, and just when. Each test stands in the papers'
 -- words, and a call makes its tests in this order. Statements only.
 use mathlib.Core.Path.{_≡_}
-use mathlib.Core.Logic.{_↔_, _≢_}
+use mathlib.Core.Logic.{_⊎_, _↔_, _≢_}
 use mathlib.Core.Bool.{true}
 use mathlib.Core.List.{List}
 use Prim.Native.Nat.{ℕ, suc, _+_, _-_, _*_, _%_, _^_, _≤_, _<_}
@@ -20,13 +20,17 @@ use Rattle.calls.specs.declared.Answer.the-variants.{Done}
 use Rattle.calls.specs.Stops.{numberOf}
 use Rattle.calls.specs.Tests.{readAnswer, wordsTested, admitted}
 use Rattle.volume_calls.specs.Reading.{blockRead}
-use Rattle.volume_calls.specs.Writing.{treeWritten}
+use Rattle.volume_calls.specs.Writing.{treeWritten, treeWrittenBy}
 use Rattle.sample_calls.specs.Checking.{sampleChecked}
 use Rattle.sample_calls.specs.Taking.{sampleTaken}
-use Rattle.fault_calls.specs.Repairing.{repairTested}
+use Rattle.model.specs.Repair.{whole}
+use Rattle.fault_calls.specs.Repairing.{ended, repairTested, repaired}
+use Rattle.recoding.specs.Recoding.{recoded}
 use Rattle.cedunmi_c.specs.Result.{hashAnswer}
 use Rattle.guarantees.specs.Layouts.{bytesFrom, symbolNo, dataSymbols, allSymbols, treeSymbols, markAt, hashFor, sampledLayer, sampledNumber, kindNo, valueNo, blockSize, rootPart, blockRoom}
 use Rattle.guarantees.specs.Tables.{FirstWrongWord, FirstNotInTwo}
+use Rattle.symbol_hash.specs.declared.Kind.{Kind}
+use Rattle.guarantees.specs.Trees.{Hasher, hashBy}
 use Rattle.guarantees.specs.Answers.{Answered, done, test, unless, one, two, Just}
 
 -- v is the lowest of the numbers below n of which P holds
@@ -68,9 +72,11 @@ SampleLength d s = length s ≡ 256 * (2 * d - 1)
 abbrev pub OutputLength : ℕ → List ℕ → Type 0
 OutputLength d o = length o ≡ 12 + 256 * (8 * d - 1)
 
--- 11: "A head with a wrong kind, a length over 256·k or another depth than the call's stops with 11 after 2"
+-- 11: "A head with a wrong kind, a length over 256·k or another depth than the call's stops with 11 after 2"; of the first word, CR 7: "In a new record the
+-- first word's kind is 00. [..] Kind 01 records remain readable"
 pub record HeadRight (d : ℕ) (r : List ℕ) : Type 0 where
-  pub kinds : (kindNo r 0 ≡ 1) × (kindNo r 1 ≡ 2) × (kindNo r 2 ≡ 3)
+  pub first-kind : (kindNo r 0 ≡ 0) ⊎ (kindNo r 0 ≡ 1)
+  pub kinds : (kindNo r 1 ≡ 2) × (kindNo r 2 ≡ 3)
   pub depth-is : valueNo r 0 ≡ d
   pub size-fits : blockSize r ≤ blockRoom d
 
@@ -97,19 +103,19 @@ AbsentSampled d i m = LowestOf (λ x. markAt m (sampledLayer d x) (sampledNumber
 
 -- A sample: "Every hash in it is checked: both symbols of a layer against the next data symbol up, the top ones against the root." Layer j's data symbol is
 -- number 2(D−1−j)−1 of the sample, its parity symbol the one after it.
-module _ (d i : ℕ) (root s : List ℕ) where
+module _ (H : Hasher) (d i : ℕ) (root s : List ℕ) where
   abbrev pub dataOfSample : ℕ → ℕ → List ℕ
   dataOfSample j m = symbolNo s (2 * (d - 1 - j) - 1)
 
   pub record AllHashesLead : Type 0 where
-    pub base : sha256 (symbolNo s 0) ≡ hashFor root dataOfSample (d - 1) i
-    pub data-symbol : (j : ℕ) → suc j < d → sha256 (symbolNo s (2 * (d - 1 - j) - 1)) ≡ hashFor root dataOfSample j (i % dataSymbols j)
+    pub base : H (d - 1) i (symbolNo s 0) ≡ hashFor root dataOfSample (d - 1) i
+    pub data-symbol : (j : ℕ) → suc j < d → H j (i % dataSymbols j) (symbolNo s (2 * (d - 1 - j) - 1)) ≡ hashFor root dataOfSample j (i % dataSymbols j)
     pub parity-symbol : (j : ℕ) → suc j < d
-        → sha256 (symbolNo s (2 * (d - 1 - j))) ≡ hashFor root dataOfSample j (dataSymbols j + i % (3 * dataSymbols j))
+        → H j (dataSymbols j + i % (3 * dataSymbols j)) (symbolNo s (2 * (d - 1 - j))) ≡ hashFor root dataOfSample j (dataSymbols j + i % (3 * dataSymbols j))
 
   -- symbol number x of the sample has the hash that the next data symbol up, or the root, has for it
   abbrev pub SampleFits : ℕ → Type 0
-  SampleFits x = sha256 (symbolNo s x) ≡ hashFor root dataOfSample (sampledLayer d x) (sampledNumber d i x)
+  SampleFits x = H (sampledLayer d x) (sampledNumber d i x) (symbolNo s x) ≡ hashFor root dataOfSample (sampledLayer d x) (sampledNumber d i x)
 
   -- 7, with "the first layer, going up from the given symbol, whose hash isn't the committed one; in a sample either symbol of a layer counts" (02, CR 4):
   -- a symbol of layer l has another hash, and every symbol of a layer nearer the base has the committed one
@@ -158,6 +164,11 @@ module _ (d : ℕ) (table b t m r : List ℕ) where
   abbrev pub writerTests : Answered
   writerTests = test 1 (unless (DepthRight d)) (test 2 (unless WriterLengths) (takesTable d table done))
 
+  -- .. its kind as a number, from C: 11, after 2, for another than 0 or 1
+  abbrev pub numberedTests : ℕ → Answered
+  numberedTests number =
+      test 1 (unless (DepthRight d)) (test 2 (unless WriterLengths) (test 11 (unless ((number ≡ 0) ⊎ (number ≡ 1))) (takesTable d table done)))
+
 abbrev pub blockTests : ℕ → List ℕ → List ℕ → List ℕ → List ℕ → Answered
 blockTests d r t m b =
     test 1 (unless (DepthRight d))
@@ -174,7 +185,7 @@ abbrev pub sampleTests : ℕ → ℕ → List ℕ → List ℕ → Answered
 sampleTests d i r s =
     test 1 (unless (DepthRight d))
     (test 2 (unless (RecordLength r × SampleLength d s))
-    (test 11 (unless (HeadRight d r)) (test 5 (unless (InBase d i)) (test 7 (one (SampleBreaks d i (rootPart r) s)) done))))
+    (test 11 (unless (HeadRight d r)) (test 5 (unless (InBase d i)) (test 7 (one (SampleBreaks (hashBy (kindNo r 0)) d i (rootPart r) s)) done))))
 
 module _ (d : ℕ) (r table t m o : List ℕ) where
   pub record RepairLengths : Type 0 where
@@ -188,6 +199,23 @@ module _ (d : ℕ) (r table t m o : List ℕ) where
       test 1 (unless (DepthRight d))
       (test 2 (unless RepairLengths) (takesNamed d r table (test 4 (one (BadMark d m)) done)))
 
+-- 14: "A source tree that repair doesn't call whole without storing anything": a repair of copies, whatever its output buffer holds
+abbrev pub CalledWhole : ℕ → List ℕ → List ℕ → List ℕ → List ℕ → Type 0
+CalledWhole d r table t m = (o : List ℕ) → OutputLength d o → repaired d r table t m o .answer ≡ ended 0 whole
+
+module _ (d : ℕ) (r table t m t′ m′ r′ : List ℕ) where
+  pub record RecodeLengths : Type 0 where
+    pub record-length : RecordLength r
+    pub table-length : TableLength table
+    pub tree-lengths : TreeLengths d t m
+    pub new-tree-lengths : TreeLengths d t′ m′
+    pub new-record-length : RecordLength r′
+
+  abbrev pub recodeTests : Answered
+  recodeTests =
+      test 1 (unless (DepthRight d))
+      (test 2 (unless RecodeLengths) (takesNamed d r table (test 4 (one (BadMark d m)) (test 14 (unless (CalledWhole d r table t m)) done))))
+
 -- ---- each call answers as its tests say, and not otherwise
 
 pub record Refusals : Type 0 where
@@ -200,8 +228,10 @@ pub record Refusals : Type 0 where
   pub table-bytes : (d : ℕ) (table : List ℕ) → Just (admitted d true table) (tableTests d table)
   pub house-words : (d n : ℕ) → Just (readAnswer (houseAnswer d n (length (houseWords d)))) (houseTests d 1 n)
   pub house-bytes : (d n : ℕ) → Just (readAnswer (houseAnswer d n (length (houseWords d) * 4))) (houseTests d 4 n)
-  pub tree-writer : (d : ℕ) (table b t m r : List ℕ) → Just (treeWritten d table b t m r .answer) (writerTests d table b t m r)
+  pub tree-writer : (d : ℕ) (kind : Kind) (table b t m r : List ℕ) → Just (treeWritten d kind table b t m r .answer) (writerTests d table b t m r)
+  pub tree-writer-by : (d number : ℕ) (table b t m r : List ℕ) → Just (treeWrittenBy d number table b t m r .answer) (numberedTests d table b t m r number)
   pub block-reader : (d : ℕ) (r t m b : List ℕ) → Just (blockRead d r t m b .answer) (blockTests d r t m b)
   pub sampler : (d i : ℕ) (t m s : List ℕ) → Just (sampleTaken d i t m s .answer) (samplerTests d i t m s)
   pub sample-checker : (d i : ℕ) (r s : List ℕ) → Just (sampleChecked d i r s) (sampleTests d i r s)
   pub repairer : (d : ℕ) (r table t m o : List ℕ) → Just (repairTested d r table t m o) (repairTests d r table t m o)
+  pub recoder : (d : ℕ) (r table t m t′ m′ r′ : List ℕ) → Just (recoded d r table t m t′ m′ r′ .answer) (recodeTests d r table t m t′ m′ r′)
