@@ -63,7 +63,7 @@ printed-nothing b n = sym (pick-no (eqb (length b) 1024) (listing (coded b)) [] 
 
 module _ (table b : List ℕ) (et : table ≡ house) (sized : length b ≡ 1024) where
   abbrev written : TreeLeft Answer
-  written = treeWritten 1 table b (lent 4096) (lent 16) (lent 556)
+  written = treeWritten 1 Plain table b (lent 4096) (lent 16) (lent 556)
 
   full : length b ≡ 256 * kOf 0
   unfolding kOf
@@ -73,8 +73,8 @@ module _ (table b : List ℕ) (et : table ≡ house) (sized : length b ≡ 1024)
   answered : written .answer ≡ Done
   unfolding kOf nOf places
   answered =
-      ap (λ (x : List ℕ). treeWritten 1 x b (lent 4096) (lent 16) (lent 556) .answer) et
-      ∙ answer-is 1 house b (lent 4096) (lent 16) (lent 556)
+      ap (λ (x : List ℕ). treeWritten 1 Plain x b (lent 4096) (lent 16) (lent 556) .answer) et
+      ∙ answer-is 1 Plain house b (lent 4096) (lent 16) (lent 556)
       ∙ sym (admits 1 (writeSized 1 (length b) (length (lent 4096)) (length (lent 16)) (length (lent 556))) house (house-taken 1 fits)
       (yes-and (le-leb (length b) 1024 (omega arith)) refl))
 
@@ -84,7 +84,7 @@ module _ (table b : List ℕ) (et : table ≡ house) (sized : length b ≡ 1024)
     unfolding printed coded
     printed-block =
         ap listing
-        (ap (λ (w : TreeLeft Answer). w .tree) (e ∙ when-done 1 table b (lent 4096) (lent 16) (lent 556) answered)
+        (ap (λ (w : TreeLeft Answer). w .tree) (e ∙ when-done 1 Plain table b (lent 4096) (lent 16) (lent 556) answered)
         ∙ ap (λ (x : List ℕ). writeTree tree (symbolHash Plain) (tableOf (wordsOf table)) x (lent 4096)) (filled-whole tree 1 b full)
         ∙ ap (λ (x : List ℕ). writeTree tree (symbolHash Plain) (tableOf (wordsOf x)) b (lent 4096)) et
         ∙ ap (λ (tbl : List (List (List ℕ))). writeTree tree (symbolHash Plain) tbl b (lent 4096)) said)

@@ -1,5 +1,6 @@
 // The text that is printed, byte by byte.
 use calls::Answer;
+use symbol_hash::Kind;
 ghost use mathlib.Core.Path.{_≡_};
 ghost use Prim.Native.Nat.{_+_, _≤_};
 ghost use lib.ListN.{length, take};
@@ -66,7 +67,15 @@ pub fn put(input: &[u8], text: &mut [u8; 96]) -> usize
     let mut marks = [0u8; 16];
     let mut root_record = [0u8; 556];
     house_table::write_bytes(&mut table, 1);
-    match volume_calls::write_tree(1, &table, input, &mut tree, &mut marks, &mut root_record) {
+    match volume_calls::write_tree(
+        1,
+        Kind::Plain,
+        &table,
+        input,
+        &mut tree,
+        &mut marks,
+        &mut root_record,
+    ) {
         Answer::Done => {
             list(&tree, text);
             96

@@ -47,12 +47,12 @@ returns-2 c =
     let i = c .before .before .before .before .before .before .before .before .before .before .before .before .before .before .before .before .before .before .args .input .now in
     let h = c .before .before .before .before .before .before .before .before .before .before .before .before .before .before .write-bytes in
     let w = c .before .before .before .before .before .before .before .before .write-tree in
-    let l : length (c .list .last .1 .0) ≡ 96 = ap length (c .list .ensures) ∙ listing-length (w .last .1 .1 .1 .0) in
+    let l : length (c .list .last .1 .0) ≡ 96 = ap length (c .list .ensures) ∙ listing-length (w .last .1 .1 .1 .1 .0) in
     let e = house-written (h .result) (replicate 244 0) (h .last .0) refl (h .ensures .0) (h .ensures .1) in (
       (omega arith, simp length-take (omega arith)),
       take-all 96 (c .list .last .1 .0) (omega arith)
           ∙ c .list .ensures
-          ∙ printed-block (h .last .0) i e (c .before .before .before .before .before .before .before .before .before .before .before .before .before .before .before .before .if1 .left) (w .result) (w .last .1 .1 .1 .0) _ _ (w .ensures),
+          ∙ printed-block (h .last .0) i e (c .before .before .before .before .before .before .before .before .before .before .before .before .before .before .before .before .if1 .left) (w .result) (w .last .1 .1 .1 .1 .0) _ _ (w .ensures),
     )
 
 returns-3 : tie.Need-returns-3
