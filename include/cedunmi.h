@@ -27,9 +27,12 @@
  *  10  stopped: a data page stands in fewer than two equations of its layer; two
  *      values, the first such layer and the lowest such page's number in it
  *  11  stopped: the record's head has a wrong kind, a length over that of the
- *      depth's block, or another depth than the call's
+ *      depth's block, or another depth than the call's; of cmt_tree_write(), there
+ *      is no such kind of volume
  *  12  stopped: the table is not the one that the record names: it has another
  *      number of words, or another SHA-256
+ *  14  stopped: the tree is not one that a repair calls whole with nothing stored,
+ *      so it is not recoded
  *
  * A call makes its tests in the order in which its numbers are listed below,
  * and stops at the first that fails. A call that stops changes no byte of any
@@ -63,12 +66,23 @@
  * 16,384, and a longer table was CMT_WRONG_LENGTH; up to the limit of now it is
  * read, and at depth 1 to 5 is CMT_WRONG_TABLE, at its first wrong word.
  *
- * Records. A record is what a manual has of a volume: its depth, its length, how
- * many words its table has and the SHA-256 of the table's bytes, which are the
- * head, and then the root, which is the SHA-256 of each page of layer 0.
- * cmt_record_depth(), cmt_record_length() and cmt_record_table_bytes() read the
- * head. While a root had none, calls took its CMT_ROOT_BYTES alone; these are
- * CMT_WRONG_LENGTH now.
+ * Records. A record is what a manual has of a volume: its kind and its depth, its
+ * length, how many words its table has and the SHA-256 of the table's bytes, which
+ * are the head, and then the root, which is the hash of each page of layer 0.
+ * cmt_record_kind(), cmt_record_depth(), cmt_record_length() and
+ * cmt_record_table_bytes() read the head. While a root had none, calls took its
+ * CMT_ROOT_BYTES alone; these are CMT_WRONG_LENGTH now.
+ *
+ * Kinds. There are two kinds of volume, which differ in the hash of a page. In a
+ * plain one, CMT_KIND_PLAIN, it is the SHA-256 of its 256 bytes, so that equal
+ * pages have one hash; all volumes were so while there was one kind, and stay
+ * readable. In one with places, CMT_KIND_PLACED, it is the SHA-256 of
+ * CMT_PLACE_BYTES, which say the page's layer and its number in that layer, and
+ * the 256 after these: equal pages have different hashes at different places, and
+ * one that is filed by the hash of its place passes for no other. A record says
+ * its kind, and each call that takes one hashes by that; by a record of the other
+ * kind pages don't fit. Tree, marks, sample and proof have the same layout in
+ * both. The hash of the table in a record is the SHA-256 of its bytes in both.
  *
  * Trust. A check is against the record, which must come from where it can be
  * trusted. Depth and table need not: a call with another depth than the record's
@@ -90,7 +104,7 @@
 
 /* The version, as three numbers and as a text, which has dots between them. */
 #define CMT_VERSION_MAJOR 0
-#define CMT_VERSION_MINOR 1
+#define CMT_VERSION_MINOR 2
 #define CMT_VERSION_PATCH 0
 #define CMT_VERSION CMT_DOTTED(CMT_VERSION_MAJOR, CMT_VERSION_MINOR, CMT_VERSION_PATCH)
 #define CMT_DOTTED(major, minor, patch) CMT_TEXT(major) "." CMT_TEXT(minor) "." CMT_TEXT(patch)
@@ -128,7 +142,14 @@ enum {
     CMT_ABSENT = 9,
     CMT_UNCOVERED = 10,
     CMT_WRONG_RECORD = 11,
-    CMT_OTHER_TABLE = 12
+    CMT_OTHER_TABLE = 12,
+    CMT_NOT_WHOLE = 14
+};
+
+/* The kinds of volume: that of a record's first word, and what cmt_tree_write() is told. */
+enum {
+    CMT_KIND_PLACED = 0,
+    CMT_KIND_PLAIN = 1
 };
 
 /* What cmt_repair_end() gives: the end of a repair, or that it stopped and has none. */
@@ -172,6 +193,9 @@ enum {
 #define CMT_RECORD_HEAD_BYTES 44
 #define CMT_ROOT_BYTES 512
 
+/* What is hashed before a page of a volume with places, in bytes: the big-endian word 2^30 + 2^24 * layer + number. */
+#define CMT_PLACE_BYTES 4
+
 /*
  * The bytes of a fault proof at a layer, of an equation of 2 to 8 members, its
  * head among them; and of the output buffer of a repair, which the longest
@@ -183,7 +207,7 @@ enum {
 #define CMT_OUTPUT_BYTES(depth) CMT_PROOF_BYTES((depth) - 1, 8)
 #define CMT_TWINS_BYTES 512
 
-/* Word 0, 1 or 2 of a record, of which this and the next three read the first twelve bytes: of 32 bits the two
+/* Word 0, 1 or 2 of a record, of which this and the next four read the first twelve bytes: of 32 bits the two
  * highest are its kind, the others its value. */
 static inline uint64_t cmt_record_word(const uint8_t *record, size_t number)
 {
@@ -192,6 +216,12 @@ static inline uint64_t cmt_record_word(const uint8_t *record, size_t number)
         word = 256 * word + record[i];
     }
     return word;
+}
+
+/* The kind of volume that a record is of: CMT_KIND_PLACED, CMT_KIND_PLAIN, or 2 or 3, which no call takes. */
+static inline uint64_t cmt_record_kind(const uint8_t *record)
+{
+    return cmt_record_word(record, 0) / 1073741824;
 }
 
 /* The length that a record says its volume has, in bytes. */
@@ -206,14 +236,13 @@ static inline uint64_t cmt_record_table_bytes(const uint8_t *record)
     return 4 * (cmt_record_word(record, 2) % 1073741824);
 }
 
-/* The depth of a record, whatever its table and its root; 0 where no call takes its head. */
+/* The depth of a record of either kind, whatever its table and its root; 0 where no call takes its head. */
 static inline uint64_t cmt_record_depth(const uint8_t *record)
 {
     const uint64_t depth = cmt_record_word(record, 0) % 1073741824;
-    for (size_t i = 0; i < 3; i++) {
-        if (cmt_record_word(record, i) / 1073741824 != i + 1) {
-            return 0;
-        }
+    if (cmt_record_kind(record) > CMT_KIND_PLAIN || cmt_record_word(record, 1) / 1073741824 != 2 ||
+        cmt_record_word(record, 2) / 1073741824 != 3) {
+        return 0;
     }
     if (depth < 1 || depth > CMT_DEPTH_MAX || cmt_record_length(record) > CMT_BLOCK_BYTES(depth)) {
         return 0;
@@ -267,6 +296,18 @@ static inline uint64_t cmt_repair_layer(uint64_t result)
     return cmt_repair_end(result) == CMT_UNAVAILABLE ? cmt_second_value(result) / 65536 : 0;
 }
 
+/* Of the twins that a repair found in a volume with places, the layer, and the number in that layer, of the place
+ * whose hash both have; 0 where its end is not CMT_TWINS, or the record is of a plain volume: its twins name none. */
+static inline uint64_t cmt_repair_twins_layer(uint64_t result)
+{
+    return cmt_repair_end(result) == CMT_TWINS ? cmt_second_value(result) / 65536 / 4096 : 0;
+}
+
+static inline uint64_t cmt_repair_twins_number(uint64_t result)
+{
+    return cmt_repair_end(result) == CMT_TWINS ? cmt_second_value(result) / 65536 % 4096 : 0;
+}
+
 /* What a number that cmt_number() gives means. */
 static inline const char *cmt_explain(uint64_t number)
 {
@@ -297,6 +338,8 @@ static inline const char *cmt_explain(uint64_t number)
         return "the record's head has a wrong kind, a length that is too large, or another depth than the call's";
     case CMT_OTHER_TABLE:
         return "the table is not the one that the record names";
+    case CMT_NOT_WHOLE:
+        return "the tree is not whole as it is, so it is not recoded";
     default:
         return "a number that no call gives";
     }
@@ -313,7 +356,7 @@ static inline const char *cmt_explain_end(uint64_t end)
     case CMT_UNAVAILABLE:
         return "unavailable: no equation gives another page of the layer";
     case CMT_TWINS:
-        return "twins: two different pages of equal SHA-256 were found";
+        return "twins: two different pages of equal hash were found";
     case CMT_MISFILLED:
         return "misfilled: every page is held, and the tree agrees with the root and the table, but what fills up "
                "the volume isn't zero";
@@ -367,21 +410,25 @@ CMT_CHECKED
 uint64_t cmt_house_table(uint64_t depth, uint8_t *table, size_t table_len);
 
 /*
- * Codes a block, which is filled up with zeros where it is shorter than
- * CMT_BLOCK_BYTES(depth): writes its tree, a mark of 1 for every page, and its
- * record, which has block_len for the length. A block of 0 bytes needs a pointer
- * that is not NULL all the same.
+ * Codes a block as a volume of this kind, CMT_KIND_PLACED or CMT_KIND_PLAIN. The
+ * block is filled up with zeros where it is shorter than CMT_BLOCK_BYTES(depth).
+ * Writes its tree, a mark of 1 for every page, and its record, which has the kind,
+ * and block_len for the length. A block of 0 bytes needs a pointer that is not
+ * NULL all the same.
  *
  * CMT_DONE          all three are written.
  * CMT_WRONG_DEPTH   the depth is not 1 to CMT_DEPTH_MAX.
  * CMT_WRONG_LENGTH  block_len is over CMT_BLOCK_BYTES(depth), another buffer has
  *                   another length than this depth asks, or the table's is over
  *                   CMT_TABLE_BYTES_MAX or no multiple of 4.
+ * CMT_WRONG_RECORD  the kind is neither 0 nor 1: it is a 64-bit number, and 2^32
+ *                   is not taken for 0.
  * CMT_WRONG_TABLE   the table breaks a rule, as for cmt_table_check().
  * CMT_UNCOVERED     as for cmt_table_check().
  */
 CMT_CHECKED
-uint64_t cmt_tree_write(uint64_t depth, const uint8_t *table, size_t table_len,
+uint64_t cmt_tree_write(uint64_t depth, uint64_t kind,
+                        const uint8_t *table, size_t table_len,
                         const uint8_t *block, size_t block_len,
                         uint8_t *tree, size_t tree_len,
                         uint8_t *marks, size_t marks_len,
@@ -398,9 +445,9 @@ uint64_t cmt_tree_write(uint64_t depth, const uint8_t *table, size_t table_len,
  * CMT_WRONG_DEPTH   the depth is not 1 to CMT_DEPTH_MAX.
  * CMT_WRONG_LENGTH  a buffer has another length than this depth asks: block_len
  *                   is CMT_BLOCK_BYTES(depth), whatever the record's length is.
- * CMT_WRONG_RECORD  a word of the record's head has another kind than 01, 10 and
- *                   11 in this order, the length is over CMT_BLOCK_BYTES(depth),
- *                   or the record is of another depth.
+ * CMT_WRONG_RECORD  a word of the record's head has another kind than 00 or 01,
+ *                   10 and 11 in this order, the length is over
+ *                   CMT_BLOCK_BYTES(depth), or the record is of another depth.
  * CMT_WRONG_MARK    cmt_value() is the lowest place with a mark that is neither
  *                   0 nor 1, anywhere in the tree.
  * CMT_ABSENT        cmt_value() is the number of the base's first absent data
@@ -442,11 +489,12 @@ uint64_t cmt_sample_take(uint64_t depth, uint64_t number,
  *                   layer, going up from the base, that has a page in the sample
  *                   whose hash is not the one that the sample's data page of the
  *                   next layer up, or of layer 0 the root, has for it: its data
- *                   page, its parity page, or both: hash the two to see which.
+ *                   page, its parity page, or both: hash the two, by the record's
+ *                   kind, to see which.
  *                   If record and number are the right ones, ask again first for
  *                   the topmost page that doesn't fit, of these and the data
  *                   pages above them: the page above it leads to the root, so
- *                   it is wrong, unless two pages of equal SHA-256 came together.
+ *                   it is wrong, unless two pages of equal hash came together.
  */
 CMT_CHECKED
 uint64_t cmt_sample_check(uint64_t depth, uint64_t number,
@@ -509,8 +557,11 @@ uint64_t cmt_proof_check(uint64_t depth, const uint8_t *record, size_t record_le
  * CMT_UNAVAILABLE   no equation has just one of the places of cmt_repair_layer()
  *                   that are now marked 0, so none gives any of them; those that
  *                   have none of these places hold.
- * CMT_TWINS         the output begins with two different pages of equal
- *                   SHA-256, CMT_TWINS_BYTES in all.
+ * CMT_TWINS         the output begins with two different pages of equal hash,
+ *                   CMT_TWINS_BYTES in all. In a volume with places it is the
+ *                   hash of one place, which cmt_repair_twins_layer() and
+ *                   cmt_repair_twins_number() name, with each of them; in a plain
+ *                   one their SHA-256, and these two are 0.
  *
  * Each also gives cmt_repair_stored(). The rest of the output, all of it where
  * nothing is written, and the layers below the last one entered are as they
@@ -522,6 +573,41 @@ uint64_t cmt_repair(uint64_t depth, const uint8_t *record, size_t record_len,
                     uint8_t *tree, size_t tree_len,
                     uint8_t *marks, size_t marks_len,
                     uint8_t *output, size_t output_len);
+
+/*
+ * Recodes a volume: makes of a plain one the same with places, or of one with
+ * places the same plain. The record says of which kind it is. Tree and marks must
+ * be what a repair calls whole and leaves as they are; nothing is repaired here.
+ * Record, table, tree and marks are only read. All lengths are exact, those of
+ * what is written too: new_tree has CMT_TREE_BYTES(depth), new_marks
+ * CMT_MARKS_BYTES(depth), new_record CMT_RECORD_BYTES.
+ *
+ * CMT_DONE          new_tree, new_marks and new_record are what cmt_tree_write()
+ *                   of the other kind makes of this volume, with the same depth,
+ *                   table and length. Recoded once more they give the tree, the
+ *                   marks and the record that were read.
+ * CMT_WRONG_DEPTH   the depth is not 1 to CMT_DEPTH_MAX.
+ * CMT_WRONG_LENGTH  a buffer has another length than this depth asks, or the
+ *                   table's is over CMT_TABLE_BYTES_MAX or no multiple of 4.
+ * CMT_WRONG_RECORD  as for cmt_block_read().
+ * CMT_WRONG_TABLE   the table breaks a rule, as for cmt_table_check().
+ * CMT_UNCOVERED     as for cmt_table_check().
+ * CMT_OTHER_TABLE   as for cmt_proof_check().
+ * CMT_WRONG_MARK    as for cmt_block_read().
+ * CMT_NOT_WHOLE     a page is marked absent, or has another hash than the one
+ *                   that is committed by the record's kind, or an equation does
+ *                   not hold, or what fills the block up isn't zero: cmt_repair()
+ *                   of copies would store a page, or end otherwise than
+ *                   CMT_WHOLE, and says which.
+ */
+CMT_CHECKED
+uint64_t cmt_recode(uint64_t depth, const uint8_t *record, size_t record_len,
+                    const uint8_t *table, size_t table_len,
+                    const uint8_t *tree, size_t tree_len,
+                    const uint8_t *marks, size_t marks_len,
+                    uint8_t *new_tree, size_t new_tree_len,
+                    uint8_t *new_marks, size_t new_marks_len,
+                    uint8_t *new_record, size_t new_record_len);
 
 #ifdef __cplusplus
 }
