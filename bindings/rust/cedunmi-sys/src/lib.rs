@@ -140,10 +140,11 @@ declare! {
     cmt_sha256(message: read, digest: written);
     cmt_table_check(depth: number, table: read);
     cmt_house_table(depth: number, table: written);
-    cmt_tree_write(depth: number, table: read, block: read, tree: written, marks: written, record: written);
+    cmt_tree_write(depth: number, kind: number, table: read, block: read, tree: written, marks: written, record: written);
     cmt_block_read(depth: number, record: read, tree: read, marks: read, block: written);
     cmt_sample_take(depth: number, number: number, tree: read, marks: read, sample: written);
     cmt_sample_check(depth: number, number: number, record: read, sample: read);
     cmt_proof_check(depth: number, record: read, table: read, proof: read);
     cmt_repair(depth: number, record: read, table: read, tree: written, marks: written, output: written);
+    cmt_recode(depth: number, record: read, table: read, tree: read, marks: read, new_tree: written, new_marks: written, new_record: written);
 }

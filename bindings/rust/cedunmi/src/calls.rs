@@ -2,7 +2,7 @@
 //! it is empty, and the call names the depth.
 
 use crate::result::{done, ended, sample_done};
-use crate::{Depth, Record, Repaired, Stop, DIGEST_BYTES, RECORD_BYTES};
+use crate::{Depth, Kind, Record, Repaired, Stop, DIGEST_BYTES, RECORD_BYTES};
 use cedunmi_sys as library;
 
 /// A coded volume.
@@ -38,12 +38,22 @@ pub fn house_table(depth: u64) -> Result<Vec<u8>, Stop> {
     Ok(table)
 }
 
-/// Codes a block of any length up to the depth's.
-pub fn code(depth: u64, table: &[u8], block: &[u8]) -> Result<Coded, Stop> {
+/// A tree, marks and a record of this depth, as a call writes them.
+fn coded(
+    depth: u64,
+    write: impl FnOnce(&mut [u8], &mut [u8], &mut [u8]) -> u64,
+) -> Result<Coded, Stop> {
     let (mut tree, mut marks) = (room(depth, Depth::tree_bytes), room(depth, Depth::symbols));
     let mut record = [0; RECORD_BYTES];
-    done(library::cmt_tree_write(depth, table, block, &mut tree, &mut marks, &mut record))?;
+    done(write(&mut tree, &mut marks, &mut record))?;
     Ok(Coded { tree, marks, record })
+}
+
+/// Codes a block of any length up to the depth's, as a volume of this kind.
+pub fn code(depth: u64, kind: Kind, table: &[u8], block: &[u8]) -> Result<Coded, Stop> {
+    coded(depth, |tree, marks, record| {
+        library::cmt_tree_write(depth, kind.number(), table, block, tree, marks, record)
+    })
 }
 
 /// The block of a tree, as long as the record says. Each data symbol of the base must be marked held. No hash is
@@ -83,5 +93,20 @@ pub fn repair(
 ) -> Result<Repaired, Stop> {
     let mut output = room(depth, Depth::output_bytes);
     let result = library::cmt_repair(depth, record, table, tree, marks, &mut output);
-    ended(result, output)
+    done(result)?;
+    ended(result, Record::read(record)?.kind, output)
+}
+
+/// Recodes a volume of one kind as one of the other. A repair must call the tree whole, and store nothing; neither it
+/// nor the marks are changed.
+pub fn recode(
+    depth: u64,
+    record: &[u8],
+    table: &[u8],
+    tree: &[u8],
+    marks: &[u8],
+) -> Result<Coded, Stop> {
+    coded(depth, |new_tree, new_marks, new_record| {
+        library::cmt_recode(depth, record, table, tree, marks, new_tree, new_marks, new_record)
+    })
 }

@@ -1,6 +1,6 @@
 //! How a repair ended.
 
-use crate::explain_end;
+use crate::{explain_end, Place};
 use std::fmt;
 
 /// What a repair that was not stopped reports.
@@ -20,8 +20,8 @@ pub enum End {
     Fault { proof: Vec<u8> },
     /// A layer of which no equation gives another symbol.
     Unavailable { layer: usize },
-    /// Two different symbols of equal SHA-256, one after the other.
-    Twins { symbols: Vec<u8> },
+    /// Two different symbols of equal hash, one after the other; by a record with places the place whose hash they have.
+    Twins { symbols: Vec<u8>, place: Option<Place> },
     /// Every symbol is held, and the tree is correctly coded and agrees with root and table, but what fills up the volume
     /// is not zero.
     Misfilled,
@@ -51,6 +51,9 @@ impl fmt::Display for End {
         match self {
             End::Fault { proof } => write!(f, "; its proof has {} bytes", proof.len()),
             End::Unavailable { layer } => write!(f, ", which is layer {layer}"),
+            End::Twins { place: Some(Place { layer, number }), .. } => {
+                write!(f, ": those of number {number} of layer {layer}")
+            }
             _ => Ok(()),
         }
     }

@@ -16,6 +16,7 @@ pub fn explain(number: u64) -> &'static str {
         10 => "a data page stands in fewer than two equations of its layer",
         11 => "the record's head has a wrong kind, a length that is too large, or another depth than the call's",
         12 => "the table is not the one that the record names",
+        14 => "the tree is not whole as it is, so it is not recoded",
         _ => "a number that no call gives",
     }
 }
@@ -26,7 +27,7 @@ pub fn explain_end(end: u64) -> &'static str {
         0 => "whole: every page is held, and the tree agrees with the record and the table",
         1 => "fault: the volume was not coded as the table says",
         2 => "unavailable: no equation gives another page of the layer",
-        3 => "twins: two different pages of equal SHA-256 were found",
+        3 => "twins: two different pages of equal hash were found",
         13 => {
             "misfilled: every page is held, and the tree agrees with the root and the table, but what fills up the \
              volume isn't zero"

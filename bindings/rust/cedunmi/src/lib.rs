@@ -2,7 +2,7 @@
 //!
 //! ```
 //! let table = cedunmi::house_table(1)?;
-//! let coded = cedunmi::code(1, &table, &[7; 700])?;
+//! let coded = cedunmi::code(1, cedunmi::Kind::Placed, &table, &[7; 700])?;
 //! let (mut tree, mut marks) = (coded.tree.clone(), coded.marks.clone());
 //! marks[3] = 0; // a page is lost
 //! tree[5] ^= 1; // and one damaged
@@ -13,8 +13,9 @@
 //! ```
 //!
 //! A call that stops changes nothing, and says why: [`Stop`]. The record must come from where it can be
-//! trusted: it says depth, length and table ([`Record`]), and a call that takes another depth or another
-//! table stops. `docs/FORMAT.md` of the project has every byte of the buffers.
+//! trusted: it says kind, depth, length and table ([`Record`]); a call that takes another depth or another
+//! table stops, and each hashes by the record's [`Kind`]. `docs/FORMAT.md` of the project has every byte of
+//! the buffers.
 //!
 //! # Stack
 //!
@@ -37,17 +38,19 @@ mod calls;
 mod depth;
 mod end;
 mod explain;
+mod kind;
 mod record;
 mod result;
 mod stop;
 
 pub use calls::{
-    check_proof, check_sample, check_table, code, house_table, read_block, repair, sha256,
+    check_proof, check_sample, check_table, code, house_table, read_block, recode, repair, sha256,
     take_sample, Coded,
 };
 pub use depth::Depth;
 pub use end::{End, Repaired};
 pub use explain::{explain, explain_end, NO_END};
+pub use kind::{Kind, Place};
 pub use record::Record;
 pub use stop::Stop;
 
@@ -62,6 +65,9 @@ pub const MESSAGE_MAX: usize = 1_048_576;
 pub const RECORD_BYTES: usize = RECORD_HEAD_BYTES + ROOT_BYTES;
 pub const RECORD_HEAD_BYTES: usize = 44;
 pub const ROOT_BYTES: usize = 512;
+
+/// The bytes that are hashed before a symbol of a volume with places.
+pub const PLACE_BYTES: usize = 4;
 
 /// The longest table that a call takes, in bytes.
 pub const TABLE_BYTES_MAX: usize = 220_792;

@@ -1,10 +1,11 @@
 //! What a record says.
 
-use crate::{Depth, Stop, DIGEST_BYTES, RECORD_BYTES, ROOT_BYTES};
+use crate::{Depth, Kind, Stop, DIGEST_BYTES, RECORD_BYTES, ROOT_BYTES};
 
 /// The parts of a record.
 #[derive(Clone, Copy, Debug, PartialEq, Eq)]
 pub struct Record {
+    pub kind: Kind,
     pub depth: Depth,
     /// The bytes of the volume.
     pub length: usize,
@@ -19,23 +20,27 @@ impl Record {
     /// no call takes.
     pub fn read(bytes: &[u8]) -> Result<Record, Stop> {
         let bytes: &[u8; RECORD_BYTES] = bytes.try_into().map_err(|_| Stop::WrongLength)?;
-        let depth = word(bytes, 0).and_then(|depth| Depth::new(depth as u64));
-        let depth = depth.ok_or(Stop::WrongRecord)?;
-        let length = word(bytes, 1).filter(|length| *length <= depth.block_bytes());
+        let ((kind, depth), length, words) = (word(bytes, 0), word(bytes, 1), word(bytes, 2));
+        let kind = Kind::new(kind).ok_or(Stop::WrongRecord)?;
+        let depth = Depth::new(depth as u64).ok_or(Stop::WrongRecord)?;
+        if (length.0, words.0) != (2, 3) || length.1 > depth.block_bytes() {
+            return Err(Stop::WrongRecord);
+        }
         Ok(Record {
+            kind,
             depth,
-            length: length.ok_or(Stop::WrongRecord)?,
-            table_words: word(bytes, 2).ok_or(Stop::WrongRecord)?,
+            length: length.1,
+            table_words: words.1,
             table_digest: part(bytes, 12),
             root: part(bytes, 44),
         })
     }
 }
 
-/// The value of word 0, 1 or 2, whose kind is 1, 2 or 3; none where it has another kind.
-fn word(bytes: &[u8; RECORD_BYTES], at: usize) -> Option<usize> {
-    let word = u32::from_be_bytes(part(bytes, 4 * at)) as usize;
-    (word >> 30 == at + 1).then_some(word & 0x3fff_ffff)
+/// Kind and value of word 0, 1 or 2.
+fn word(bytes: &[u8; RECORD_BYTES], at: usize) -> (u64, usize) {
+    let word = u32::from_be_bytes(part(bytes, 4 * at));
+    (u64::from(word >> 30), word as usize & 0x3fff_ffff)
 }
 
 /// As many bytes as are asked for, from this one on.
@@ -55,41 +60,49 @@ mod tests {
         head.chain([7; 32]).chain([9; 512]).collect()
     }
 
-    const KINDS: [u32; 3] = [1 << 30, 2 << 30, 3 << 30];
+    /// The kinds of the second word and the third.
+    const LENGTH: u32 = 2 << 30;
+    const TABLE: u32 = 3 << 30;
 
     #[test]
     fn records_say_what_was_written() {
-        for depth in (1..=9).filter_map(Depth::new) {
-            for length in [0, 700, depth.block_bytes()] {
-                let words = [depth.layers(), length, 0x3abc_de12].map(|value| value as u32);
-                let bytes = record([0, 1, 2].map(|i| KINDS[i] + words[i]));
-                let (table_digest, root) = ([7; 32], [9; 512]);
-                let said = Record { depth, length, table_words: 0x3abc_de12, table_digest, root };
-                assert_eq!(Record::read(&bytes), Ok(said));
+        let (table_words, table_digest, root) = (0x3abc_de12, [7; 32], [9; 512]);
+        for (kind, first) in [(Kind::Placed, 0), (Kind::Plain, 1 << 30)] {
+            for depth in (1..=9).filter_map(Depth::new) {
+                for length in [0, 700, depth.block_bytes()] {
+                    let words = [first + depth.layers() as u32, LENGTH + length as u32];
+                    let bytes = record([words[0], words[1], TABLE + 0x3abc_de12]);
+                    let said = Record { kind, depth, length, table_words, table_digest, root };
+                    assert_eq!(Record::read(&bytes), Ok(said));
+                }
             }
         }
     }
 
     #[test]
     fn wrong_heads_are_not_read() {
-        let right = [KINDS[0] + 1, KINDS[1] + 1024, KINDS[2] + 61];
-        assert!(Record::read(&record(right)).is_ok());
-        let wrong = |at: usize, word: u32| {
-            let mut words = right;
-            words[at] = word;
-            assert_eq!(Record::read(&record(words)), Err(Stop::WrongRecord), "{at}: {word:#x}");
+        let wrong = |words: [u32; 3]| {
+            assert_eq!(Record::read(&record(words)), Err(Stop::WrongRecord), "{words:x?}");
         };
-        for at in 0..3 {
-            for kind in (0..4).filter(|kind| *kind != at + 1) {
-                wrong(at, (kind as u32) << 30 | right[at] & 0x3fff_ffff);
+        for first in [0, 1 << 30] {
+            let right = [first + 1, LENGTH + 1024, TABLE + 61];
+            assert!(Record::read(&record(right)).is_ok());
+            wrong([first, right[1], right[2]]);
+            wrong([first + 10, right[1], right[2]]);
+            wrong([right[0], LENGTH + 1025, right[2]]);
+            wrong([right[0], LENGTH + 0x3fff_ffff, right[2]]);
+            for kind in [0, 1, 3] {
+                wrong([right[0], kind << 30 | 1024, right[2]]);
+            }
+            for kind in 0..3 {
+                wrong([right[0], right[1], kind << 30 | 61]);
+            }
+            for bytes in [&[][..], &[1; 512], &record(right)[1..], &[0; 557]] {
+                assert_eq!(Record::read(bytes), Err(Stop::WrongLength));
             }
         }
-        wrong(0, KINDS[0]);
-        wrong(0, KINDS[0] + 10);
-        wrong(1, KINDS[1] + 1025);
-        wrong(1, KINDS[1] + 0x3fff_ffff);
-        for bytes in [&[][..], &[1; 512], &record(right)[1..], &[0; 557]] {
-            assert_eq!(Record::read(bytes), Err(Stop::WrongLength));
+        for kind in 2..4 {
+            wrong([kind << 30 | 1, LENGTH + 1024, TABLE + 61]);
         }
     }
 }

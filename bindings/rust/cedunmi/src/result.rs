@@ -2,7 +2,7 @@
 //! the 32 above. Of a repair that ended the first value is its end, and the second the symbols stored, in its low 16
 //! bits, with the end's value above.
 
-use crate::{End, Repaired, Stop, TWINS_BYTES};
+use crate::{End, Kind, Place, Repaired, Stop, TWINS_BYTES};
 
 /// The number of a result, and its two values, each 0 where there is none.
 fn parts(result: u64) -> (u64, u64, u64) {
@@ -26,6 +26,7 @@ pub fn done(result: u64) -> Result<(), Stop> {
         10 => Stop::Uncovered { layer: value, symbol: second },
         11 => Stop::WrongRecord,
         12 => Stop::OtherTable,
+        14 => Stop::NotWhole,
         _ => Stop::Unknown { result },
     })
 }
@@ -38,9 +39,14 @@ pub fn sample_done(result: u64) -> Result<(), Stop> {
     })
 }
 
-/// The same of a repair, which has written this output.
-pub fn ended(result: u64, mut output: Vec<u8>) -> Result<Repaired, Stop> {
-    done(result)?;
+/// The place of twins: 12 bits are its number, and those above its layer. Of a plain volume none is told.
+fn twins_at(kind: Kind, value: u64) -> Option<Place> {
+    let place = Place { layer: (value >> 12) as usize, number: (value & 0xfff) as usize };
+    (kind == Kind::Placed).then_some(place)
+}
+
+/// Of a repair by a record of this kind that was not stopped, and has written this output: what it reports.
+pub fn ended(result: u64, kind: Kind, mut output: Vec<u8>) -> Result<Repaired, Stop> {
     let (_, end, second) = parts(result);
     let (stored, value) = (second & 0xffff, second >> 16);
     let mut cut = |len: usize| {
@@ -51,7 +57,7 @@ pub fn ended(result: u64, mut output: Vec<u8>) -> Result<Repaired, Stop> {
         0 => End::Whole,
         1 => End::Fault { proof: cut(value as usize) },
         2 => End::Unavailable { layer: value as usize },
-        3 => End::Twins { symbols: cut(TWINS_BYTES) },
+        3 => End::Twins { symbols: cut(TWINS_BYTES), place: twins_at(kind, value) },
         13 => End::Misfilled,
         _ => return Err(Stop::Unknown { result }),
     };
@@ -75,11 +81,28 @@ mod tests {
         }
     }
 
+    /// The numbers there are, with how many values each has.
+    const NUMBERS: [(u64, usize); 13] = [
+        (1, 0),
+        (2, 0),
+        (3, 1),
+        (4, 1),
+        (5, 0),
+        (6, 0),
+        (7, 2),
+        (8, 0),
+        (9, 1),
+        (10, 2),
+        (11, 0),
+        (12, 0),
+        (14, 0),
+    ];
+
     /// Every number comes back, with as many values as it has, whatever stands in the place of the others.
     #[test]
     fn stops_keep_their_numbers_and_values() {
         let most = ((1 << 24) - 1, u64::from(u32::MAX));
-        for (number, count) in (1..).zip([0, 0, 1, 1, 0, 0, 2, 0, 1, 2, 0, 0]) {
+        for (number, count) in NUMBERS {
             for (first, second) in [(0, 0), (1, 255), (256, 0), (8, 1023), (8175, 65536), most] {
                 let stop = done(second << 32 | first << 8 | number).expect_err("a stop");
                 assert_eq!(u64::from(stop.number()), number);
@@ -87,8 +110,9 @@ mod tests {
             }
         }
         assert_eq!(done(0), Ok(()));
-        assert_eq!(done(13), Err(Stop::Unknown { result: 13 }));
-        assert_eq!(done(255), Err(Stop::Unknown { result: 255 }));
+        for result in [13, 15, 255] {
+            assert_eq!(done(result), Err(Stop::Unknown { result }));
+        }
     }
 
     /// 7 of a sample has the layer alone; all else is as of other calls.
@@ -106,19 +130,30 @@ mod tests {
     fn ends_keep_their_parts() {
         let packed = |end: u64, stored: u64, value: u64| end << 8 | stored << 32 | value << 48;
         let output: Vec<u8> = (0..18188).map(|i| i as u8).collect();
-        let of = |end, stored, value| ended(packed(end, stored, value), output.clone());
+        let by = |kind, end, stored, value| ended(packed(end, stored, value), kind, output.clone());
+        let of = |end, stored, value| {
+            let placed = by(Kind::Placed, end, stored, value);
+            assert_eq!(placed, by(Kind::Plain, end, stored, value));
+            placed
+        };
         assert_eq!(of(0, 8176, 0), Ok(Repaired { stored: 8176, end: End::Whole }));
         let proof = output[..780].to_vec();
         assert_eq!(of(1, 0, 780), Ok(Repaired { stored: 0, end: End::Fault { proof } }));
         let proof = output.clone();
         assert_eq!(of(1, 9, 18188), Ok(Repaired { stored: 9, end: End::Fault { proof } }));
         assert_eq!(of(2, 7, 8), Ok(Repaired { stored: 7, end: End::Unavailable { layer: 8 } }));
-        let symbols = output[..512].to_vec();
-        assert_eq!(of(3, 65535, 0), Ok(Repaired { stored: 65535, end: End::Twins { symbols } }));
+        for (value, layer, number) in
+            [(0, 0, 0), (15, 0, 15), (4098, 1, 2), (36863, 8, 4095), (65535, 15, 4095)]
+        {
+            let symbols = output[..512].to_vec();
+            let end = End::Twins { symbols, place: Some(Place { layer, number }) };
+            assert_eq!(by(Kind::Placed, 3, 65535, value), Ok(Repaired { stored: 65535, end }));
+        }
+        let end = End::Twins { symbols: output[..512].to_vec(), place: None };
+        assert_eq!(by(Kind::Plain, 3, 7, 0), Ok(Repaired { stored: 7, end }));
         assert_eq!(of(13, 8176, 0), Ok(Repaired { stored: 8176, end: End::Misfilled }));
         for end in [4, 12, 14] {
             assert_eq!(of(end, 0, 0), Err(Stop::Unknown { result: end << 8 }));
         }
-        assert_eq!(ended(3 << 8 | 4, output.clone()), Err(Stop::WrongMark { place: 3 }));
     }
 }

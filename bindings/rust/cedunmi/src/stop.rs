@@ -38,6 +38,8 @@ pub enum Stop {
     },
     WrongRecord,
     OtherTable,
+    /// A tree that a repair would store a symbol of, or that it does not call whole, is not recoded.
+    NotWhole,
     /// A result that this crate does not know: the library is another version's.
     Unknown {
         result: u64,
@@ -60,6 +62,7 @@ impl Stop {
             Stop::Uncovered { .. } => 10,
             Stop::WrongRecord => 11,
             Stop::OtherTable => 12,
+            Stop::NotWhole => 14,
             Stop::Unknown { .. } => 0,
         }
     }

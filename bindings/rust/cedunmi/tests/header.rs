@@ -1,6 +1,7 @@
-//! What is said twice, here and in the header, is the same: lengths, limits, version, and the words of numbers and ends.
+//! What is said twice, here and in the header, is the same: lengths, limits, kinds, version, what a record's head says,
+//! and the words of numbers and ends.
 
-use cedunmi::{explain, explain_end, Depth, NO_END};
+use cedunmi::{explain, explain_end, Depth, Kind, Record, NO_END};
 use std::fmt::Write;
 use std::path::Path;
 use std::process::Command;
@@ -23,9 +24,40 @@ static void depth_sizes(unsigned depth)
     SIZE("stack", CMT_STACK_BYTES_AT(depth));
 }
 
+static void word(uint8_t *at, unsigned kind, unsigned value)
+{
+    at[0] = (uint8_t)(64 * kind);
+    at[1] = 0;
+    at[2] = (uint8_t)(value / 256);
+    at[3] = (uint8_t)(value % 256);
+}
+
+static void record_of(unsigned kind, unsigned depth, unsigned length)
+{
+    uint8_t record[CMT_RECORD_BYTES] = {0};
+    word(record, kind, depth);
+    word(record + 4, 2, length);
+    word(record + 8, 3, 61);
+    SIZE("record", cmt_record_depth(record));
+    if (cmt_record_depth(record) != 0) {
+        SIZE("kind", cmt_record_kind(record));
+        SIZE("length", cmt_record_length(record));
+        SIZE("table", cmt_record_table_bytes(record));
+    }
+}
+
 int main(void)
 {
     puts(CMT_VERSION);
+    SIZE("placed", CMT_KIND_PLACED);
+    SIZE("plain", CMT_KIND_PLAIN);
+    SIZE("place", CMT_PLACE_BYTES);
+    for (unsigned kind = 0; kind < 4; kind++) {
+        for (unsigned depth = 0; depth < 12; depth++) {
+            record_of(kind, depth, 700);
+            record_of(kind, depth, 1025);
+        }
+    }
     for (unsigned number = 0; number < 300; number++) {
         printf("%u %s; %s\n", number, cmt_explain(number), cmt_explain_end(number));
     }
@@ -66,9 +98,30 @@ fn by_the_header() -> String {
     String::from_utf8(output.stdout).expect("a text")
 }
 
+/// What a record with this head says.
+fn record_of(kind: u32, depth: u32, length: u32) -> String {
+    let words = [kind << 30 | depth, 2 << 30 | length, 3 << 30 | 61].map(u32::to_be_bytes);
+    let head = words.into_iter().flatten().chain([0; 544]).collect::<Vec<u8>>();
+    match Record::read(&head) {
+        Ok(Record { kind, depth, length, table_words, .. }) => format!(
+            "record {}\nkind {}\nlength {length}\ntable {}\n",
+            depth.layers(),
+            kind.number(),
+            4 * table_words
+        ),
+        Err(_) => "record 0\n".to_string(),
+    }
+}
+
 /// The same by this crate.
 fn by_this_crate() -> String {
     let mut text = format!("{}\n", env!("CARGO_PKG_VERSION"));
+    let _ = writeln!(text, "placed {}\nplain {}", Kind::Placed.number(), Kind::Plain.number());
+    let _ = writeln!(text, "place {}", cedunmi::PLACE_BYTES);
+    for (kind, depth) in (0..4).flat_map(|kind| (0..12).map(move |depth| (kind, depth))) {
+        text += &record_of(kind, depth, 700);
+        text += &record_of(kind, depth, 1025);
+    }
     for number in 0..300 {
         let _ = writeln!(text, "{number} {}; {}", explain(number), explain_end(number));
     }
