@@ -4,9 +4,11 @@
 //! it names, and shares no code with the proved library.
 
 pub mod cover;
+pub mod kind;
 pub mod listing;
 pub mod path;
 pub mod proof;
+pub mod recode;
 pub mod record;
 pub mod repair;
 pub mod sample;

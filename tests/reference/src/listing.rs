@@ -1,6 +1,7 @@
 //! What the program `listing` prints, written from what 01 says of it below
 //! its cases.
 
+use crate::kind::Kind;
 use crate::table::{equations, house, to_bytes};
 use crate::tree::{block_len, code_tree, symbol_at, tree_symbols};
 
@@ -10,7 +11,8 @@ pub fn listing(input: &[u8]) -> String {
         return String::new();
     }
     let table = equations(1, &to_bytes(&house(1))).expect("the house table");
-    let (tree, _) = code_tree(&table, input, |_, _| ());
+    // The one layer has no hashes in it, so the kind of volume does not matter.
+    let (tree, _) = code_tree(Kind::Plain, &table, input, |_, _| ());
     let mut text = format!("tree 1 {}\n", tree_symbols(1));
     for number in 0..tree_symbols(1) {
         text += &format!("{number} {:02X}\n", symbol_at(&tree, number)[0]);

@@ -1,9 +1,9 @@
 //! Fault proofs, written from the sections "Sample and fault proof" and "What
-//! stops a call" of 01 and from CRs 4 and 5 of 02.
+//! stops a call" of 01 and from CRs 4, 5 and 7 of 02.
 
+use crate::kind::Kind;
 use crate::path::unbroken;
 use crate::record::{self, RECORD};
-use crate::sha256::sha256;
 use crate::stop::Stop;
 use crate::table::{self, byte_length, data_symbols, layers_of, word, Layers};
 use crate::table::{END, EQUATION, LAYER};
@@ -97,11 +97,11 @@ pub fn check(depth: u64, record: &[u8], table: &[u8], proof: &[u8]) -> Result<()
     let head = record::Head::read(layers, record)?;
     let equations = table::equations(depth, table)?;
     head.names(table)?;
-    judge(&equations, record::root(record), proof)
+    judge(head.kind, &equations, record::root(record), proof)
 }
 
-/// Whether a proof of at least twelve bytes shows a fault by these equations.
-pub fn judge(equations: &Layers, root: &[u8], proof: &[u8]) -> Result<(), Stop> {
+/// Whether a proof of at least twelve bytes shows a fault by these equations, for a root of a kind.
+pub fn judge(kind: Kind, equations: &Layers, root: &[u8], proof: &[u8]) -> Result<(), Stop> {
     let head = Head::read(equations, proof)?;
     let members = &equations[head.layer][head.equation];
     exactly(proof.len(), proof_len(head.layer, members.len()))?;
@@ -110,12 +110,13 @@ pub fn judge(equations: &Layers, root: &[u8], proof: &[u8]) -> Result<(), Stop> 
     let height = head.layer + 1;
     let symbols = head.symbols(members).into_iter().enumerate();
     let broken = symbols.filter(|&(index, (layer, symbol))| {
-        sha256(symbol_at(given, index)) != hash_for(root, given, layer, symbol, index + 1)
+        kind.hash(layer, symbol, symbol_at(given, index))
+            != hash_for(root, given, layer, symbol, index + 1)
     });
     unbroken(broken.map(|(index, (layer, _))| (Some(index / height), layer)))?;
     let others = (0..members.len() - 1).map(|other| symbol_at(given, other * height));
     let withheld_path = (members.len() - 1) * height;
-    if sha256(&exclusive_or(others))
+    if kind.hash(head.layer, head.withheld, &exclusive_or(others))
         == hash_for(root, given, head.layer, head.withheld, withheld_path)
     {
         return Err(Stop::NoFault);

@@ -1,8 +1,9 @@
-//! The root record, written from CR 5 of 02.
+//! The root record, written from CRs 5 and 7 of 02.
 
+use crate::kind::Kind;
 use crate::sha256::sha256;
 use crate::stop::Stop;
-use crate::table::{to_bytes, word, END, EQUATION, LAYER};
+use crate::table::{to_bytes, word, END, EQUATION};
 use crate::tree::{block_len, HASH, ROOT};
 use std::cell::RefCell;
 
@@ -10,12 +11,13 @@ use std::cell::RefCell;
 pub const HEAD: usize = 12 + HASH;
 pub const RECORD: usize = HEAD + ROOT;
 
-/// The kinds of the three words.
-pub const KINDS: [u32; 3] = [LAYER, EQUATION, END];
+/// The kinds that each of the three words may have. That of the first is the volume's.
+pub const KINDS: [&[u32]; 3] = [&[Kind::Placed as u32, Kind::Plain as u32], &[EQUATION], &[END]];
 
 /// What a head says.
 #[derive(Clone, Copy, Debug, PartialEq, Eq)]
 pub struct Head {
+    pub kind: Kind,
     pub depth: usize,
     /// The bytes of the block.
     pub length: usize,
@@ -27,8 +29,8 @@ pub struct Head {
 
 impl Head {
     /// The head for a block of so many bytes and the table that codes it.
-    pub fn of(depth: usize, length: usize, table: &[u8]) -> Head {
-        Head { depth, length, words: table.len() / 4, hash: hash_of(table) }
+    pub fn of(kind: Kind, depth: usize, length: usize, table: &[u8]) -> Head {
+        Head { kind, depth, length, words: table.len() / 4, hash: hash_of(table) }
     }
 
     /// The head of a record of at least as many bytes as a head has, where it is in form for a
@@ -36,8 +38,9 @@ impl Head {
     pub fn read(depth: usize, record: &[u8]) -> Result<Head, Stop> {
         let mut hash = [0; HASH];
         hash.copy_from_slice(&record[12..HEAD]);
-        let [first, second, third] = [0, 1, 2].map(|index| value(record, index));
-        let head = Head { depth: first?, length: second?, words: third?, hash };
+        let (kind, depth_said) = parts(record, 0)?;
+        let [(_, length), (_, words)] = [parts(record, 1)?, parts(record, 2)?];
+        let head = Head { kind: Kind::told(kind.into())?, depth: depth_said, length, words, hash };
         if head.depth != depth || head.length > block_len(depth) {
             return Err(Stop::WrongRecord);
         }
@@ -45,8 +48,8 @@ impl Head {
     }
 
     pub fn bytes(self) -> Vec<u8> {
-        let values = [self.depth, self.length, self.words];
-        let words: Vec<u32> = KINDS.into_iter().zip(values).map(|(k, v)| word(k, v)).collect();
+        let first = word(self.kind as u32, self.depth);
+        let words = [first, word(EQUATION, self.length), word(END, self.words)];
         [to_bytes(&words), self.hash.to_vec()].concat()
     }
 
@@ -82,12 +85,12 @@ pub fn root(record: &[u8]) -> &[u8] {
     &record[HEAD..]
 }
 
-/// The value of a word of the head, which must have its kind.
-fn value(record: &[u8], index: usize) -> Result<usize, Stop> {
+/// The kind and the value of a word of the head, which must have a kind of its.
+fn parts(record: &[u8], index: usize) -> Result<(u32, usize), Stop> {
     let b = &record[4 * index..4 * index + 4];
     let word = u32::from_be_bytes([b[0], b[1], b[2], b[3]]);
-    if word >> 30 == KINDS[index] {
-        Ok((word & 0x3fff_ffff) as usize)
+    if KINDS[index].contains(&(word >> 30)) {
+        Ok((word >> 30, (word & 0x3fff_ffff) as usize))
     } else {
         Err(Stop::WrongRecord)
     }

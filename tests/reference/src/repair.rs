@@ -1,9 +1,9 @@
 //! Repair, written from the sections "Repair" and "What stops a call" of 01 and
-//! from CR 5 of 02.
+//! from CRs 5 and 7 of 02.
 
+use crate::kind::Kind;
 use crate::proof::{self, Head, HEAD};
 use crate::record::{self, RECORD};
-use crate::sha256::sha256;
 use crate::stop::Stop;
 use crate::table::{self, byte_length, layers_of, Layers};
 use crate::tree::{base_data, committed_hash, exactly, exclusive_or, marks_in_form, place};
@@ -18,7 +18,8 @@ pub enum End {
     Fault(usize),
     /// With the layer.
     Unavailable(usize),
-    Twins,
+    /// With the layer and the number of the place, where the hash covers that.
+    Twins(Option<(usize, usize)>),
     /// As whole, but what fills up the block is not zero.
     Misfilled,
 }
@@ -56,7 +57,8 @@ pub fn repair(
     marks_in_form(marks)?;
 
     let root = record::root(record);
-    let mut repair = Repair { hash: sha256, root, tree, marks, output, stored: 0 };
+    let (kind, hash) = (head.kind, Kind::hash);
+    let mut repair = Repair { kind, hash, root, tree, marks, output, stored: 0 };
     let end = repair.ended(&equations, head.length);
     Ok(Repaired { end, stored: repair.stored })
 }
@@ -75,8 +77,10 @@ fn equations_with(symbols: usize, equations: &[Vec<usize>]) -> Vec<Vec<usize>> {
 }
 
 struct Repair<'a> {
-    /// The hash of a symbol. Only a test has another than SHA-256.
-    hash: fn(&[u8]) -> [u8; HASH],
+    kind: Kind,
+    /// The hash of a symbol, given its layer and its number. Only a test has another than that of
+    /// the kind.
+    hash: fn(Kind, usize, usize, &[u8]) -> [u8; HASH],
     root: &'a [u8],
     tree: &'a mut [u8],
     marks: &'a mut [u8],
@@ -177,7 +181,7 @@ impl Repair<'_> {
     fn twins(&mut self, layer: usize, held: usize, others: &Symbol) -> End {
         let twins = [self.symbol(layer, held), others].concat();
         self.output[..twins.len()].copy_from_slice(&twins);
-        End::Twins
+        End::Twins((self.kind == Kind::Placed).then_some((layer, held)))
     }
 
     /// The members that are absent.
@@ -193,7 +197,8 @@ impl Repair<'_> {
 
     /// Whether bytes have the hash that is committed for a symbol.
     fn fits(&self, layer: usize, symbol: usize, bytes: &[u8]) -> bool {
-        (self.hash)(bytes) == committed_hash(self.root, self.tree, layer, symbol)
+        (self.hash)(self.kind, layer, symbol, bytes)
+            == committed_hash(self.root, self.tree, layer, symbol)
     }
 
     fn held(&self, layer: usize, symbol: usize) -> bool {

@@ -1,9 +1,9 @@
 //! Samples, written from the sections "Sample and fault proof" and "What stops
-//! a call" of 01 and from CRs 4 and 5 of 02.
+//! a call" of 01 and from CRs 4, 5 and 7 of 02.
 
+use crate::kind::Kind;
 use crate::path::unbroken;
 use crate::record::{self, RECORD};
-use crate::sha256::sha256;
 use crate::stop::Stop;
 use crate::table::{data_symbols, layers_of};
 use crate::tree::{committed, exactly, marks_in_form, place, symbol_at, symbols, tree_symbols};
@@ -60,20 +60,26 @@ pub fn check(depth: u64, number: u64, record: &[u8], sample: &[u8]) -> Result<()
     let layers = layers_of(depth)?;
     exactly(record.len(), RECORD)?;
     exactly(sample.len(), sample_len(layers))?;
-    record::Head::read(layers, record)?;
+    let head = record::Head::read(layers, record)?;
     let number = base_number(layers, number)?;
-    judge(layers, number, record::root(record), sample)
+    judge(head.kind, layers, number, record::root(record), sample)
 }
 
-/// Whether every hash of a sample of the right length leads to a root.
-pub fn judge(layers: usize, number: usize, root: &[u8], sample: &[u8]) -> Result<(), Stop> {
+/// Whether every hash of a sample of the right length leads to a root of a kind.
+pub fn judge(
+    kind: Kind,
+    layers: usize,
+    number: usize,
+    root: &[u8],
+    sample: &[u8],
+) -> Result<(), Stop> {
     let members = members(layers, number).into_iter().enumerate();
     let broken = members.filter(|&(index, (layer, symbol))| {
         let (holder, at) = match committed(layer, symbol) {
             Committed::Root { at } => (root, at),
             Committed::Above { at, .. } => (symbol_at(sample, data_index(layers, layer - 1)), at),
         };
-        sha256(symbol_at(sample, index)) != holder[at..at + HASH]
+        kind.hash(layer, symbol, symbol_at(sample, index)) != holder[at..at + HASH]
     });
     unbroken(broken.map(|(_, (layer, _))| (None, layer)))
 }

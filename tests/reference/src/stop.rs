@@ -1,5 +1,5 @@
 //! What stops a call, written from the section "What stops a call" of 01 and from
-//! CRs 1, 4 and 5 of 02.
+//! CRs 1, 4, 5 and 7 of 02.
 
 /// A cause, with the values that are returned beside its number.
 #[derive(Clone, Copy, Debug, PartialEq, Eq)]
@@ -26,10 +26,12 @@ pub enum Stop {
         layer: usize,
         symbol: usize,
     },
-    /// A record's head is out of form, or for another depth.
+    /// A record's head is out of form, or for another depth, or there is no such kind.
     WrongRecord,
     /// A table is not the one that the record names.
     OtherTable,
+    /// A repair of the tree would not end whole with nothing stored.
+    NotWhole,
 }
 
 impl Stop {
@@ -48,6 +50,7 @@ impl Stop {
             Stop::Uncovered { layer, symbol } => (10, vec![layer, symbol]),
             Stop::WrongRecord => (11, vec![]),
             Stop::OtherTable => (12, vec![]),
+            Stop::NotWhole => (14, vec![]),
         }
     }
 }

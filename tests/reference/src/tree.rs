@@ -1,8 +1,8 @@
 //! The coded Merkle tree, written from the sections "Layers", "Parity table"
-//! and "What stops a call" of 01 and from CR 5 of 02.
+//! and "What stops a call" of 01 and from CRs 5 and 7 of 02.
 
+use crate::kind::Kind;
 use crate::record::{Head, RECORD};
-use crate::sha256::sha256;
 use crate::stop::Stop;
 use crate::table::{self, byte_length, data_symbols, layers_of, Layers};
 
@@ -66,9 +66,10 @@ pub fn committed_hash<'a>(root: &'a [u8], tree: &'a [u8], layer: usize, symbol: 
     }
 }
 
-/// Codes a block: fills the tree, its marks and its record.
+/// Codes a block as a volume of a kind: fills the tree, its marks and its record.
 pub fn write(
     depth: u64,
+    kind: u64,
     table: &[u8],
     block: &[u8],
     tree: &mut [u8],
@@ -83,10 +84,11 @@ pub fn write(
     exactly(tree.len(), SYMBOL * tree_symbols(layers))?;
     exactly(marks.len(), tree_symbols(layers))?;
     exactly(record.len(), RECORD)?;
+    let kind = Kind::told(kind)?;
     let equations = table::equations(depth, table)?;
-    let (coded, root) = code_tree(&equations, &filled(layers, block), |_, _| ());
+    let (coded, root) = code_tree(kind, &equations, &filled(layers, block), |_, _| ());
     tree.copy_from_slice(&coded);
-    record.copy_from_slice(&Head::of(layers, block.len(), table).before(&root));
+    record.copy_from_slice(&Head::of(kind, layers, block.len(), table).before(&root));
     marks.fill(1);
     Ok(())
 }
@@ -101,6 +103,7 @@ pub fn filled(depth: usize, block: &[u8]) -> Vec<u8> {
 /// The tree and the root of a block that is filled up. The symbols of each layer, which are
 /// coded from the base up, go through `alter` before they are hashed.
 pub fn code_tree(
+    kind: Kind,
     equations: &Layers,
     block: &[u8],
     mut alter: impl FnMut(usize, &mut [Symbol]),
@@ -114,9 +117,9 @@ pub fn code_tree(
         let start = SYMBOL * place(layer, 0);
         tree[start..start + SYMBOL * coded.len()].copy_from_slice(&coded.concat());
         if layer > 0 {
-            data = hashes_above(layer, &coded);
+            data = hashes_above(kind, layer, &coded);
         } else {
-            root = hashes(&coded);
+            root = hashes(kind, &coded);
         }
     }
     (tree, root)
@@ -195,17 +198,17 @@ pub fn exclusive_or<'a>(symbols: impl Iterator<Item = &'a [u8]>) -> Symbol {
     sum
 }
 
-/// The hashes of symbols, in order.
-fn hashes(coded: &[Symbol]) -> Vec<u8> {
-    coded.iter().flat_map(|symbol| sha256(symbol)).collect()
+/// The hashes of the symbols of layer 0, in order.
+fn hashes(kind: Kind, coded: &[Symbol]) -> Vec<u8> {
+    coded.iter().enumerate().flat_map(|(i, symbol)| kind.hash(0, i, symbol)).collect()
 }
 
 /// The data symbols above a layer: the hashes of its symbols.
-fn hashes_above(layer: usize, coded: &[Symbol]) -> Vec<Symbol> {
+fn hashes_above(kind: Kind, layer: usize, coded: &[Symbol]) -> Vec<Symbol> {
     let mut above = vec![[0; SYMBOL]; data_symbols(layer - 1)];
     for (i, bytes) in coded.iter().enumerate() {
         if let Committed::Above { symbol, at } = committed(layer, i) {
-            above[symbol][at..at + HASH].copy_from_slice(&sha256(bytes));
+            above[symbol][at..at + HASH].copy_from_slice(&kind.hash(layer, i, bytes));
         }
     }
     above

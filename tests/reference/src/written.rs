@@ -1,11 +1,12 @@
 //! Trees to test with.
 
+use crate::kind::Kind;
 use crate::record::{self, Head, RECORD};
 use crate::table::{equations, house, listed, to_bytes, write as write_table, Layers};
 use crate::tree::{block_len, code_tree, filled, tree_symbols, write, Symbol, SYMBOL};
 
 /// A written tree with the buffers that hold it.
-#[derive(Clone)]
+#[derive(Clone, PartialEq)]
 pub struct Written {
     pub depth: u64,
     pub table: Vec<u8>,
@@ -26,23 +27,25 @@ impl Written {
         }
     }
 
-    pub fn new(depth: usize, words: &[u32], block: &[u8]) -> Written {
+    pub fn new(kind: Kind, depth: usize, words: &[u32], block: &[u8]) -> Written {
         let mut w = Written::lent(depth, words);
-        write(w.depth, &w.table, block, &mut w.tree, &mut w.marks, &mut w.record).unwrap();
+        let Written { table, tree, marks, record, .. } = &mut w;
+        write(depth as u64, kind as u64, table, block, tree, marks, record).unwrap();
         w
     }
 
     /// A tree in which layers are altered before they are hashed.
     pub fn altered(
+        kind: Kind,
         depth: usize,
         words: &[u32],
         block: &[u8],
         alter: impl FnMut(usize, &mut [Symbol]),
     ) -> Written {
-        let mut w = Written::new(depth, words, block);
-        let (tree, root) = code_tree(&w.equations(), &filled(depth, block), alter);
+        let mut w = Written::new(kind, depth, words, block);
+        let (tree, root) = code_tree(kind, &w.equations(), &filled(depth, block), alter);
         w.tree = tree;
-        w.record = Head::of(depth, block.len(), &w.table).before(&root);
+        w.record = Head::of(kind, depth, block.len(), &w.table).before(&root);
         w
     }
 

@@ -1,6 +1,8 @@
 //! The files of vectors/, byte for byte as this implementation makes them, and
 //! no others. vectors/README.md says what each is.
 
+use reference::kind::{Kind, KINDS};
+use reference::recode::recode;
 use reference::record::{root, Head, RECORD};
 use reference::repair::{output_len, repair, End, Repaired};
 use reference::sample::{sample_len, take};
@@ -18,6 +20,7 @@ type Files = BTreeMap<String, Vec<u8>>;
 /// A coded volume.
 #[derive(Clone)]
 struct Volume {
+    kind: Kind,
     depth: usize,
     block: Vec<u8>,
     table: Vec<u8>,
@@ -29,8 +32,9 @@ struct Volume {
 impl Volume {
     /// Byte i of the volume is i + i/256. It is coded by this table, and has
     /// the house table beside it, which its record names.
-    fn coded(depth: usize, length: usize, table: &[u8]) -> Volume {
+    fn coded(kind: Kind, depth: usize, length: usize, table: &[u8]) -> Volume {
         let mut volume = Volume {
+            kind,
             depth,
             block: (0..length).map(|i| (i + i / 256) as u8).collect(),
             table: to_bytes(&house(depth)),
@@ -39,28 +43,29 @@ impl Volume {
             record: vec![0; RECORD],
         };
         let Volume { block, tree, marks, record, .. } = &mut volume;
-        write(depth as u64, table, block, tree, marks, record).unwrap();
+        write(depth as u64, kind as u64, table, block, tree, marks, record).unwrap();
         volume.says(length);
         volume
     }
 
-    fn right(depth: usize) -> Volume {
-        Volume::coded(depth, block_len(depth), &to_bytes(&house(depth)))
+    fn right(kind: Kind, depth: usize) -> Volume {
+        Volume::coded(kind, depth, block_len(depth), &to_bytes(&house(depth)))
     }
 
     /// Makes the record say that the volume has so many bytes.
     fn says(&mut self, length: usize) {
-        self.record = Head::of(self.depth, length, &self.table).before(root(&self.record));
+        let head = Head::of(self.kind, self.depth, length, &self.table);
+        self.record = head.before(root(&self.record));
     }
 
     /// With member 2 in the place of 1 in the base's equation 0, whose members
     /// follow two words of the base's.
-    fn wrong(depth: usize) -> Volume {
+    fn wrong(kind: Kind, depth: usize) -> Volume {
         let mut words = house(depth);
         let base = words.iter().position(|&word| word == 1 << 30 | (depth as u32 - 1)).unwrap();
         assert_eq!(words[base + 2..base + 4], [0, 1]);
         words[base + 3] = 2;
-        Volume::coded(depth, block_len(depth), &to_bytes(&words))
+        Volume::coded(kind, depth, block_len(depth), &to_bytes(&words))
     }
 
     fn lose(&mut self, places: impl IntoIterator<Item = usize>) {
@@ -93,6 +98,15 @@ impl Volume {
         (left, report, output)
     }
 
+    /// Tree, marks and record of the volume of the other kind.
+    fn recoded(&self) -> [Vec<u8>; 3] {
+        let Volume { depth, table, tree, marks, record, .. } = self;
+        let mut new = [tree, marks, record].map(|buffer| vec![0xdd; buffer.len()]);
+        let [new_tree, new_marks, new_record] = &mut new;
+        recode(*depth as u64, record, table, tree, marks, new_tree, new_marks, new_record).unwrap();
+        new
+    }
+
     /// Whether the volume comes back, and the rest of a buffer stays.
     fn comes_back(&self, block: &[u8]) -> bool {
         let mut back = vec![0xdd; block_len(self.depth)];
@@ -118,7 +132,11 @@ fn groups(hash: &[u8]) -> String {
 /// A record as it is printed.
 fn print(depth: usize, record: &[u8]) -> String {
     let head = Head::read(depth, record).unwrap();
-    let depth = format!("depth   {}", head.depth);
+    let kind = match head.kind {
+        Kind::Placed => "placed",
+        Kind::Plain => "plain",
+    };
+    let depth = format!("depth   {} {kind}", head.depth);
     let length = format!("length  {} bytes", head.length);
     let table = format!("table   {} words", head.words);
     let mut text = String::new();
@@ -146,14 +164,16 @@ fn changes(of: &[u8], tree: &[u8]) -> Vec<u8> {
 
 /// The files of a folder, which are collected.
 struct Collected {
-    folder: &'static str,
+    folder: String,
     right: Volume,
     files: Files,
 }
 
 impl Collected {
-    fn of(folder: &'static str, right: Volume) -> Collected {
-        Collected { folder, right, files: Files::new() }
+    /// Of a folder, which is another for a volume with places.
+    fn of(folder: &str, right: Volume) -> Collected {
+        let end = if right.kind == Kind::Placed { "-placed" } else { "" };
+        Collected { folder: format!("{folder}{end}"), right, files: Files::new() }
     }
 
     fn save(&mut self, name: &str, bytes: impl AsRef<[u8]>) {
@@ -204,7 +224,7 @@ impl Collected {
             End::Whole => (0, 0),
             End::Fault(len) => (1, len),
             End::Unavailable(layer) => (2, layer),
-            End::Twins => (3, 0),
+            End::Twins(_) => unreachable!(),
             End::Misfilled => (13, 0),
         };
         let numbers = format!("number 0\nend {end}\nstored {}\nvalue {value}\n", report.stored);
@@ -224,8 +244,8 @@ impl Collected {
     }
 }
 
-fn depth_1() -> Files {
-    let mut made = Collected::of("depth-1", Volume::right(1));
+fn depth_1(kind: Kind) -> Files {
+    let mut made = Collected::of("depth-1", Volume::right(kind, 1));
     made.save_right(9);
     let mut lent = made.right.clone();
     lent.lose([0, 1]);
@@ -236,14 +256,14 @@ fn depth_1() -> Files {
     lent.lose([4, 5, 6, 8, 9, 12, 15]);
     lent.damage(&[0]);
     made.save_repair("unavailable", &lent, true);
-    let mut lent = Volume::wrong(1);
+    let mut lent = Volume::wrong(kind, 1);
     lent.lose([1]);
     made.save_repair("wrong", &lent, true);
     made.files
 }
 
-fn depth_2() -> Files {
-    let mut made = Collected::of("depth-2", Volume::right(2));
+fn depth_2(kind: Kind) -> Files {
+    let mut made = Collected::of("depth-2", Volume::right(kind, 2));
     made.save_right(20);
     let mut lent = made.right.clone();
     lent.lose((1..tree_symbols(2)).step_by(3));
@@ -255,14 +275,14 @@ fn depth_2() -> Files {
     lent.lose([3, 10, 17, 18, 24, 25].map(|number| place(1, number)));
     lent.damage(&[place(1, 26)]);
     made.save_repair("unavailable", &lent, false);
-    let mut lent = Volume::wrong(2);
+    let mut lent = Volume::wrong(kind, 2);
     lent.lose([place(1, 8)]);
     made.save_repair("wrong", &lent, true);
     made.files
 }
 
-fn depth_3() -> Files {
-    let mut made = Collected::of("depth-3", Volume::right(3));
+fn depth_3(kind: Kind) -> Files {
+    let mut made = Collected::of("depth-3", Volume::right(kind, 3));
     made.save_right(61);
     let mut lent = made.right.clone();
     lent.lose((1..tree_symbols(3)).step_by(3));
@@ -274,15 +294,15 @@ fn depth_3() -> Files {
     lent.lose([place(1, 0), place(2, 2)]);
     lent.damage(&[place(0, 0), place(2, 12)]);
     made.save_repair("unavailable", &lent, false);
-    let mut lent = Volume::wrong(3);
+    let mut lent = Volume::wrong(kind, 3);
     lent.lose([place(2, 0), place(2, 1)]);
     lent.damage(&[place(0, 3)]);
     made.save_repair("wrong", &lent, true);
     made.files
 }
 
-fn depth_4() -> Files {
-    let mut made = Collected::of("depth-4", Volume::right(4));
+fn depth_4(kind: Kind) -> Files {
+    let mut made = Collected::of("depth-4", Volume::right(kind, 4));
     made.save_right(100);
     let mut lent = made.right.clone();
     lent.lose((1..tree_symbols(4)).step_by(4));
@@ -294,14 +314,14 @@ fn depth_4() -> Files {
     lent.lose([18, 33, 34, 48, 49, 50].map(|number| place(2, number)));
     lent.damage(&[place(2, 3), place(3, 28)]);
     made.save_repair("unavailable", &lent, false);
-    let mut lent = Volume::wrong(4);
+    let mut lent = Volume::wrong(kind, 4);
     lent.lose([place(1, 4), place(2, 52)]);
     made.save_repair("wrong", &lent, true);
     made.files
 }
 
-fn depth_5() -> Files {
-    let mut made = Collected::of("depth-5", Volume::right(5));
+fn depth_5(kind: Kind) -> Files {
+    let mut made = Collected::of("depth-5", Volume::right(kind, 5));
     made.save_right(200);
     let mut lent = made.right.clone();
     lent.lose((1..tree_symbols(5)).step_by(4));
@@ -313,22 +333,22 @@ fn depth_5() -> Files {
     lent.lose([3, 34, 65, 66, 96, 97].map(|number| place(3, number)));
     lent.damage(&[place(3, 98), place(4, 60)]);
     made.save_repair("unavailable", &lent, false);
-    let mut lent = Volume::wrong(5);
+    let mut lent = Volume::wrong(kind, 5);
     lent.lose([place(2, 12)]);
     made.save_repair("wrong", &lent, true);
     made.files
 }
 
 /// A volume of 700 bytes, and by its head a tree that is filled up with other bytes than zeros.
-fn depth_1_short() -> Files {
-    let short = Volume::coded(1, 700, &to_bytes(&house(1)));
+fn depth_1_short(kind: Kind) -> Files {
+    let short = Volume::coded(kind, 1, 700, &to_bytes(&house(1)));
     let mut made = Collected::of("depth-1-short", short);
     made.save_right(2);
     let mut lent = made.right.clone();
     lent.lose([2, 3]);
     lent.damage(&[5]);
     made.save_repair("whole", &lent, true);
-    let mut lent = Volume::right(1);
+    let mut lent = Volume::right(kind, 1);
     lent.says(700);
     lent.lose([2, 3]);
     lent.damage(&[9]);
@@ -338,8 +358,8 @@ fn depth_1_short() -> Files {
 }
 
 fn expected() -> Files {
-    let depths = [depth_1(), depth_2(), depth_3(), depth_4(), depth_5(), depth_1_short()];
-    depths.into_iter().flatten().collect()
+    let all = [depth_1, depth_2, depth_3, depth_4, depth_5, depth_1_short];
+    KINDS.into_iter().flat_map(|kind| all.map(|of| of(kind))).flatten().collect()
 }
 
 /// The files below a folder, beside what describes them.
@@ -371,6 +391,23 @@ fn vectors() -> Files {
 #[test]
 fn vectors_are_as_this_implementation_makes_them() {
     assert_eq!(differences(&expected(), &vectors()), Vec::<String>::new());
+}
+
+/// What is in a folder, recoded, is in the folder of the other kind.
+#[test]
+fn kinds_are_each_other_recoded() {
+    let files = vectors();
+    let of = |folder: &str| {
+        ["tree", "marks", "record"].map(|name| files[&format!("{folder}/{name}")].clone())
+    };
+    let lengths = (1..=5).map(|depth| (depth, block_len(depth), format!("depth-{depth}")));
+    for (depth, length, folder) in lengths.chain([(1, 700, "depth-1-short".to_string())]) {
+        let table = to_bytes(&house(depth));
+        for (kind, end) in [(Kind::Plain, "-placed"), (Kind::Placed, "")] {
+            let recoded = Volume::coded(kind, depth, length, &table).recoded();
+            assert!(recoded == of(&format!("{folder}{end}")), "{folder}{end}");
+        }
+    }
 }
 
 /// A changed byte of any file is found, and a file too few or too many.

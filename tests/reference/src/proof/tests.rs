@@ -1,16 +1,17 @@
 use super::*;
+use crate::kind::KINDS;
 use crate::table::{house, to_bytes, MAX_DEPTH};
 use crate::tree::ROOT;
 use crate::written::{block_of, cases_block, without, Written};
 
 /// The tree of 01's case 7.
-fn case_7() -> Written {
-    Written::altered(1, &house(1), &cases_block(), |_, symbols| symbols[7] = [1; SYMBOL])
+fn case_7(kind: Kind) -> Written {
+    Written::altered(kind, 1, &house(1), &cases_block(), |_, symbols| symbols[7] = [1; SYMBOL])
 }
 
 /// A tree of the house table with this symbol of a layer replaced.
-fn replaced(depth: usize, layer: usize, symbol: usize) -> Written {
-    Written::altered(depth, &house(depth), &block_of(depth), |altered, symbols| {
+fn replaced(kind: Kind, depth: usize, layer: usize, symbol: usize) -> Written {
+    Written::altered(kind, depth, &house(depth), &block_of(depth), |altered, symbols| {
         if altered == layer {
             symbols[symbol][200] ^= 0x40;
         }
@@ -28,11 +29,16 @@ fn check_of(w: &Written, proof: &[u8]) -> Result<(), Stop> {
 
 #[test]
 fn proof_of_case_7() {
-    let w = case_7();
-    let proof = proof_of(&w, 0, 3, 7);
-    assert_eq!(proof.len(), 780);
-    assert_eq!(proof[..HEAD], [0x40, 0, 0, 0, 0x80, 0, 0, 3, 0xc0, 0, 0, 7]);
-    assert_eq!(check_of(&w, &proof), Ok(()));
+    for kind in KINDS {
+        let mut w = case_7(kind);
+        let proof = proof_of(&w, 0, 3, 7);
+        assert_eq!(proof.len(), 780);
+        assert_eq!(proof[..HEAD], [0x40, 0, 0, 0, 0x80, 0, 0, 3, 0xc0, 0, 0, 7]);
+        assert_eq!(check_of(&w, &proof), Ok(()));
+        // By a record of the other kind the first member's hash is another.
+        w.put(record::Head { kind: kind.other(), ..w.head() });
+        assert_eq!(check_of(&w, &proof), breaks_in(0, 0));
+    }
 }
 
 /// Case 9, and that of CR 6.
@@ -58,7 +64,7 @@ fn any_member_may_be_withheld() {
     for depth in 1..=4 {
         for layer in 0..depth {
             let symbol = data_symbols(layer) + 2;
-            let w = replaced(depth, layer, symbol);
+            let w = replaced(KINDS[(depth + layer) % 2], depth, layer, symbol);
             for (equation, members) in w.equations()[layer].iter().enumerate() {
                 for &withheld in members {
                     let proof = proof_of(&w, layer, equation, withheld);
@@ -90,7 +96,7 @@ fn damaged(proof: &[u8], bytes: &[(usize, usize)]) -> Vec<u8> {
 /// 0 on the withheld one's, is the first in the symbol above.
 #[test]
 fn a_damaged_proof_is_refused() {
-    let w = replaced(3, 2, 16);
+    let w = replaced(Kind::Placed, 3, 2, 16);
     let proof = proof_of(&w, 2, 0, 16);
     let first = [(2, 0), (2, 0), (1, 0), (2, 1), (2, 1), (1, 1), (1, 2), (1, 2)];
     let others = [(2, 0), (1, 0), (0, 0), (2, 1), (1, 1), (0, 1), (1, 2), (0, 2)];
@@ -108,7 +114,7 @@ fn a_damaged_proof_is_refused() {
 /// 1. The withheld one is last, whatever its number.
 #[test]
 fn first_broken_member_in_proof_order() {
-    let w = replaced(3, 2, 21);
+    let w = replaced(Kind::Placed, 3, 2, 21);
     let members = &w.equations()[2][5];
     assert_eq!(members[..], [5, 6, 20, 21]);
     for &withheld in members {
@@ -130,7 +136,7 @@ fn first_broken_member_in_proof_order() {
 /// In layer 0 the withheld member has no path.
 #[test]
 fn a_damaged_root() {
-    let w = case_7();
+    let w = case_7(Kind::Placed);
     let proof = proof_of(&w, 0, 3, 7);
     for hash in 0..16 {
         let mut record = w.record.clone();
@@ -143,7 +149,7 @@ fn a_damaged_root() {
 
 #[test]
 fn heads() {
-    let w = case_7();
+    let w = case_7(Kind::Plain);
     let proof = proof_of(&w, 0, 3, 7);
     let with = |at: usize, by: u32| {
         let mut altered = proof.clone();
@@ -172,7 +178,7 @@ fn heads() {
 
 #[test]
 fn tests_in_their_order() {
-    let w = case_7();
+    let w = case_7(Kind::Placed);
     let proof = proof_of(&w, 0, 3, 7);
     let no_table = to_bytes(&house(2));
     assert_eq!(check(1 << 32 | 1, &w.record[1..], &[1], &[]), Err(Stop::Depth));
@@ -198,13 +204,13 @@ fn tests_in_their_order() {
 /// at there.
 #[test]
 fn a_proof_is_for_the_depth_of_its_record() {
-    let w = replaced(2, 1, 8);
+    let w = replaced(Kind::Placed, 2, 1, 8);
     let proof = proof_of(&w, 1, 0, 8);
     assert_eq!(check_of(&w, &proof), Ok(()));
     let deeper = to_bytes(&house(3));
     for table in [&w.table, &deeper] {
         assert_eq!(check(3, &w.record, table, &proof), Err(Stop::WrongRecord));
     }
-    let record = record::Head::of(3, 0, &deeper).before(w.root());
+    let record = record::Head::of(Kind::Placed, 3, 0, &deeper).before(w.root());
     assert_eq!(check(3, &record, &deeper, &proof), Ok(()));
 }

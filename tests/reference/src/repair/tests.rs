@@ -1,4 +1,5 @@
 use super::*;
+use crate::kind::KINDS;
 use crate::proof::check;
 use crate::record::Head as RecordHead;
 use crate::table::{data_symbols, house, to_bytes, write as write_table};
@@ -14,12 +15,12 @@ fn repaired(w: &mut Written) -> (Result<Repaired, Stop>, Vec<u8>) {
     (result, output)
 }
 
-fn cases_tree() -> Written {
-    Written::new(1, &house(1), &cases_block())
+fn cases_tree(kind: Kind) -> Written {
+    Written::new(kind, 1, &house(1), &cases_block())
 }
 
-fn written(depth: usize) -> Written {
-    Written::new(depth, &house(depth), &block_of(depth))
+fn written(kind: Kind, depth: usize) -> Written {
+    Written::new(kind, depth, &house(depth), &block_of(depth))
 }
 
 /// Takes symbols away, by their places. Other bytes stand in theirs.
@@ -37,67 +38,76 @@ fn absent(w: &Written) -> Vec<usize> {
 /// Case 4.
 #[test]
 fn two_of_the_cases_tree_absent() {
-    let right = cases_tree();
-    let mut w = right.clone();
-    lose(&mut w, &[0, 1]);
-    let (result, output) = repaired(&mut w);
-    assert_eq!(result, Ok(Repaired { end: End::Whole, stored: 2 }));
-    assert!(w.tree == right.tree && w.marks == right.marks);
-    assert!(output.iter().all(|&byte| byte == LENT));
+    for kind in KINDS {
+        let right = cases_tree(kind);
+        let mut w = right.clone();
+        lose(&mut w, &[0, 1]);
+        let (result, output) = repaired(&mut w);
+        assert_eq!(result, Ok(Repaired { end: End::Whole, stored: 2 }));
+        assert!(w.tree == right.tree && w.marks == right.marks);
+        assert!(output.iter().all(|&byte| byte == LENT));
+    }
 }
 
 /// Case 5.
 #[test]
 fn one_of_eight_absent_is_stored() {
-    let mut w = cases_tree();
-    lose(&mut w, &[0, 4, 5, 6, 8, 9, 12, 15]);
-    let (result, output) = repaired(&mut w);
-    assert_eq!(result, Ok(Repaired { end: End::Unavailable(0), stored: 1 }));
-    assert_eq!(absent(&w), [0, 4, 5, 6, 8, 9, 12]);
-    for place in absent(&w) {
-        assert_eq!(symbol_at(&w.tree, place), [0; SYMBOL]);
+    for kind in KINDS {
+        let mut w = cases_tree(kind);
+        lose(&mut w, &[0, 4, 5, 6, 8, 9, 12, 15]);
+        let (result, output) = repaired(&mut w);
+        assert_eq!(result, Ok(Repaired { end: End::Unavailable(0), stored: 1 }));
+        assert_eq!(absent(&w), [0, 4, 5, 6, 8, 9, 12]);
+        for place in absent(&w) {
+            assert_eq!(symbol_at(&w.tree, place), [0; SYMBOL]);
+        }
+        assert!(output.iter().all(|&byte| byte == LENT));
     }
-    assert!(output.iter().all(|&byte| byte == LENT));
 }
 
 /// Case 6.
 #[test]
 fn all_absent() {
-    let mut w = cases_tree();
-    lose(&mut w, &(0..16).collect::<Vec<_>>());
-    let (result, _) = repaired(&mut w);
-    assert_eq!(result, Ok(Repaired { end: End::Unavailable(0), stored: 0 }));
-    assert_eq!(absent(&w).len(), 16);
+    for kind in KINDS {
+        let mut w = cases_tree(kind);
+        lose(&mut w, &(0..16).collect::<Vec<_>>());
+        let (result, _) = repaired(&mut w);
+        assert_eq!(result, Ok(Repaired { end: End::Unavailable(0), stored: 0 }));
+        assert_eq!(absent(&w).len(), 16);
+    }
 }
 
 /// Case 7: the same output and report, whether symbol 7 is held or absent.
 #[test]
 fn a_miscoded_symbol() {
-    let miscoded =
-        Written::altered(1, &house(1), &cases_block(), |_, symbols| symbols[7] = [1; SYMBOL]);
-    let mut outputs = Vec::new();
-    for held in [true, false] {
-        let mut w = miscoded.clone();
-        if !held {
-            lose(&mut w, &[7]);
+    for kind in KINDS {
+        let miscoded = Written::altered(kind, 1, &house(1), &cases_block(), |_, symbols| {
+            symbols[7] = [1; SYMBOL]
+        });
+        let mut outputs = Vec::new();
+        for held in [true, false] {
+            let mut w = miscoded.clone();
+            if !held {
+                lose(&mut w, &[7]);
+            }
+            let (result, output) = repaired(&mut w);
+            assert_eq!(result, Ok(Repaired { end: End::Fault(780), stored: 0 }));
+            assert_eq!(output[..HEAD], [0x40, 0, 0, 0, 0x80, 0, 0, 3, 0xc0, 0, 0, 7]);
+            assert_eq!(check(1, &w.record, &w.table, &output[..780]), Ok(()));
+            assert!(output[780..].iter().all(|&byte| byte == LENT));
+            assert_eq!(symbol_at(&w.tree, 7), if held { [1; SYMBOL] } else { [0; SYMBOL] });
+            assert_eq!(w.marks[7], u8::from(held));
+            outputs.push(output);
         }
-        let (result, output) = repaired(&mut w);
-        assert_eq!(result, Ok(Repaired { end: End::Fault(780), stored: 0 }));
-        assert_eq!(output[..HEAD], [0x40, 0, 0, 0, 0x80, 0, 0, 3, 0xc0, 0, 0, 7]);
-        assert_eq!(check(1, &w.record, &w.table, &output[..780]), Ok(()));
-        assert!(output[780..].iter().all(|&byte| byte == LENT));
-        assert_eq!(symbol_at(&w.tree, 7), if held { [1; SYMBOL] } else { [0; SYMBOL] });
-        assert_eq!(w.marks[7], u8::from(held));
-        outputs.push(output);
+        assert_eq!(outputs[0], outputs[1]);
     }
-    assert_eq!(outputs[0], outputs[1]);
 }
 
 /// Whatever stands in one place, the tree comes back.
 #[test]
 fn one_bad_copy_or_one_absent_anywhere() {
     for depth in 1..=4 {
-        let right = written(depth);
+        let right = written(KINDS[depth % 2], depth);
         for place in 0..right.marks.len() {
             for mark in [0, 1] {
                 let mut w = right.clone();
@@ -114,28 +124,32 @@ fn one_bad_copy_or_one_absent_anywhere() {
 /// A right symbol under mark 0 is formed again, and counts.
 #[test]
 fn right_bytes_under_mark_0() {
-    let right = written(2);
-    let mut w = right.clone();
-    w.marks[20] = 0;
-    assert_eq!(repaired(&mut w).0, Ok(Repaired { end: End::Whole, stored: 1 }));
-    w.marks[..16].fill(0);
-    assert_eq!(repaired(&mut w).0, Ok(Repaired { end: End::Unavailable(0), stored: 0 }));
-    assert!(w.tree[..16 * SYMBOL].iter().all(|&byte| byte == 0));
-    assert_eq!(w.tree[16 * SYMBOL..], right.tree[16 * SYMBOL..]);
+    for kind in KINDS {
+        let right = written(kind, 2);
+        let mut w = right.clone();
+        w.marks[20] = 0;
+        assert_eq!(repaired(&mut w).0, Ok(Repaired { end: End::Whole, stored: 1 }));
+        w.marks[..16].fill(0);
+        assert_eq!(repaired(&mut w).0, Ok(Repaired { end: End::Unavailable(0), stored: 0 }));
+        assert!(w.tree[..16 * SYMBOL].iter().all(|&byte| byte == 0));
+        assert_eq!(w.tree[16 * SYMBOL..], right.tree[16 * SYMBOL..]);
+    }
 }
 
 /// A layer that is unavailable, under one in which symbols are stored.
 #[test]
 fn an_unavailable_layer() {
-    let mut w = written(3);
-    lose(&mut w, &[2, 5]);
-    lose(&mut w, &(16..48).collect::<Vec<_>>());
-    lose(&mut w, &[60]);
-    let lower = w.tree[48 * SYMBOL..].to_vec();
-    let (result, _) = repaired(&mut w);
-    assert_eq!(result, Ok(Repaired { end: End::Unavailable(1), stored: 2 }));
-    assert_eq!(absent(&w), (16..48).chain([60]).collect::<Vec<_>>());
-    assert_eq!(w.tree[48 * SYMBOL..], lower);
+    for kind in KINDS {
+        let mut w = written(kind, 3);
+        lose(&mut w, &[2, 5]);
+        lose(&mut w, &(16..48).collect::<Vec<_>>());
+        lose(&mut w, &[60]);
+        let lower = w.tree[48 * SYMBOL..].to_vec();
+        let (result, _) = repaired(&mut w);
+        assert_eq!(result, Ok(Repaired { end: End::Unavailable(1), stored: 2 }));
+        assert_eq!(absent(&w), (16..48).chain([60]).collect::<Vec<_>>());
+        assert_eq!(w.tree[48 * SYMBOL..], lower);
+    }
 }
 
 /// In each layer, through an absent member and through a complete equation.
@@ -144,8 +158,9 @@ fn faults_of_each_layer() {
     for depth in 1..=4 {
         for layer in 0..depth {
             let k = 4 << layer;
+            let kind = KINDS[(depth + layer) % 2];
             let miscoded =
-                Written::altered(depth, &house(depth), &block_of(depth), |at, symbols| {
+                Written::altered(kind, depth, &house(depth), &block_of(depth), |at, symbols| {
                     if at == layer {
                         symbols[k][9] ^= 0x80;
                     }
@@ -171,18 +186,20 @@ fn faults_of_each_layer() {
 /// too.
 #[test]
 fn the_search_begins_again() {
-    let mut layer: Vec<Vec<usize>> = vec![vec![0, 1, 4], vec![1, 5]];
-    layer.extend((2..10).map(|e| vec![2, 4 + e]));
-    layer.extend((10..12).map(|e| vec![0, 3, 4 + e]));
-    let words = write_table(&[layer]);
-    let mut w = Written::altered(1, &words, &cases_block(), |_, symbols| {
-        symbols[4] = [0x55; SYMBOL];
-        symbols[6] = [0x66; SYMBOL];
-    });
-    lose(&mut w, &[0, 1]);
-    let (result, output) = repaired(&mut w);
-    assert_eq!(result, Ok(Repaired { end: End::Fault(proof::proof_len(0, 3)), stored: 1 }));
-    assert_eq!(output[..HEAD], Head { layer: 0, equation: 0, withheld: 0 }.bytes());
+    for kind in KINDS {
+        let mut layer: Vec<Vec<usize>> = vec![vec![0, 1, 4], vec![1, 5]];
+        layer.extend((2..10).map(|e| vec![2, 4 + e]));
+        layer.extend((10..12).map(|e| vec![0, 3, 4 + e]));
+        let words = write_table(&[layer]);
+        let mut w = Written::altered(kind, 1, &words, &cases_block(), |_, symbols| {
+            symbols[4] = [0x55; SYMBOL];
+            symbols[6] = [0x66; SYMBOL];
+        });
+        lose(&mut w, &[0, 1]);
+        let (result, output) = repaired(&mut w);
+        assert_eq!(result, Ok(Repaired { end: End::Fault(proof::proof_len(0, 3)), stored: 1 }));
+        assert_eq!(output[..HEAD], Head { layer: 0, equation: 0, withheld: 0 }.bytes());
+    }
 }
 
 /// Steps (b) and (c) by their words: after each take the search begins again at equation 0.
@@ -210,8 +227,9 @@ fn equations_are_taken_in_the_order_of_a_plain_search() {
         let base = depth - 1;
         for turn in 0..turns {
             let mixed = |i: usize| (i * 7919 + turn * 104_729 + i * i * 31) % 1009;
+            let kind = KINDS[turn % 2];
             let miscoded =
-                Written::altered(depth, &house(depth), &block_of(depth), |layer, coded| {
+                Written::altered(kind, depth, &house(depth), &block_of(depth), |layer, coded| {
                     let replaced = (0..turn % 4).map(|i| mixed(i + 5000) % symbols(base));
                     replaced.filter(|_| layer == base).for_each(|symbol| coded[symbol][3] ^= 1);
                 });
@@ -223,8 +241,8 @@ fn equations_are_taken_in_the_order_of_a_plain_search() {
                 let mut w = w.clone();
                 let mut output = vec![LENT; output_len(depth)];
                 let (root, tree, marks) = (record::root(&w.record), &mut w.tree, &mut w.marks);
-                let mut repair =
-                    Repair { hash: sha256, root, tree, marks, output: &mut output, stored: 0 };
+                let (hash, lent) = (Kind::hash, &mut output[..]);
+                let mut repair = Repair { kind, hash, root, tree, marks, output: lent, stored: 0 };
                 repair.sweep(base);
                 let end = match plain {
                     true => plain_peel(&mut repair, base, &equations),
@@ -244,33 +262,79 @@ fn equations_are_taken_in_the_order_of_a_plain_search() {
     assert!(ends.iter().all(|&times| times >= 40), "{ends:?}");
 }
 
-/// With a hash that all symbols share, a formed symbol always fits, and an
-/// equation that is complete and fails shows twins: equation 1, {1, 2, 4, 5},
-/// gives symbol 5, and then 2, {2, 3, 5, 6}, fails.
+/// What a repair of a tree of depth 3 comes to by a hash that is always zero, with what it stores and
+/// the start of its output. The layers above this one are zeros, as their hashes are. So a formed
+/// symbol always fits, and an equation that is complete and fails shows twins: equation 1 of the
+/// layer, {1, 2, k, k+1}, gives symbol k+1, and then 2, {2, 3, k+1, k+2}, fails.
+fn twins_in(kind: Kind, layer: usize) -> (End, usize, Vec<u8>) {
+    let (mut w, k) = (written(kind, 3), data_symbols(layer));
+    let layers = w.equations();
+    assert_eq!(layers[layer][1..3], [vec![1, 2, k, k + 1], vec![2, 3, k + 1, k + 2]]);
+    w.tree[..SYMBOL * place(layer, 0)].fill(0);
+    lose(&mut w, &[place(layer, k + 1)]);
+    w.tree[SYMBOL * place(layer, k + 2)..][..SYMBOL].fill(0x66);
+    let mut output = vec![LENT; output_len(3)];
+    let (root, hash) = ([0; ROOT], |_: Kind, _: usize, _: usize, _: &[u8]| [0; HASH]);
+    let Written { tree, marks, .. } = &mut w;
+    let (root, output_lent) = (&root, &mut output[..]);
+    let mut repair = Repair { kind, hash, root, tree, marks, output: output_lent, stored: 0 };
+    // Its block is not zero either.
+    let (end, stored) = (repair.ended(&layers, 0), repair.stored);
+    assert!(output[2 * SYMBOL..].iter().all(|&byte| byte == LENT));
+    output.truncate(2 * SYMBOL);
+    (end, stored, output)
+}
+
+/// Twins with places name the place, in each layer; plain ones none.
 #[test]
 fn twins_of_a_poor_hash() {
-    let mut w = cases_tree();
-    let layers = w.equations();
-    lose(&mut w, &[5]);
-    w.tree[6 * SYMBOL..7 * SYMBOL].fill(0x66);
-    let mut output = vec![LENT; output_len(1)];
-    let (root, hash) = ([0; ROOT], |_: &[u8]| [0; HASH]);
-    let Written { tree, marks, .. } = &mut w;
-    let mut repair = Repair { hash, root: &root, tree, marks, output: &mut output, stored: 0 };
-    // Its block is not zero either.
-    assert_eq!(repair.ended(&layers, 0), End::Twins);
-    assert_eq!(repair.stored, 1);
-    assert_eq!(output[..2 * SYMBOL], [[0x66; SYMBOL], [0x04 ^ 0x08 ^ 0x05; SYMBOL]].concat());
-    assert!(output[2 * SYMBOL..].iter().all(|&byte| byte == LENT));
+    for layer in 0..3 {
+        for (kind, named) in [(Kind::Plain, None), (Kind::Placed, Some((layer, (4 << layer) + 2)))]
+        {
+            let right = written(kind, 3).tree;
+            let k = data_symbols(layer);
+            let others = [2, 3, k + 1].map(|i| symbol_at(&right, place(layer, i)));
+            let expected = [[0x66; SYMBOL], exclusive_or(others.into_iter())].concat();
+            assert_eq!(twins_in(kind, layer), (End::Twins(named), 1, expected));
+        }
+    }
+}
+
+/// Only symbols of one place are twins by a hash that is the place's: at another place the same
+/// bytes have another hash, and are a bad copy.
+#[test]
+fn twins_are_of_one_place() {
+    let hash = |_: Kind, layer: usize, number: usize, _: &[u8]| {
+        let mut hash = [0; HASH];
+        hash[..2].copy_from_slice(&[layer as u8, number as u8]);
+        hash
+    };
+    let mut root: Vec<u8> = (0..16).flat_map(|number| hash(Kind::Placed, 0, number, &[])).collect();
+    for (exchanged, end, left) in [
+        (None, End::Twins(Some((0, 6))), 0),
+        // The hashes of 4 and 6 exchanged: both are absent, and formed symbols do not fit.
+        (Some((4, 6)), End::Fault(proof::proof_len(0, 3)), 2),
+    ] {
+        let mut w = cases_tree(Kind::Placed);
+        w.tree[6 * SYMBOL..7 * SYMBOL].fill(0x66);
+        if let Some((one, other)) = exchanged {
+            (0..HASH).for_each(|i| root.swap(HASH * one + i, HASH * other + i));
+        }
+        let (layers, mut output) = (w.equations(), vec![LENT; output_len(1)]);
+        let Written { tree, marks, .. } = &mut w;
+        let (kind, output) = (Kind::Placed, &mut output[..]);
+        let mut repair = Repair { kind, hash, root: &root, tree, marks, output, stored: 0 };
+        assert_eq!((repair.run(&layers), absent(&w).len()), (end, left));
+    }
 }
 
 /// The tree of a block that is zero from a byte on, but for one byte, and whose record says
 /// this length.
-fn misfilled(depth: usize, length: usize, but: Option<usize>) -> Written {
+fn misfilled(kind: Kind, depth: usize, length: usize, but: Option<usize>) -> Written {
     let mut block = block_of(depth);
     block[length..].fill(0);
     but.into_iter().for_each(|at| block[at] = 0x80);
-    let mut w = Written::new(depth, &house(depth), &block);
+    let mut w = Written::new(kind, depth, &house(depth), &block);
     w.put(RecordHead { length, ..w.head() });
     w
 }
@@ -296,7 +360,7 @@ fn what_fills_up_must_be_zero() {
         for (length, last) in lengths(depth).map(|length| (length, block_len(depth) - 1)) {
             let others = [length, (length + last) / 2, last].map(Some);
             for but in [None].into_iter().chain(others).filter(|_| length <= last) {
-                let right = misfilled(depth, length, but);
+                let right = misfilled(KINDS[depth % 2], depth, length, but);
                 let end = but.map_or(End::Whole, |_| End::Misfilled);
                 for lost in losses(depth) {
                     let mut w = right.clone();
@@ -308,7 +372,7 @@ fn what_fills_up_must_be_zero() {
                 }
             }
         }
-        let mut w = written(depth);
+        let mut w = written(KINDS[depth % 2], depth);
         assert_eq!(repaired(&mut w).0, Ok(Repaired { end: End::Whole, stored: 0 }));
     }
 }
@@ -317,7 +381,7 @@ fn what_fills_up_must_be_zero() {
 #[test]
 fn the_last_byte_of_a_block_does_not_fill_up() {
     for length in [1, 255, 256, 257, 1024] {
-        let mut w = misfilled(1, length, Some(length - 1));
+        let mut w = misfilled(KINDS[length % 2], 1, length, Some(length - 1));
         assert_eq!(repaired(&mut w).0, Ok(Repaired { end: End::Whole, stored: 0 }));
     }
 }
@@ -325,40 +389,44 @@ fn the_last_byte_of_a_block_does_not_fill_up() {
 /// Where a repair is not whole, what fills up is not looked at.
 #[test]
 fn other_ends_of_misfilled_trees() {
-    let right = misfilled(2, 256, Some(2047));
-    let mut w = right.clone();
-    lose(&mut w, &(16..48).collect::<Vec<_>>());
-    assert_eq!(repaired(&mut w).0, Ok(Repaired { end: End::Unavailable(1), stored: 0 }));
-    let mut w = Written::altered(2, &house(2), &block_of(2), |layer, symbols| {
-        if layer == 1 {
-            symbols[8][0] ^= 1;
-        }
-    });
-    w.put(RecordHead { length: 256, ..w.head() });
-    let len = proof::proof_len(1, 3);
-    assert_eq!(repaired(&mut w).0, Ok(Repaired { end: End::Fault(len), stored: 0 }));
+    for kind in KINDS {
+        let right = misfilled(kind, 2, 256, Some(2047));
+        let mut w = right.clone();
+        lose(&mut w, &(16..48).collect::<Vec<_>>());
+        assert_eq!(repaired(&mut w).0, Ok(Repaired { end: End::Unavailable(1), stored: 0 }));
+        let mut w = Written::altered(kind, 2, &house(2), &block_of(2), |layer, symbols| {
+            if layer == 1 {
+                symbols[8][0] ^= 1;
+            }
+        });
+        w.put(RecordHead { length: 256, ..w.head() });
+        let len = proof::proof_len(1, 3);
+        assert_eq!(repaired(&mut w).0, Ok(Repaired { end: End::Fault(len), stored: 0 }));
+    }
 }
 
 /// A table that is not covered, and a mark that is none: 10 comes first, and
 /// everything stays as it was.
 #[test]
 fn uncovered_tables_are_not_repaired_by() {
-    let mut w = written(2);
-    w.table = to_bytes(&without(2, 0, 1));
-    for mark in [0, 2] {
-        w.marks[20] = mark;
-        let before = w.clone();
-        let (result, output) = repaired(&mut w);
-        assert_eq!(result, Err(Stop::Uncovered { layer: 0, symbol: 1 }));
-        assert!(w.tree == before.tree && w.marks == before.marks);
-        assert!(output.iter().all(|&byte| byte == LENT));
+    for kind in KINDS {
+        let mut w = written(kind, 2);
+        w.table = to_bytes(&without(2, 0, 1));
+        for mark in [0, 2] {
+            w.marks[20] = mark;
+            let before = w.clone();
+            let (result, output) = repaired(&mut w);
+            assert_eq!(result, Err(Stop::Uncovered { layer: 0, symbol: 1 }));
+            assert!(w.tree == before.tree && w.marks == before.marks);
+            assert!(output.iter().all(|&byte| byte == LENT));
+        }
     }
 }
 
 /// What a repair stops with for these lengths of record, table, tree, marks and
 /// output at depth 1, and for these marks. A table of another length is none.
 fn stop_of(depth: u64, lens: [usize; 5], mark: u8) -> Option<Stop> {
-    let mut w = cases_tree();
+    let mut w = cases_tree(Kind::Placed);
     let mut output = vec![LENT; lens[4]];
     w.record.resize(lens[0], 0);
     w.table.resize(lens[1], 0);

@@ -1,4 +1,5 @@
 use super::*;
+use crate::kind::KINDS;
 use crate::record::HEAD;
 use crate::table::{house, MAX_DEPTH};
 use crate::tree::ROOT;
@@ -8,8 +9,8 @@ use crate::written::{block_of, Written};
 const DEPTHS: std::ops::RangeInclusive<usize> = 1..=MAX_DEPTH as usize;
 
 /// A tree of the house table.
-fn written(depth: usize) -> Written {
-    Written::new(depth, &house(depth), &block_of(depth))
+fn written(kind: Kind, depth: usize) -> Written {
+    Written::new(kind, depth, &house(depth), &block_of(depth))
 }
 
 fn sample_of(w: &Written, depth: usize, number: usize) -> Vec<u8> {
@@ -43,7 +44,7 @@ fn members_stand_under_the_next_data_symbol() {
 #[test]
 fn samples_of_a_written_tree_pass() {
     for depth in DEPTHS {
-        let w = written(depth);
+        let w = written(KINDS[depth % 2], depth);
         for number in 0..symbols(depth - 1) {
             let sample = sample_of(&w, depth, number);
             assert_eq!(check(depth as u64, number as u64, &w.record, &sample), Ok(()));
@@ -62,7 +63,7 @@ fn breaks_in(layer: usize) -> Result<(), Stop> {
 #[test]
 fn a_damaged_sample_is_refused() {
     for depth in DEPTHS {
-        let w = written(depth);
+        let w = written(KINDS[1 - depth % 2], depth);
         let number = symbols(depth - 1) - 3;
         let sample = sample_of(&w, depth, number);
         let members = members(depth, number);
@@ -86,7 +87,7 @@ fn a_damaged_sample_is_refused() {
 /// in layer 0's symbol 1.
 #[test]
 fn first_broken_layer_going_up() {
-    let w = written(3);
+    let w = written(Kind::Placed, 3);
     let sample = sample_of(&w, 3, 61);
     let check_with = |bytes: &[(usize, usize)]| {
         let mut damaged = sample.clone();
@@ -112,7 +113,7 @@ fn first_broken_layer_going_up() {
 /// Of the root only the hashes of the sample's symbols in layer 0 count.
 #[test]
 fn a_damaged_root() {
-    let w = written(2);
+    let w = written(Kind::Placed, 2);
     let sample = sample_of(&w, 2, 31);
     for at in 0..ROOT {
         let mut damaged = w.record.clone();
@@ -123,9 +124,36 @@ fn a_damaged_root() {
     }
 }
 
+/// By a record of the other kind no hash fits, so that the base symbol is the first.
+#[test]
+fn samples_of_the_other_kind() {
+    for (depth, kind) in DEPTHS.flat_map(|depth| KINDS.map(|kind| (depth, kind))) {
+        let mut w = written(kind, depth);
+        let sample = sample_of(&w, depth, 3);
+        w.put(record::Head { kind: kind.other(), ..w.head() });
+        assert_eq!(check(depth as u64, 3, &w.record, &sample), breaks_in(depth - 1));
+    }
+}
+
+/// Of blank pages the sample of one passes for any other in a plain volume. In one with places it
+/// passes only for those that have equal pages above.
+#[test]
+fn samples_of_blank_pages() {
+    for (depth, kind) in (2..=4).flat_map(|depth| KINDS.map(|kind| (depth, kind))) {
+        let w = Written::new(kind, depth, &house(depth), &[]);
+        let sample = sample_of(&w, depth, 5);
+        for number in 0..symbols(depth - 1) {
+            let passes = sample == sample_of(&w, depth, number);
+            assert!(passes || kind == Kind::Placed);
+            let result = check(depth as u64, number as u64, &w.record, &sample);
+            assert_eq!(result.is_ok(), passes, "{kind:?}, depth {depth}, {number}");
+        }
+    }
+}
+
 #[test]
 fn tests_of_the_sampler_in_their_order() {
-    let w = written(2);
+    let w = written(Kind::Placed, 2);
     let mut sample = vec![9; sample_len(2)];
     let mut take_of =
         |depth, number, marks: &[u8]| take(depth, number, &w.tree, marks, &mut sample);
@@ -147,7 +175,7 @@ fn tests_of_the_sampler_in_their_order() {
 
 #[test]
 fn tests_of_the_check_in_their_order() {
-    let w = written(2);
+    let w = written(Kind::Placed, 2);
     let mut sample = sample_of(&w, 2, 31);
     sample[0] ^= 1;
     assert_eq!(check(2, 31, &w.record, &sample), breaks_in(1));

@@ -1,13 +1,18 @@
 use super::*;
+use crate::kind::KINDS;
+use crate::sha256::sha256;
 use crate::table::{house, house_equation, to_bytes, write as write_table, MAX_DEPTH};
 use crate::written::{block_of, cases_block, without, Written};
+use std::collections::BTreeSet;
 
 /// Case 3.
 #[test]
 fn symbols_of_the_cases_tree() {
-    let w = Written::new(1, &house(1), &cases_block());
-    for (symbol, byte) in [(5, 0x05), (7, 0x00), (9, 0x0f)] {
-        assert_eq!(symbol_at(&w.tree, symbol), [byte; SYMBOL]);
+    for kind in KINDS {
+        let w = Written::new(kind, 1, &house(1), &cases_block());
+        for (symbol, byte) in [(5, 0x05), (7, 0x00), (9, 0x0f)] {
+            assert_eq!(symbol_at(&w.tree, symbol), [byte; SYMBOL]);
+        }
     }
 }
 
@@ -16,8 +21,11 @@ fn symbols_of_the_cases_tree() {
 fn depths() {
     for depth in [0, 10, 1 << 32 | 1, 1 << 32 | 9, u64::MAX] {
         let mut w = Written::lent(1, &house(1));
-        let stop = write(depth, &w.table, &cases_block(), &mut w.tree, &mut w.marks, &mut w.record);
-        assert_eq!(stop, Err(Stop::Depth));
+        let Written { table, tree, marks, record, .. } = &mut w;
+        for kind in [0, 1, 2] {
+            let stop = write(depth, kind, table, &cases_block(), tree, marks, record);
+            assert_eq!(stop, Err(Stop::Depth));
+        }
         assert_eq!(read_block(depth, &[], &w.tree, &w.marks, &mut [0; 3]), Err(Stop::Depth));
     }
     assert_eq!([tree_symbols(5), tree_symbols(9)], [496, 8176]);
@@ -29,9 +37,27 @@ fn depths() {
 fn place_of_a_hash() {
     assert_eq!(committed(1, 31), Committed::Above { symbol: 3, at: 224 });
     assert_eq!(committed(0, 15), Committed::Root { at: 480 });
-    let w = Written::new(2, &house(2), &block_of(2));
-    let hash = sha256(symbol_at(&w.tree, place(1, 31)));
-    assert_eq!(symbol_at(&w.tree, 3)[224..], hash);
+    let hash_at = |kind| {
+        let w = Written::new(kind, 2, &house(2), &block_of(2));
+        let (symbol, above) = (symbol_at(&w.tree, place(1, 31)), symbol_at(&w.tree, 3));
+        (symbol.to_vec(), above[224..].to_vec())
+    };
+    let (symbol, hash) = hash_at(Kind::Plain);
+    assert_eq!(hash, sha256(&symbol));
+    // The base is coded as before; its layer is 1, its number 31, and its place 47.
+    let (placed_symbol, placed_hash) = hash_at(Kind::Placed);
+    assert_eq!(placed_symbol, symbol);
+    assert_eq!(placed_hash, sha256(&[&[0x41, 0, 0, 31], &symbol[..]].concat()));
+}
+
+/// Blank pages have one hash in a plain volume, and in one with places each another.
+#[test]
+fn hashes_of_blank_pages() {
+    for (kind, different) in [(Kind::Plain, 1), (Kind::Placed, 16)] {
+        let w = Written::new(kind, 1, &house(1), &[]);
+        let hashes: BTreeSet<&[u8]> = w.root().chunks(HASH).collect();
+        assert_eq!(hashes.len(), different);
+    }
 }
 
 /// Every equation holds, every hash stands in its place, and the block comes
@@ -40,8 +66,8 @@ fn place_of_a_hash() {
 fn written_trees_are_correctly_coded() {
     for depth in 1..=MAX_DEPTH as usize {
         let words = house(depth);
-        let block = block_of(depth);
-        let w = Written::new(depth, &words, &block);
+        let (block, kind) = (block_of(depth), KINDS[depth % 2]);
+        let w = Written::new(kind, depth, &words, &block);
         for (layer, equations) in w.equations().iter().enumerate() {
             for members in equations {
                 for byte in 0..SYMBOL {
@@ -52,7 +78,7 @@ fn written_trees_are_correctly_coded() {
                 }
             }
             for symbol in 0..symbols(layer) {
-                let hash = sha256(symbol_at(&w.tree, place(layer, symbol)));
+                let hash = kind.hash(layer, symbol, symbol_at(&w.tree, place(layer, symbol)));
                 assert_eq!(hash, committed_hash(w.root(), &w.tree, layer, symbol));
             }
         }
@@ -63,11 +89,11 @@ fn written_trees_are_correctly_coded() {
     }
 }
 
-/// The SHA-256 of the root of each depth with the house table, by Python's
+/// The SHA-256 of the root of each depth with the house table, plain and with places, by Python's
 /// hashlib.
 #[test]
 fn roots_by_another_implementation() {
-    let expected = [
+    let plain = [
         "4f044b39f38e51aff4cb1f79aaf46753d9f8689c2e6be1fa0071a1f33f2d5a23",
         "88f5d1b10b77f9da6a5a704f5e463fc71a89f45c17893af049c5a998bde768ac",
         "de16359339f52c0279d13e0859a67b66636d6a1075f851d6b834cd5cfeaf1df0",
@@ -78,11 +104,25 @@ fn roots_by_another_implementation() {
         "35cc1fa7f9a52ced4c52fe8044c32bfbc2e182708a0bfe6789681a3b9c1bd93d",
         "9c33f0f2a594ea7938701d1a140d74aa464f8ee4e1395c93e8fd68b7c61cd149",
     ];
-    assert_eq!(expected.len() as u64, MAX_DEPTH);
-    for (depth, expected) in (1..).zip(expected) {
-        let w = Written::new(depth, &house(depth), &block_of(depth));
-        let digest: String = sha256(w.root()).iter().map(|byte| format!("{byte:02x}")).collect();
-        assert_eq!(digest, expected);
+    let placed = [
+        "f1e9999be915f6fe145b0c8a700cbac00776bfc5b7a69a97d0cd5a0584191bd9",
+        "8c7c927224b2adc94480a3de82b3898aaee5ba04b9d46630cb5e15dc2167e0a2",
+        "aac24e35e9cb22285d36259a0c20a78c9c88e24db8aab92d9aa7d022b12f65f1",
+        "208e3067a586ae03851e980c5a1ae138c26a022396d62d86950a0fb3b8bebeef",
+        "cedd08006d0da0a098e7fae37b5fad87e886fdbf2b6caa622e12b21c12b5657a",
+        "d4d35552196074991a4d21d37634c19de958a31ae07554e2a271b27612ff06ef",
+        "2c9096bfbf7e1c296d1f3b3af75a6cc03ecde7b128b6b892de678ed341e17040",
+        "5ae299539d03e08938a98be63a388d0b66a96043691f294468fff605fd9b8e0e",
+        "bd97312b9173d42d7c6d7ea5286aa40c3ae8d399be4850c1d79e384f6d023ddb",
+    ];
+    for (kind, expected) in [(Kind::Plain, plain), (Kind::Placed, placed)] {
+        assert_eq!(expected.len() as u64, MAX_DEPTH);
+        for (depth, expected) in (1..).zip(expected) {
+            let w = Written::new(kind, depth, &house(depth), &block_of(depth));
+            let digest: String =
+                sha256(w.root()).iter().map(|byte| format!("{byte:02x}")).collect();
+            assert_eq!(digest, expected, "{kind:?}, depth {depth}");
+        }
     }
 }
 
@@ -91,20 +131,21 @@ fn roots_by_another_implementation() {
 fn the_table_decides_the_parity() {
     let mut layers = vec![(0..12).map(|e| house_equation(4, e)).collect::<Vec<_>>()];
     layers[0][0] = vec![2, 4];
-    let w = Written::new(1, &write_table(&layers), &cases_block());
+    let w = Written::new(Kind::Placed, 1, &write_table(&layers), &cases_block());
     assert_eq!(symbol_at(&w.tree, 4), [4; SYMBOL]);
     assert_eq!(symbol_at(&w.tree, 5), [2; SYMBOL]);
 }
 
-/// What the writer stops with for these lengths of table, block, tree, marks
+/// What the writer stops with for this kind and these lengths of table, block, tree, marks
 /// and record at depth 1. A table of another length is no table.
-fn stop_of(depth: u64, lens: [usize; 5]) -> Option<Stop> {
+fn stop_of(depth: u64, kind: u64, lens: [usize; 5]) -> Option<Stop> {
     let mut table = to_bytes(&house(1));
     table.resize(lens[0], 0);
     let mut tree = vec![1; lens[2]];
     let mut marks = vec![2; lens[3]];
     let mut record = vec![3; lens[4]];
-    let result = write(depth, &table, &vec![0; lens[1]], &mut tree, &mut marks, &mut record);
+    let block = vec![0; lens[1]];
+    let result = write(depth, kind, &table, &block, &mut tree, &mut marks, &mut record);
     if result.is_err() {
         let kept = tree.iter().all(|&b| b == 1) && marks.iter().all(|&b| b == 2);
         assert!(kept && record.iter().all(|&b| b == 3));
@@ -116,19 +157,26 @@ fn stop_of(depth: u64, lens: [usize; 5]) -> Option<Stop> {
 fn tests_of_the_writer_in_their_order() {
     let right = [244, 1024, 4096, 16, 556];
     for block in [0, 1, 255, 256, 257, 1023, 1024] {
-        assert_eq!(stop_of(1, [244, block, 4096, 16, 556]), None);
+        assert_eq!(stop_of(1, 1, [244, block, 4096, 16, 556]), None);
+        assert_eq!(stop_of(1, 0, [244, block, 4096, 16, 556]), None);
     }
     for buffer in 0..5 {
         let mut lens = right;
         lens[buffer] += 1;
-        assert_eq!(stop_of(1, lens), Some(Stop::Length));
-        assert_eq!(stop_of(10, lens), Some(Stop::Depth));
+        for kind in [0, 1, 2, 1 << 32] {
+            assert_eq!(stop_of(1, kind, lens), Some(Stop::Length));
+            assert_eq!(stop_of(10, kind, lens), Some(Stop::Depth));
+        }
         lens[0] = 248;
         let last = if buffer == 0 { Stop::Word(61) } else { Stop::Length };
-        assert_eq!(stop_of(1, lens), Some(last));
+        assert_eq!(stop_of(1, 0, lens), Some(last));
     }
-    assert_eq!(stop_of(1, [0, 1024, 4096, 16, 556]), Some(Stop::Word(0)));
-    assert_eq!(stop_of(1, [244, 1024, 4096, 16, 512]), Some(Stop::Length));
+    assert_eq!(stop_of(1, 1, [0, 1024, 4096, 16, 556]), Some(Stop::Word(0)));
+    assert_eq!(stop_of(1, 1, [244, 1024, 4096, 16, 512]), Some(Stop::Length));
+    for kind in [2, 3, 255, 256, 257, 1 << 32, 1 << 32 | 1, 1 << 63] {
+        assert_eq!(stop_of(1, kind, right), Some(Stop::WrongRecord));
+        assert_eq!(stop_of(1, kind, [0, 1024, 4096, 16, 556]), Some(Stop::WrongRecord));
+    }
 }
 
 /// A table that is not covered: the buffers stay as they are.
@@ -137,14 +185,17 @@ fn uncovered_tables_are_not_written_by() {
     let lent = Written::lent(2, &without(2, 1, 5));
     let mut w = lent.clone();
     let block = block_of(2);
-    let result = write(2, &w.table, &block, &mut w.tree, &mut w.marks, &mut w.record);
-    assert_eq!(result, Err(Stop::Uncovered { layer: 1, symbol: 5 }));
-    assert!(w.tree == lent.tree && w.marks == lent.marks && w.record == lent.record);
+    for (kind, stop) in [(0, Stop::Uncovered { layer: 1, symbol: 5 }), (2, Stop::WrongRecord)] {
+        let Written { table, tree, marks, record, .. } = &mut w;
+        let result = write(2, kind, table, &block, tree, marks, record);
+        assert_eq!(result, Err(stop));
+        assert!(w == lent);
+    }
 }
 
 #[test]
 fn tests_of_reading_back_in_their_order() {
-    let w = Written::new(2, &house(2), &block_of(2));
+    let w = Written::new(Kind::Placed, 2, &house(2), &block_of(2));
     let mut block = vec![7; block_len(2)];
     let mut read = |marks: &[u8]| read_block(2, &w.record, &w.tree, marks, &mut block);
     let mut marks = w.marks.clone();
@@ -177,13 +228,14 @@ fn blocks_are_filled_up_with_zeros() {
     for depth in 1..=5 {
         for length in lengths(depth) {
             let block = &block_of(depth)[..length];
-            let w = Written::new(depth, &house(depth), block);
-            let full = Written::new(depth, &house(depth), &filled(depth, block));
+            let kind = KINDS[length % 2];
+            let w = Written::new(kind, depth, &house(depth), block);
+            let full = Written::new(kind, depth, &house(depth), &filled(depth, block));
             assert!(w.tree == full.tree && w.marks == full.marks && w.root() == full.root());
             assert_eq!(base_data(depth, &w.tree)[..length], *block);
             assert!(base_data(depth, &w.tree)[length..].iter().all(|&byte| byte == 0));
             assert_eq!(w.head(), Head { length, ..full.head() });
-            assert_eq!(w.head(), Head::of(depth, length, &w.table));
+            assert_eq!(w.head(), Head::of(kind, depth, length, &w.table));
         }
     }
 }
@@ -192,9 +244,10 @@ fn blocks_are_filled_up_with_zeros() {
 #[test]
 fn as_many_bytes_as_the_record_says() {
     for depth in 1..=5 {
-        let mut w = Written::new(depth, &house(depth), &block_of(depth));
+        let mut w = Written::new(Kind::Plain, depth, &house(depth), &block_of(depth));
         for length in lengths(depth) {
-            w.put(Head { length, words: 9, hash: [9; HASH], ..w.head() });
+            let kind = KINDS[length % 2];
+            w.put(Head { kind, length, words: 9, hash: [9; HASH], ..w.head() });
             let mut block = vec![0xdd; block_len(depth)];
             read_block(depth as u64, &w.record, &w.tree, &w.marks, &mut block).unwrap();
             assert_eq!(block[..length], block_of(depth)[..length]);
