@@ -6,6 +6,7 @@ use crate::comparisons::Comparisons;
 use crate::difference::Compared;
 use crate::input::Input;
 use crate::random::Random;
+use crate::records;
 use crate::results::values;
 use cedunmi_sys::{Lent, Word};
 use reference::stop::Stop;
@@ -120,6 +121,13 @@ pub struct Buffer {
 }
 
 impl Call {
+    /// Whether an outcome comes by calls of each kind of volume: not where the call knows of none,
+    /// or is stopped since it is told none.
+    pub fn comes_by_kinds(&self, outcome: &str) -> bool {
+        let told = self.numbers().any(|name| name == "kind");
+        records::is_lent(self) || told && outcome != "11"
+    }
+
     /// The sorts of all tests and sizes.
     pub fn sorts(&self) -> impl Iterator<Item = String> + '_ {
         self.sorts_at(self.sizes)

@@ -11,6 +11,7 @@ use crate::random::Random;
 use crate::results::{number, outcome, same};
 use crate::stops::{BEYOND, DEEP};
 use crate::volumes::some_depth;
+use reference::kind::{Kind, KINDS};
 use reference::stop::Stop;
 use reference::tree::SYMBOL;
 
@@ -67,7 +68,7 @@ pub fn compare(call: &'static Call, library: &Library) -> Result<Met, Failure> {
 }
 
 /// Makes every comparison of a call at the sizes of a part. At each size each number and
-/// each end must come.
+/// each end must come, and of each kind of volume.
 pub fn compare_part(call: &'static Call, library: &Library, part: Part) -> Result<Met, Failure> {
     let mut comparisons = Comparisons::of(call, library, Random::new(SEED));
     comparisons.part = part;
@@ -90,6 +91,8 @@ pub fn compare_part(call: &'static Call, library: &Library, part: Part) -> Resul
     for (outcome, &size) in each.iter().flat_map(|outcome| sizes.iter().map(move |s| (outcome, s)))
     {
         met.at_sizes.demand(&at_size(outcome, size), LEAST_AT_A_SIZE);
+        let kinds = KINDS.into_iter().filter(|_| call.comes_by_kinds(outcome));
+        kinds.for_each(|kind| met.at_sizes.demand(&of_kind(outcome, size, kind), 1));
     }
     if part == Part::Shallow {
         each.iter().for_each(|outcome| met.outcomes.demand(outcome, LEAST));
@@ -105,6 +108,11 @@ pub fn compare_part(call: &'static Call, library: &Library, part: Part) -> Resul
 /// An outcome at a size.
 fn at_size(outcome: &str, size: usize) -> String {
     format!("{outcome} at size {size}")
+}
+
+/// An outcome at a size, of a kind of volume.
+fn of_kind(outcome: &str, size: usize, kind: Kind) -> String {
+    format!("{} of {kind:?} volumes", at_size(outcome, size))
 }
 
 /// Numbers that are `low` only where bits are lost.
@@ -172,9 +180,22 @@ impl Comparisons {
         self.sizes()
     }
 
+    /// A good call of each size and kind, for the same.
+    fn each_size(&mut self) -> Compared {
+        for &size in self.sizes {
+            for good in self.of_each_kind(size) {
+                self.make_done("a size", &good)?;
+            }
+        }
+        Ok(())
+    }
+
     fn described(&mut self) -> Compared {
         for &size in self.sizes {
             self.causes(size)?;
+            if size == self.sizes[0] && !self.is_deep() {
+                self.each_size()?;
+            }
             for own in self.call.tests.iter().flat_map(|test| test.own) {
                 own(self, size)?;
             }
@@ -187,28 +208,52 @@ impl Comparisons {
         self.alignments()
     }
 
-    /// Every set of tests failed, or, at a deep size, none, one or two.
+    /// None and one test failed, of each kind of volume; then every set of tests, or, at a deep
+    /// size, each two.
     fn causes(&mut self, size: usize) -> Compared {
-        let tests = self.call.tests;
-        let sets = 1 << tests.len();
-        let mut good = self.good(size);
-        let deep = self.is_deep();
-        let turns = if deep { sets } else { SETS.min(64 * sets).max(sets) };
-        for turn in (0..turns).filter(|turn: &usize| !deep || turn.count_ones() <= 2) {
-            if turn % 64 == 0 && (turn == 0 || !deep) {
+        let tests = self.call.tests.len();
+        for good in self.of_each_kind(size) {
+            self.make_done("nothing is wrong", &good)?;
+            for test in 0..tests {
+                self.failing(&good, 1 << test)?;
+            }
+        }
+        let (sets, mut good) = (1 << tests, self.good(size));
+        if self.is_deep() {
+            let mut two = (1..sets).filter(|set: &usize| set.count_ones() == 2);
+            return two.try_for_each(|set| self.failing(&good, set));
+        }
+        for turn in 1..SETS.min(64 * sets).max(sets) {
+            if turn % 64 == 0 {
                 good = self.good(size);
                 self.make_done("nothing is wrong", &good)?;
             }
-            let mut input = good.clone();
-            let failed = |t: usize| turn >> t & 1 == 1;
-            for (_, test) in tests.iter().enumerate().rev().filter(|&(t, _)| failed(t)) {
-                (test.spoil)(&mut input, &mut self.random);
-            }
             if turn % sets > 0 {
-                self.make("several causes", &input)?;
+                self.failing(&good, turn % sets)?;
             }
         }
         Ok(())
+    }
+
+    /// A good call in which a set of tests is failed.
+    fn failing(&mut self, good: &Input, set: usize) -> Compared {
+        let mut input = good.clone();
+        let tests = self.call.tests.iter().enumerate().rev();
+        for (_, test) in tests.filter(|&(t, _)| set >> t & 1 == 1) {
+            (test.spoil)(&mut input, &mut self.random);
+        }
+        self.make("several causes", &input).map(|_| ())
+    }
+
+    /// A good call, and where there are kinds of it one of each.
+    pub fn of_each_kind(&mut self, size: usize) -> Vec<Input> {
+        let first = self.good(size);
+        let mut goods = vec![first];
+        while let Some(other) = goods[0].kind().map(Kind::other).filter(|_| goods.len() == 1) {
+            let good = self.good(size);
+            goods.extend(Some(good).filter(|good| good.kind() == Some(other)));
+        }
+        goods
     }
 
     /// Buffers for one size, also for those beside all, asked for each size, and
@@ -315,6 +360,8 @@ impl Comparisons {
         self.met.outcomes.count(&outcome(result));
         if let Some(size) = input.size() {
             self.met.at_sizes.count(&at_size(&outcome(result), size));
+            let kind = input.kind().map(|kind| of_kind(&outcome(result), size, kind));
+            kind.into_iter().for_each(|of_kind| self.met.at_sizes.count(&of_kind));
         }
         if let Some(sort) = self.call.sort(input, result) {
             self.met.sorts.count(&sort);

@@ -2,6 +2,7 @@
 
 use crate::call::{Call, Length};
 use crate::records;
+use reference::kind::Kind;
 use reference::record::Head;
 use reference::table::{house, to_bytes};
 use std::ops::{Index, IndexMut};
@@ -54,6 +55,17 @@ impl Input {
         self.call.sizes.contains(&size).then_some(size)
     }
 
+    /// The kind of volume that the call is told, or that its record says, if it has one.
+    pub fn kind(&self) -> Option<Kind> {
+        if self.call.numbers().any(|name| name == "kind") {
+            Kind::told(self.number("kind")).ok()
+        } else if records::is_lent(self.call) {
+            records::kind(self)
+        } else {
+            None
+        }
+    }
+
     /// Whether the buffers of these indices have right lengths.
     pub fn lengths_fit(&self, asked: impl Fn(usize) -> bool) -> bool {
         let mut all = self.call.buffers().zip(&self.buffers).enumerate();
@@ -81,7 +93,8 @@ impl Input {
             }
         }
         if records::is_lent(self.call) {
-            records::put_head(self, &Head::of(size, 0, &to_bytes(&house(size))));
+            let kind = records::kind(self).unwrap_or(Kind::Plain);
+            records::put_head(self, &Head::of(kind, size, 0, &to_bytes(&house(size))));
         }
     }
 

@@ -19,6 +19,7 @@ mod mutants;
 mod programs;
 pub mod proofs;
 pub mod random;
+pub mod recodings;
 pub mod records;
 pub mod repairs;
 pub mod results;
@@ -41,4 +42,5 @@ pub static CALLS: &[&call::Call] = &[
     &samples::checking::SAMPLE_CHECK,
     &proofs::PROOF_CHECK,
     &repairs::REPAIR,
+    &recodings::RECODE,
 ];

@@ -48,19 +48,22 @@ fn places(depth: usize) -> Vec<usize> {
 
 /// Each place alone with a mark that is none, and several beside random marks.
 fn bad_marks(c: &mut Comparisons, size: usize) -> Compared {
-    let mut input = c.good(size);
-    for place in places(size) {
+    let mut goods = c.of_each_kind(size);
+    let kinds = goods.len();
+    for (turn, place) in places(size).into_iter().enumerate() {
+        let input = &mut goods[turn % kinds];
         let mark = 2 + (place % BAD_MARKS) as u8;
         let before = std::mem::replace(&mut input["marks"][place], mark);
-        c.make("one bad mark", &input)?;
+        c.make("one bad mark", input)?;
         input["marks"][place] = before;
     }
     for turn in 0..turns(size, 200) {
+        let input = &mut goods[turn % kinds];
         input["marks"].fill_with(|| c.random.below(2) as u8);
         for _ in 0..1 + turn % 4 {
             spoil_mark(&mut input["marks"], &mut c.random);
         }
-        c.make("some bad marks", &input)?;
+        c.make("some bad marks", input)?;
     }
     Ok(())
 }

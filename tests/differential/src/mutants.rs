@@ -1,8 +1,9 @@
 //! Functions that are wrong in one way each. The comparison must find every one
 //! of them, in the place where it is wrong. `described` has those that come from
-//! the descriptions; a call's own are in its module.
+//! the descriptions, `hashes` the hashes of symbols; a call's own are in its module.
 
 pub mod described;
+pub mod hashes;
 
 use crate::call::{Ask, Call, Test};
 use crate::comparisons::{compare, compare_part, Part};

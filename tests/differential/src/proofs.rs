@@ -17,20 +17,18 @@ use crate::input::Input;
 use crate::random::Random;
 use crate::records::heads::RECORD;
 use crate::records::named::NAMED;
-use crate::records::{root, RECORD_LEN};
+use crate::records::{kind, root, RECORD_LEN};
 use crate::results::number;
 use crate::stops::{DEEP, DEPTH, DEPTHS, LENGTHS};
 use crate::tables::cover::COVER;
-use crate::tables::{TABLE_LEN, WORDS};
+use crate::tables::{equations, TABLE_LEN, WORDS};
 use crate::volumes::{equation_of, Volume};
+use reference::kind::Kind;
 use reference::proof::{self, hash_for, proof_len, Head, HEAD};
 use reference::record;
-use reference::sha256::sha256;
 use reference::stop::Stop;
-use reference::table::{self, to_words, Layers, END, EQUATION, LAYER};
-use reference::tree::{exactly, exclusive_or, symbol_at, SYMBOL};
-use std::cell::RefCell;
-use std::rc::Rc;
+use reference::table::{self, END, EQUATION, LAYER};
+use reference::tree::{block_len, exactly, exclusive_or, symbol_at, SYMBOL};
 
 pub static PROOF_CHECK: Call = Call {
     name: "proof_check",
@@ -58,6 +56,7 @@ pub static PROOF_CHECK: Call = Call {
         breaks::damaged_pairs,
         breaks::damaged_sets,
         breaks::damaged_roots,
+        shown::other_kinds,
         shown::committed_otherwise,
         damaged::bytes,
         damaged::root_bytes,
@@ -89,6 +88,7 @@ pub static PROOF_CHECK: Call = Call {
         ("two symbols damaged", 1600),
         ("some symbols damaged", 700),
         ("a hash of the root", 1400),
+        ("a record of the other kind", 200),
     ],
     least_deep: &[
         ("end 0", 500),
@@ -106,6 +106,7 @@ pub static PROOF_CHECK: Call = Call {
         ("two symbols damaged", 100),
         ("some symbols damaged", 30),
         ("a hash of the root", 64),
+        ("a record of the other kind", 8),
         ("the longest proof", 12),
         ("the longest proof of a right tree", 12),
     ],
@@ -115,7 +116,7 @@ pub static PROOF_CHECK: Call = Call {
 /// What the head names. Without a table, its kinds alone can be asked.
 const HEADS: Test = Test {
     number: 6,
-    ask: |i| match (table(i), i["proof"].get(..HEAD)) {
+    ask: |i| match (equations(i), i["proof"].get(..HEAD)) {
         (Some(table), Some(head)) => Head::read(&table, head).map(|_| ()),
         (None, Some(head)) if [0, 4, 8].map(|at| head[at] >> 6) != [1, 2, 3] => Err(Stop::Head),
         _ => Ok(()),
@@ -143,11 +144,13 @@ const BODIES: Test = Test {
 /// Every hash leads to the root.
 const HASHES: Test = Test {
     number: 7,
-    ask: |i| match (table(i), cut(i)) {
-        (Some(table), Some((cut, ..))) => match proof::judge(&table, root(&cut), &cut["proof"]) {
-            Err(Stop::NoFault) => Ok(()),
-            judged => judged,
-        },
+    ask: |i| match (equations(i), cut(i)) {
+        (Some(table), Some(Cut { input, kind, .. })) => {
+            match proof::judge(kind, &table, root(&input), &input["proof"]) {
+                Err(Stop::NoFault) => Ok(()),
+                judged => judged,
+            }
+        }
         _ => Ok(()),
     },
     spoil: |i, random| {
@@ -162,45 +165,23 @@ const HASHES: Test = Test {
 const FAULT: Test = Test {
     number: 8,
     ask: |i| match cut(i) {
-        Some((i, head, members)) if fits(&i, head, members) => Err(Stop::NoFault),
+        Some(cut) if fits(&cut) => Err(Stop::NoFault),
         _ => Ok(()),
     },
     spoil: |i, random| {
         let (head, _) = named(i).expect("a head");
-        let words = table::write(&table(i).expect("a table"));
-        let sound = Volume::new(i.number("depth") as usize, &words, random);
+        let words = table::write(&equations(i).expect("a table"));
+        let (depth, kind) = (i.number("depth") as usize, kind(i).expect("a kind"));
+        let sound = Volume::of(kind, depth, &words, &random.bytes(block_len(depth)));
         *i = of(&sound, sound.proof(head));
     },
     ..TEST
 };
 
-/// The equations of the table, where it keeps 01's rules, covered or not.
-fn table(input: &Input) -> Option<Rc<Layers>> {
-    let (size, table) = (input.size()?, &input["table"]);
-    LISTED.with(|listed| {
-        let mut listed = listed.borrow_mut();
-        if listed.size != size || listed.table != *table {
-            let layers = table::listed(size as u64, &to_words(table)).ok().map(Rc::new);
-            *listed = Listed { size, table: table.clone(), layers };
-        }
-        listed.layers.clone()
-    })
-}
-
-/// The table whose equations were asked for last: all tests of a call ask for them.
-#[derive(Default)]
-struct Listed {
-    size: usize,
-    table: Vec<u8>,
-    layers: Option<Rc<Layers>>,
-}
-
-thread_local!(static LISTED: RefCell<Listed> = RefCell::default());
-
 /// The head and the number of members of its equation, where its values are in
 /// form, whatever its kinds.
 fn named(input: &Input) -> Option<(Head, usize)> {
-    let table = table(input)?;
+    let table = equations(input)?;
     let mut bytes = input["proof"].get(..HEAD)?.to_vec();
     for (at, kind) in [(0, LAYER), (4, EQUATION), (8, END)] {
         bytes[at] = bytes[at] & 0x3f | (kind << 6) as u8;
@@ -209,23 +190,33 @@ fn named(input: &Input) -> Option<(Head, usize)> {
     Some((head, table[head.layer][head.equation].len()))
 }
 
-/// The call with what is too long cut and the kinds of its head right, and what
-/// the head names, where that is in form and nothing is too short.
-fn cut(input: &Input) -> Option<(Input, Head, usize)> {
+/// A call with what is too long cut and the kinds of its head right, the kind of volume, and what
+/// the head names.
+struct Cut {
+    input: Input,
+    kind: Kind,
+    head: Head,
+    members: usize,
+}
+
+/// The same of a call, where its head is in form, its record says a kind and nothing is too short.
+fn cut(input: &Input) -> Option<Cut> {
+    let kind = kind(input)?;
     let (head, members) = named(input)?;
     let len = proof_len(head.layer, members);
     let mut cut = input.cut(|_| true);
     cut["proof"].truncate(len);
     cut["proof"].splice(..HEAD, head.bytes());
     let whole = cut["proof"].len() == len && cut["record"].len() == record::RECORD;
-    whole.then_some((cut, head, members))
+    whole.then_some(Cut { input: cut, kind, head, members })
 }
 
 /// Whether the exclusive-or of the given members has the withheld one's hash.
-fn fits(input: &Input, head: Head, members: usize) -> bool {
+fn fits(Cut { input, kind, head, members }: &Cut) -> bool {
     let (given, height, others) = (&input["proof"][HEAD..], head.layer + 1, members - 1);
     let sum = exclusive_or((0..others).map(|other| symbol_at(given, other * height)));
-    sha256(&sum) == hash_for(root(input), given, head.layer, head.withheld, others * height)
+    kind.hash(head.layer, head.withheld, &sum)
+        == hash_for(root(input), given, head.layer, head.withheld, others * height)
 }
 
 /// A proof for the record and the table of a tree.

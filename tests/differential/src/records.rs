@@ -8,6 +8,7 @@ mod mutants;
 
 use crate::call::{Call, Length};
 use crate::input::Input;
+use reference::kind::Kind;
 use reference::record::{self, Head, HEAD, RECORD};
 use reference::tree::HASH;
 
@@ -45,15 +46,22 @@ pub fn put_head(input: &mut Input, head: &Head) {
     input["record"].splice(..HEAD, head.bytes());
 }
 
-/// The hash of a head, and the values of its words, whatever their kinds. Nothing where the
-/// record is shorter than a head.
+/// The kind of volume that a call's record says, if it is one.
+pub fn kind(input: &Input) -> Option<Kind> {
+    let first = input["record"].first()?;
+    Kind::told(u64::from(first >> 6)).ok()
+}
+
+/// The hash of a head, and the values of its words, whatever their kinds: that of the volume is
+/// plain where the record says none. Nothing where the record is shorter than a head.
 pub fn head(input: &Input) -> Option<Head> {
     let bytes = input["record"].get(..HEAD)?;
     let mut hash = [0; HASH];
     hash.copy_from_slice(&bytes[HEAD - HASH..]);
     let [depth, length, words] =
         [DEPTH, LENGTH, COUNT].map(|index| (word(bytes, index) & LARGEST) as usize);
-    Some(Head { depth, length, words, hash })
+    let kind = kind(input).unwrap_or(Kind::Plain);
+    Some(Head { kind, depth, length, words, hash })
 }
 
 /// A word of a head.
@@ -75,14 +83,14 @@ pub fn put_value(input: &mut Input, index: usize, value: u32) {
 
 /// Makes the record name the call's table.
 pub fn name_table(input: &mut Input) {
-    let named = Head::of(0, 0, &input["table"]);
+    let named = Head::of(Kind::Plain, 0, 0, &input["table"]);
     put_value(input, COUNT, named.words as u32);
     input["record"][HEAD - HASH..HEAD].copy_from_slice(&named.hash);
 }
 
 /// Gives a call another table. Where its record named the one before, it names this one.
 pub fn put_table(input: &mut Input, table: Vec<u8>) {
-    let names = is_lent(input.call) && named::is_named(input);
+    let names = is_lent(input.call) && head(input).is_some() && named::is_named(input);
     input["table"] = table;
     if names {
         name_table(input);

@@ -3,6 +3,7 @@
 
 mod deep;
 mod filling;
+mod kinds;
 mod losses;
 mod miscoded;
 mod promises;
@@ -63,6 +64,11 @@ pub static REPAIR: Call = Call {
         deep::longest_proofs,
         deep::far_faults,
         deep::far_back,
+        kinds::other_kinds,
+        kinds::symbols_of_the_other_kind,
+        kinds::filed_elsewhere,
+        kinds::exchanged_hashes,
+        kinds::equal_pages,
         filling::one_byte,
         filling::more_bytes,
         filling::other_ends,
@@ -86,6 +92,13 @@ pub static REPAIR: Call = Call {
         ("end 1", 5000),
         ("end 2", 3000),
         ("end 13", 700),
+        ("a record of the other kind", 200),
+        ("a symbol of the other kind, stored 1", 80),
+        ("a symbol of the other kind, stored 0", 20),
+        ("a page at another place, stored 1", 50),
+        ("a page at another place, stored 0", 50),
+        ("exchanged, not noticed", 40),
+        ("exchanged, noticed", 40),
         ("layer 0", 500),
         ("layer 1", 300),
         ("layer 2", 150),
@@ -104,6 +117,9 @@ pub static REPAIR: Call = Call {
         ("end 1", 150),
         ("end 2", 40),
         ("end 13", 12),
+        ("a record of the other kind", 8),
+        ("exchanged, not noticed", 4),
+        ("exchanged, noticed", 4),
         ("layer 5", 4),
         ("layer 6", 4),
         ("layer 7", 4),

@@ -7,6 +7,9 @@ use reference::stop::Stop;
 /// The bits from which on the values of a stop stand, each below 2^24.
 const VALUES: [usize; 2] = [8, 32];
 
+/// The bits of a number below its layer, in the place of twins.
+const NUMBER: usize = 12;
+
 /// The number of a stop, or 0, in the lowest eight bits, and the values that go
 /// with it.
 pub fn number(result: Result<(), Stop>) -> u64 {
@@ -19,8 +22,8 @@ pub fn number(result: Result<(), Stop>) -> u64 {
 }
 
 /// The end of a repair above the lowest eight bits, and from bit 32 on the
-/// number of symbols stored, with the length of the proof, or the layer, from
-/// bit 48 on.
+/// number of symbols stored, with the length of the proof, or the layer, or the
+/// place of twins, from bit 48 on.
 pub fn repaired(result: Result<Repaired, Stop>) -> u64 {
     let Repaired { end, stored } = match result {
         Ok(repaired) => repaired,
@@ -30,7 +33,7 @@ pub fn repaired(result: Result<Repaired, Stop>) -> u64 {
         End::Whole => (0, 0),
         End::Fault(len) => (1, len),
         End::Unavailable(layer) => (2, layer),
-        End::Twins => (3, 0),
+        End::Twins(place) => (3, place.map_or(0, |(layer, number)| layer << NUMBER | number)),
         End::Misfilled => (13, 0),
     };
     end << 8 | (stored as u64) << 32 | (more as u64) << 48
@@ -43,7 +46,9 @@ pub fn ended(result: u64) -> Option<Repaired> {
         0x000 => End::Whole,
         0x100 => End::Fault(more),
         0x200 => End::Unavailable(more),
-        0x300 => End::Twins,
+        // The last member of an equation is never symbol 0.
+        0x300 if more == 0 => End::Twins(None),
+        0x300 => End::Twins(Some((more >> NUMBER, more & ((1 << NUMBER) - 1)))),
         0xd00 => End::Misfilled,
         _ => return None,
     };
@@ -90,6 +95,7 @@ mod tests {
         assert_eq!(number(Err(stop)), 7 + 256 * 3 + (7 << 32));
         assert_eq!(number(Err(Stop::WrongRecord)), 11);
         assert_eq!(number(Err(Stop::OtherTable)), 12);
+        assert_eq!(number(Err(Stop::NotWhole)), 14);
     }
 
     /// 13 is an end, with number 0.
@@ -99,7 +105,12 @@ mod tests {
             (End::Whole, 0),
             (End::Fault(780), 1 | 780 << 40),
             (End::Unavailable(8), 2 | 8 << 40),
-            (End::Twins, 3),
+            (End::Twins(None), 3),
+            (End::Twins(Some((0, 4))), 3 | 4 << 40),
+            (End::Twins(Some((0, 15))), 3 | 15 << 40),
+            (End::Twins(Some((1, 8))), 3 | 0x1008 << 40),
+            (End::Twins(Some((8, 1024))), 3 | 0x8400 << 40),
+            (End::Twins(Some((8, 4095))), 3 | 0x8fff << 40),
             (End::Misfilled, 13),
         ];
         for (end, result) in ends {

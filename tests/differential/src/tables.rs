@@ -26,7 +26,9 @@ use lists::{alterations, random_damage, random_table, some_table};
 use lists::{perhaps_uncovered, WORD_KINDS};
 use reference::stop::Stop;
 use reference::table::{self, check_words, house, layers_of, to_bytes, to_words};
-use reference::table::{LAYER, MAX_BYTES, MAX_DEPTH};
+use reference::table::{Layers, LAYER, MAX_BYTES, MAX_DEPTH};
+use std::cell::RefCell;
+use std::rc::Rc;
 
 pub static TABLE_CHECK: Call = Call {
     name: "table_check",
@@ -93,6 +95,29 @@ pub const WORDS: Test = Test {
     wrong: mutants::WRONG,
     ..TEST
 };
+
+/// The equations of a call's table, where it keeps 01's rules, covered or not.
+pub fn equations(input: &Input) -> Option<Rc<Layers>> {
+    let (size, table) = (input.size()?, &input["table"]);
+    LISTED.with(|listed| {
+        let mut listed = listed.borrow_mut();
+        if listed.size != size || listed.table != *table {
+            let layers = table::listed(size as u64, &to_words(table)).ok().map(Rc::new);
+            *listed = Listed { size, table: table.clone(), layers };
+        }
+        listed.layers.clone()
+    })
+}
+
+/// The table whose equations were asked for last: all tests of a call ask for them.
+#[derive(Default)]
+struct Listed {
+    size: usize,
+    table: Vec<u8>,
+    layers: Option<Rc<Layers>>,
+}
+
+thread_local!(static LISTED: RefCell<Listed> = RefCell::default());
 
 pub fn house_len(depth: usize) -> usize {
     4 * house(depth).len()

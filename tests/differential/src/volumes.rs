@@ -1,22 +1,28 @@
-//! Coded trees with their tables, covered or not: such as are correctly coded, and
-//! such as are not though their hashes fit.
+//! Coded trees of both kinds with their tables, covered or not: such as are correctly coded,
+//! and such as are not though their hashes fit.
 
 use crate::random::Random;
 use crate::tables::lists::some_table;
+use reference::kind::{Kind, KINDS};
 use reference::proof::{self, Head};
 use reference::record;
-use reference::sha256::sha256;
 use reference::table::{self, data_symbols, to_bytes, Layers};
 use reference::tree::{block_len, code_tree, committed, filled, place, symbol_at, symbols};
 use reference::tree::{Committed, Symbol, HASH, SYMBOL};
 
 #[derive(Clone)]
 pub struct Volume {
+    pub kind: Kind,
     pub depth: usize,
     pub table: Vec<u8>,
     pub equations: Layers,
     pub tree: Vec<u8>,
     pub record: Vec<u8>,
+}
+
+/// One of the two kinds.
+pub fn some_kind(random: &mut Random) -> Kind {
+    KINDS[random.below(KINDS.len())]
 }
 
 /// A depth, the smaller ones more often.
@@ -55,6 +61,15 @@ pub fn some_length(depth: usize, random: &mut Random) -> usize {
     }
 }
 
+/// So many bytes: random ones, or, one time in eight, equal pages, blank or not.
+fn some_block(length: usize, random: &mut Random) -> Vec<u8> {
+    match random.below(16) {
+        0 => vec![0; length],
+        1 => random.bytes(SYMBOL).into_iter().cycle().take(length).collect(),
+        _ => random.bytes(length),
+    }
+}
+
 const LENGTHS: usize = 7;
 
 /// The bytes of blocks of a depth: none, beside the ends of a symbol, and the most.
@@ -63,37 +78,63 @@ pub fn lengths(depth: usize) -> [usize; LENGTHS] {
 }
 
 impl Volume {
-    /// The correctly coded tree of a random block.
+    /// The correctly coded tree of a random block, of either kind.
     pub fn new(depth: usize, words: &[u32], random: &mut Random) -> Volume {
         Volume::miscoded(depth, words, &[], random)
     }
 
     /// The tree of a random block, in which these symbols, each by its layer
-    /// and its number, were replaced before they were hashed.
+    /// and its number, were replaced before they were hashed: by others, or by one bit.
     pub fn miscoded(
         depth: usize,
         words: &[u32],
         replaced: &[(usize, usize)],
         random: &mut Random,
     ) -> Volume {
+        Volume::miscoded_of(some_kind(random), depth, words, replaced, random)
+    }
+
+    /// The same of a kind.
+    pub fn miscoded_of(
+        kind: Kind,
+        depth: usize,
+        words: &[u32],
+        replaced: &[(usize, usize)],
+        random: &mut Random,
+    ) -> Volume {
         let length = some_length(depth, random);
-        let block = filled(depth, &random.bytes(length));
-        Volume::of_block(depth, words, &block, length, |layer, symbols| {
+        let block = filled(depth, &some_block(length, random));
+        Volume::of_block(kind, depth, words, &block, length, |layer, symbols| {
             for &(_, symbol) in replaced.iter().filter(|replaced| replaced.0 == layer) {
-                symbols[symbol].copy_from_slice(&random.bytes(SYMBOL));
+                match random.below(2) {
+                    0 => symbols[symbol].copy_from_slice(&random.bytes(SYMBOL)),
+                    _ => symbols[symbol][random.below(SYMBOL)] ^= 1 << random.below(8),
+                }
             }
         })
     }
 
     /// The correctly coded tree of a random block that is filled up with these bytes.
-    pub fn filled_with(depth: usize, words: &[u32], filling: &[u8], random: &mut Random) -> Volume {
+    pub fn filled_with(
+        kind: Kind,
+        depth: usize,
+        words: &[u32],
+        filling: &[u8],
+        random: &mut Random,
+    ) -> Volume {
         let length = block_len(depth) - filling.len();
         let block = [&random.bytes(length), filling].concat();
-        Volume::of_block(depth, words, &block, length, |_, _| ())
+        Volume::of_block(kind, depth, words, &block, length, |_, _| ())
+    }
+
+    /// The correctly coded tree of a block.
+    pub fn of(kind: Kind, depth: usize, words: &[u32], block: &[u8]) -> Volume {
+        Volume::of_block(kind, depth, words, &filled(depth, block), block.len(), |_, _| ())
     }
 
     /// The tree of a block that is filled up, whose record says that it has so many bytes.
     fn of_block(
+        kind: Kind,
         depth: usize,
         words: &[u32],
         block: &[u8],
@@ -102,9 +143,9 @@ impl Volume {
     ) -> Volume {
         let table = to_bytes(words);
         let equations = table::listed(depth as u64, words).expect("a table");
-        let (tree, root) = code_tree(&equations, block, alter);
-        let record = record::Head::of(depth, length, &table).before(&root);
-        Volume { depth, table, equations, tree, record }
+        let (tree, root) = code_tree(kind, &equations, block, alter);
+        let record = record::Head::of(kind, depth, length, &table).before(&root);
+        Volume { kind, depth, table, equations, tree, record }
     }
 
     /// A tree of a random table in which one parity symbol of a layer was
@@ -160,7 +201,8 @@ impl Volume {
 
     /// Makes the hash of a symbol fit, and every hash above.
     fn rehash(&mut self, layer: usize, symbol: usize) {
-        let hash = sha256(symbol_at(&self.tree, place(layer, symbol)));
+        let bytes = symbol_at(&self.tree, place(layer, symbol));
+        let hash = self.kind.hash(layer, symbol, bytes);
         match committed(layer, symbol) {
             Committed::Root { at } => self.root_mut()[at..at + HASH].copy_from_slice(&hash),
             Committed::Above { symbol: above, at } => {

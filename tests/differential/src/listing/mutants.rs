@@ -3,6 +3,7 @@
 
 use super::{compare, listing, List, BLOCK};
 use crate::difference::{Difference, Failure};
+use reference::kind::Kind;
 use reference::table::{equations, house, to_bytes};
 use reference::tree::{code_tree, symbol_at};
 
@@ -19,7 +20,7 @@ fn listed(input: &[u8], words: &[u32], line: impl Fn(usize, &[u8]) -> String) ->
         return Vec::new();
     }
     let equations = equations(1, &to_bytes(words)).expect("a table");
-    let (tree, _) = code_tree(&equations, input, |_, _| ());
+    let (tree, _) = code_tree(Kind::Plain, &equations, input, |_, _| ());
     let lines: String = (0..16).map(|number| line(number, symbol_at(&tree, number))).collect();
     [HEADER, &lines].concat().into_bytes()
 }

@@ -1,15 +1,17 @@
 //! Proofs in form: of miscoded trees, which show a fault, and of correctly
 //! coded ones, which do not.
 
-use super::{make_for_right_tree, of};
+use super::{make_for_right_tree, of, of_fault};
 use crate::comparisons::Comparisons;
 use crate::difference::Compared;
-use crate::records::{put_table, put_value, DEPTH, LENGTH};
+use crate::input::Input;
+use crate::records::{put_kind, put_table, put_value, DEPTH, LENGTH};
 use crate::results::number;
 use crate::stops::{sparse, DEEP, DEPTHS};
 use crate::tables::lists::{random_table, some_table, table_of};
 use crate::tables::uses::MOST;
 use crate::volumes::{equation_of, some_parity, some_symbol, Volume};
+use reference::kind::KINDS;
 use reference::proof::{Head, HEAD};
 use reference::repair::{output_len, repair, End};
 use reference::stop::Stop;
@@ -112,6 +114,26 @@ pub fn other_depths(c: &mut Comparisons) -> Compared {
     Ok(())
 }
 
+/// The same proof and the same 512 bytes by a record of the other kind: it breaks at the first
+/// member. Of each layer, of a fault and of none.
+pub fn other_kinds(c: &mut Comparisons) -> Compared {
+    for &depth in c.sizes {
+        for layer in (0..depth).filter(|&l| depth < DEEP || l == depth - 1) {
+            for _ in 0..if depth < DEEP { 8 } else { 2 } {
+                let (_, volume, head) = of_fault(depth, layer, &mut c.random);
+                let sound = Volume::new(depth, &volume.words(), &mut c.random);
+                for volume in [volume, sound] {
+                    let mut input = of(&volume, volume.proof(head));
+                    put_kind(&mut input, DEPTH, volume.kind.other() as u32);
+                    let stop = Stop::Hash { layer, position: Some(0) };
+                    c.make_so("a record of the other kind", &input, Err(stop))?;
+                }
+            }
+        }
+    }
+    Ok(())
+}
+
 /// The symbols are correctly coded, but the hash for the withheld one is
 /// another, in one byte.
 pub fn committed_otherwise(c: &mut Comparisons) -> Compared {
@@ -136,36 +158,40 @@ pub fn committed_otherwise(c: &mut Comparisons) -> Compared {
 /// member withheld, refused with its first or its last byte changed, with one byte more or
 /// fewer, and where the tree is a right one.
 pub fn longest_proofs(c: &mut Comparisons) -> Compared {
-    for &depth in c.sizes {
+    for (&depth, kind) in c.sizes.iter().flat_map(|depth| KINDS.map(|kind| (depth, kind))) {
         let (base, words) = (depth - 1, table_of(depth, MOST));
         let last = symbols(base) - 1;
-        let sound = Volume::new(depth, &words, &mut c.random);
-        let volume = Volume::miscoded(depth, &words, &[(base, last)], &mut c.random);
+        let sound = Volume::miscoded_of(kind, depth, &words, &[], &mut c.random);
+        let volume = Volume::miscoded_of(kind, depth, &words, &[(base, last)], &mut c.random);
         let equation = equation_of(base, last);
         for withheld in [0, 3, MOST - 1].map(|at| volume.equations[base][equation][at]) {
             let head = Head { layer: base, equation, withheld };
             let no_fault = of(&sound, sound.proof(head));
             c.make_so("the longest proof of a right tree", &no_fault, Err(Stop::NoFault))?;
-            let right = of(&volume, volume.proof(head));
-            let len = right["proof"].len();
-            assert_eq!(len, output_len(depth));
-            c.make_so("the longest proof", &right, Ok(()))?;
-            for (at, stop) in [(HEAD, (base, 0)), (len - 1, (0, MOST - 1))] {
-                let mut input = right.clone();
-                input["proof"][at] ^= 1;
-                let result = c.make("a byte of the longest proof", &input)?;
-                let (layer, position) = stop;
-                // The last byte may be one of the hash for the symbol below it.
-                let stops = [layer, layer + 1]
-                    .map(|layer| number(Err(Stop::Hash { layer, position: Some(position) })));
-                assert!(depth == 1 || stops.contains(&result), "{result}");
-            }
-            for other in [len - 1, len + 1] {
-                let mut input = right.clone();
-                input["proof"].resize(other, 0);
-                c.make_so("the longest proof, cut or longer", &input, Err(Stop::Length))?;
-            }
+            longest_proof(c, &of(&volume, volume.proof(head)))?;
         }
+    }
+    Ok(())
+}
+
+/// The longest proof of a fault, and the same with a byte changed, more or fewer.
+fn longest_proof(c: &mut Comparisons, right: &Input) -> Compared {
+    let (depth, len) = (right.number("depth") as usize, right["proof"].len());
+    assert_eq!(len, output_len(depth));
+    c.make_so("the longest proof", right, Ok(()))?;
+    for (at, (layer, position)) in [(HEAD, (depth - 1, 0)), (len - 1, (0, MOST - 1))] {
+        let mut input = right.clone();
+        input["proof"][at] ^= 1;
+        let result = c.make("a byte of the longest proof", &input)?;
+        // The last byte may be one of the hash for the symbol below it.
+        let stops = [layer, layer + 1]
+            .map(|layer| number(Err(Stop::Hash { layer, position: Some(position) })));
+        assert!(depth == 1 || stops.contains(&result), "{result}");
+    }
+    for other in [len - 1, len + 1] {
+        let mut input = right.clone();
+        input["proof"].resize(other, 0);
+        c.make_so("the longest proof, cut or longer", &input, Err(Stop::Length))?;
     }
     Ok(())
 }

@@ -33,8 +33,14 @@ pub const RECORD: Test = Test {
     ..TEST
 };
 
-const CAUSES: [&str; 5] =
-    ["the first kind", "the second kind", "the third kind", "another depth", "the length"];
+const CAUSES: [&str; 6] = [
+    "kind 10 in the first word",
+    "kind 11 in the first word",
+    "the second kind",
+    "the third kind",
+    "another depth",
+    "the length",
+];
 const SEVERAL: &str = "several of these";
 
 fn sort(depth: usize, cause: &str) -> String {
@@ -47,8 +53,15 @@ fn causes(input: &Input) -> Vec<usize> {
         (Some(depth), Some(head)) => (depth, head),
         _ => return Vec::new(),
     };
-    let kind = |index: usize| word(&input["record"], index) >> 30 != KINDS[index];
-    let wrong = [kind(0), kind(1), kind(2), head.depth != depth, head.length > block_len(depth)];
+    let [first, second, third] = [0, 1, 2].map(|index| word(&input["record"], index) >> 30);
+    let wrong = [
+        first == 2,
+        first == 3,
+        !KINDS[1].contains(&second),
+        !KINDS[2].contains(&third),
+        head.depth != depth,
+        head.length > block_len(depth),
+    ];
     (0..CAUSES.len()).filter(|&cause| wrong[cause]).collect()
 }
 
@@ -56,8 +69,10 @@ fn causes(input: &Input) -> Vec<usize> {
 fn spoil(input: &mut Input, cause: usize, random: &mut Random) {
     let depth = input.number("depth") as usize;
     match cause {
-        0..=2 => put_kind(input, cause, KINDS[cause] ^ (1 + random.below(3)) as u32),
-        3 => {
+        0 | 1 => put_kind(input, DEPTH, 2 + cause as u32),
+        2 => put_kind(input, LENGTH, KINDS[LENGTH][0] ^ (1 + random.below(3)) as u32),
+        3 => put_kind(input, COUNT, KINDS[COUNT][0] ^ (1 + random.below(3)) as u32),
+        4 => {
             let others = other_depths(depth);
             put_value(input, DEPTH, others[random.below(others.len())]);
         }
@@ -93,18 +108,18 @@ fn bits(c: &mut Comparisons, depth: usize) -> Compared {
     Ok(())
 }
 
-/// Each word of the head with each kind, or, of a deep depth, one or all with another.
+/// Each word of the head with each kind, or, of a deep depth, one or all with a wrong one.
 fn kinds(c: &mut Comparisons, depth: usize) -> Compared {
     let right = c.good(depth);
     for kinds in 0..1 << 6 {
         let kinds = [0, 2, 4].map(|bit| kinds >> bit & 3);
-        let others = (0..3).filter(|&index| kinds[index] != KINDS[index]).count();
-        if depth >= DEEP && others > 1 && kinds != [0; 3] {
+        let wrong = (0..3).filter(|&index| !KINDS[index].contains(&kinds[index])).count();
+        if depth >= DEEP && wrong > 1 && kinds != [0; 3] {
             continue;
         }
         let mut input = right.clone();
         (0..3).for_each(|index| put_kind(&mut input, index, kinds[index]));
-        make_wrong(c, "kinds of the record", &input, kinds != KINDS)?;
+        make_wrong(c, "kinds of the record", &input, wrong > 0)?;
     }
     Ok(())
 }

@@ -3,6 +3,7 @@
 use super::{head, word};
 use crate::call::Ask;
 use crate::input::Input;
+use reference::kind::Kind;
 use reference::record::{Head, KINDS};
 use reference::sha256::sha256;
 use reference::stop::Stop;
@@ -10,13 +11,21 @@ use reference::tree::block_len;
 
 /// Of test 11.
 pub const HEADS: &[(&str, Ask)] = &[
-    ("the first kind not looked at", |i| heads(&Rules { kinds: [false, true, true], ..RULES }, i)),
-    ("the second kind not looked at", |i| heads(&Rules { kinds: [true, false, true], ..RULES }, i)),
-    ("the third kind not looked at", |i| heads(&Rules { kinds: [true, true, false], ..RULES }, i)),
-    ("no kind looked at", |i| heads(&Rules { kinds: [false; 3], ..RULES }, i)),
-    ("one bit of a kind", |i| heads(&Rules { kind: 1, ..RULES }, i)),
-    ("the other bit of a kind", |i| heads(&Rules { kind: 2, ..RULES }, i)),
-    ("kinds in another order", |i| heads(&Rules { order: [2, 1, 0], ..RULES }, i)),
+    ("the first kind not looked at", |i| heads(&Rules { kinds: [ANY, &[2], &[3]], ..RULES }, i)),
+    ("the second kind not looked at", |i| {
+        heads(&Rules { kinds: [&[0, 1], ANY, &[3]], ..RULES }, i)
+    }),
+    ("the third kind not looked at", |i| heads(&Rules { kinds: [&[0, 1], &[2], ANY], ..RULES }, i)),
+    ("no kind looked at", |i| heads(&Rules { kinds: [ANY; 3], ..RULES }, i)),
+    ("one bit of a kind", |i| heads(&Rules { kinds: [ANY, &[0, 2], &[1, 3]], ..RULES }, i)),
+    ("the other bit of a kind", |i| {
+        heads(&Rules { kinds: [&[0, 1], &[2, 3], &[2, 3]], ..RULES }, i)
+    }),
+    ("kinds in another order", |i| heads(&Rules { kinds: [&[3], &[2], &[0, 1]], ..RULES }, i)),
+    ("kind 00 refused", |i| heads(&Rules { kinds: [&[1], &[2], &[3]], ..RULES }, i)),
+    ("kind 01 refused", |i| heads(&Rules { kinds: [&[0], &[2], &[3]], ..RULES }, i)),
+    ("kind 10 taken", |i| heads(&Rules { kinds: [&[0, 1, 2], &[2], &[3]], ..RULES }, i)),
+    ("kind 11 taken", |i| heads(&Rules { kinds: [&[0, 1, 3], &[2], &[3]], ..RULES }, i)),
     ("no length looked at", |i| heads(&Rules { long: |_, _| false, ..RULES }, i)),
     ("a length of one byte more taken", |i| {
         heads(&Rules { long: |length, most| length > most + 1, ..RULES }, i)
@@ -64,12 +73,12 @@ pub const HEADS: &[(&str, Ask)] = &[
     ("too many words refused", |i| heads(&Rules { count: |words| words > 55_198, ..RULES }, i)),
 ];
 
+const ANY: &[u32] = &[0, 1, 2, 3];
+
 /// Rules of a head, 02's or others.
 struct Rules {
-    /// Whether the kind of each word is looked at, which of its bits, and the words in order.
-    kinds: [bool; 3],
-    kind: u32,
-    order: [usize; 3],
+    /// The kinds that each word may have.
+    kinds: [&'static [u32]; 3],
     /// Whether a length is too long, where this is the most.
     long: fn(usize, usize) -> bool,
     /// Whether a depth that is said is another.
@@ -79,9 +88,7 @@ struct Rules {
 }
 
 const RULES: Rules = Rules {
-    kinds: [true; 3],
-    kind: 3,
-    order: [0, 1, 2],
+    kinds: KINDS,
     long: |length, most| length > most,
     other: |said, depth| said != depth,
     count: |_| false,
@@ -92,9 +99,8 @@ fn heads(rules: &Rules, input: &Input) -> Result<(), Stop> {
         (Some(depth), Some(head)) => (depth, head),
         _ => return Ok(()),
     };
-    let kind = |index: usize| (word(&input["record"], index) >> 30) & rules.kind;
-    let right = |index: usize| kind(index) == KINDS[rules.order[index]] & rules.kind;
-    let kinds = (0..3).all(|index| !rules.kinds[index] || right(index));
+    let kind = |index: usize| word(&input["record"], index) >> 30;
+    let kinds = (0..3).all(|index| rules.kinds[index].contains(&kind(index)));
     let length = !(rules.long)(head.length, block_len(depth));
     if kinds && length && !(rules.other)(head.depth, depth) && !(rules.count)(head.words) {
         Ok(())
@@ -139,6 +145,19 @@ pub const NAMED: &[(&str, Ask)] = &[
         named(i, |head, table| {
             let short = &table[..table.len().max(4) - 4];
             4 * head.words == table.len() && [sha256(table), sha256(short)].contains(&head.hash)
+        })
+    }),
+    ("the hash of the words with a place before them", |i| {
+        named(i, |head, table| {
+            let placed = sha256(&[&[0x40, 0, 0, 0], table].concat());
+            4 * head.words == table.len() && head.hash == placed
+        })
+    }),
+    ("the hash with a place in a volume of kind 00", |i| {
+        named(i, |head, table| {
+            let placed = sha256(&[&[0x40, 0, 0, 0], table].concat());
+            let hash = if head.kind == Kind::Placed { placed } else { sha256(table) };
+            4 * head.words == table.len() && head.hash == hash
         })
     }),
     ("the first byte of the hash not compared", |i| {

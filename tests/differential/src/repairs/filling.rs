@@ -9,15 +9,17 @@ use crate::records::{put_value, LENGTH};
 use crate::results::ended;
 use crate::stops::{turns, DEEP};
 use crate::tables::lists::some_table;
-use crate::volumes::{lengths, some_length, some_parity, Volume};
+use crate::volumes::{lengths, some_kind, some_length, some_parity, Volume};
+use reference::kind::KINDS;
 use reference::repair::{End, Repaired};
 use reference::tree::{block_len, symbols};
 
 /// No other byte, and one: the first that fills up, a middle one, the last, and each that is
 /// the last or the first of a symbol near. A full block is never misfilled. Of a deep depth one
-/// of these for each second length.
+/// of these for each second length. The kinds in turn, of those that are misfilled too.
 pub fn one_byte(c: &mut Comparisons) -> Compared {
     for &depth in c.sizes {
+        let mut kinds = [KINDS.into_iter().cycle(), KINDS.into_iter().cycle()];
         let all = lengths(depth).into_iter().enumerate();
         for (turn, length) in all.filter(|(turn, _)| depth < DEEP || turn % 2 == depth % 2) {
             let len = block_len(depth) - length;
@@ -31,7 +33,8 @@ pub fn one_byte(c: &mut Comparisons) -> Compared {
                 let byte = 1 << c.random.below(8);
                 other.into_iter().for_each(|other| filling[other] = byte);
                 let words = some_table(depth, &mut c.random);
-                let volume = Volume::filled_with(depth, &words, &filling, &mut c.random);
+                let kind = kinds[usize::from(other.is_some())].next().expect("a kind");
+                let volume = Volume::filled_with(kind, depth, &words, &filling, &mut c.random);
                 let end = other.map_or(End::Whole, |_| End::Misfilled);
                 losses_of(c, &volume, end, turn)?;
             }
@@ -63,7 +66,8 @@ pub fn more_bytes(c: &mut Comparisons) -> Compared {
     for &depth in c.sizes {
         for turn in 0..turns(depth, 80) {
             let words = some_table(depth, &mut c.random);
-            let volume = Volume::filled_with(depth, &words, &[], &mut c.random);
+            let kind = some_kind(&mut c.random);
+            let volume = Volume::filled_with(kind, depth, &words, &[], &mut c.random);
             let mut input = of(&volume, &mut c.random);
             put_value(&mut input, LENGTH, some_length(depth, &mut c.random) as u32);
             lose_some(&mut input, &volume.all_symbols(), [0, 8, 24, 60][turn % 4], &mut c.random);
@@ -84,7 +88,8 @@ pub fn other_ends(c: &mut Comparisons) -> Compared {
             let mut input = of(&volume, &mut c.random);
             put_value(&mut input, LENGTH, 0);
             is_fault(c, &input)?;
-            let volume = Volume::filled_with(depth, &words, &[], &mut c.random);
+            let kind = some_kind(&mut c.random);
+            let volume = Volume::filled_with(kind, depth, &words, &[], &mut c.random);
             let mut input = of(&volume, &mut c.random);
             put_value(&mut input, LENGTH, c.random.below(block_len(depth)) as u32);
             (0..symbols(layer)).for_each(|symbol| lose(&mut input, layer, symbol, &mut c.random));

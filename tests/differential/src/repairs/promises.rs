@@ -2,9 +2,8 @@
 //! themselves, without the steps.
 
 use crate::input::Input;
-use crate::records::{head, root};
+use crate::records::{head, kind, root};
 use reference::repair::{End, Repaired};
-use reference::sha256::sha256;
 use reference::table::equations;
 use reference::tree::SYMBOL;
 use reference::tree::{base_data, committed_hash, exclusive_or, place, symbol_at, symbols};
@@ -16,7 +15,7 @@ pub fn hold(before: &Input, after: &Input, Repaired { end, stored }: Repaired) {
         End::Whole | End::Misfilled => layers.len() - 1,
         End::Fault(_) => usize::from(after["output"][3]),
         End::Unavailable(layer) => layer,
-        End::Twins => panic!("two symbols of equal SHA-256"),
+        End::Twins(_) => panic!("two symbols of equal hash"),
     };
     let mut filled = 0;
     for (layer, equations) in layers.iter().enumerate().take(last + 1) {
@@ -105,7 +104,8 @@ impl Entered<'_> {
 
     fn fits(&self, symbol: usize, bytes: &[u8]) -> bool {
         let (root, tree) = (root(self.after), &self.after["tree"]);
-        sha256(bytes) == committed_hash(root, tree, self.layer, symbol)
+        let kind = kind(self.after).expect("a kind");
+        kind.hash(self.layer, symbol, bytes) == committed_hash(root, tree, self.layer, symbol)
     }
 
     fn holds(&self, members: &[usize]) -> bool {
@@ -122,6 +122,7 @@ mod tests {
     use crate::repairs::{lose, of, REPAIR};
     use crate::results::ended;
     use crate::volumes::Volume;
+    use reference::kind::Kind;
     use reference::table::house;
 
     /// A tree of depth 2 with losses, before and after its repair, which
@@ -171,7 +172,7 @@ mod tests {
     /// A whole tree of depth 2, of whose block the record says this length.
     fn whole(length: u32) -> (Input, Input) {
         let mut random = Random::new(2);
-        let volume = Volume::filled_with(2, &house(2), &[], &mut random);
+        let volume = Volume::filled_with(Kind::Placed, 2, &house(2), &[], &mut random);
         let mut before = of(&volume, &mut random);
         put_value(&mut before, LENGTH, length);
         let mut after = before.clone();

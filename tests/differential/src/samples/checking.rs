@@ -12,13 +12,14 @@ use crate::difference::Compared;
 use crate::input::Input;
 use crate::random::Random;
 use crate::records::heads::RECORD;
-use crate::records::{self, put_root, root_mut, RECORD_LEN};
+use crate::records::{self, put_kind, put_root, root_mut, DEPTH as DEPTH_WORD, RECORD_LEN};
 use crate::results::number;
-use crate::stops::{turns, DEEP, DEPTH, DEPTHS, LENGTHS};
+use crate::stops::{sparse, turns, DEEP, DEPTH, DEPTHS, LENGTHS};
 use crate::tables::lists::some_table;
 use crate::volumes::Volume;
+use reference::kind::{Kind, KINDS};
 use reference::sample::{self, data_index, members};
-use reference::sha256::sha256;
+use reference::table::house;
 use reference::tree::{committed, place, symbol_at, Committed, HASH, ROOT, SYMBOL};
 
 pub static SAMPLE_CHECK: Call = Call {
@@ -44,6 +45,8 @@ pub static SAMPLE_CHECK: Call = Call {
         breaks::damaged_roots,
         other_numbers,
         other_symbols,
+        other_kinds,
+        blank_pages,
     ],
     least: &[
         ("end 0", 2000),
@@ -53,6 +56,9 @@ pub static SAMPLE_CHECK: Call = Call {
         ("one wrong hash", 800),
         ("some symbols damaged", 600),
         ("a hash of the root", 400),
+        ("a record of the other kind", 100),
+        ("a blank page for another, accepted", 300),
+        ("a blank page for another, refused", 300),
     ],
     least_deep: &[
         ("end 0", 1000),
@@ -62,6 +68,9 @@ pub static SAMPLE_CHECK: Call = Call {
         ("one wrong hash", 100),
         ("some symbols damaged", 500),
         ("a hash of the root", 64),
+        ("a record of the other kind", 8),
+        ("a blank page for another, accepted", 20),
+        ("a blank page for another, refused", 20),
     ],
     ..CALL
 };
@@ -69,9 +78,9 @@ pub static SAMPLE_CHECK: Call = Call {
 /// Every hash leads to the root.
 const HASHES: Test = Test {
     number: 7,
-    ask: |i| match (i.cut(|_| true), base_symbol(i)) {
-        (cut, Some((depth, base))) if cut.lengths_fit(|_| true) => {
-            sample::judge(depth, base, records::root(&cut), &cut["sample"])
+    ask: |i| match (i.cut(|_| true), base_symbol(i), records::kind(i)) {
+        (cut, Some((depth, base)), Some(kind)) if cut.lengths_fit(|_| true) => {
+            sample::judge(kind, depth, base, records::root(&cut), &cut["sample"])
         }
         _ => Ok(()),
     },
@@ -99,11 +108,23 @@ fn some_sample(depth: usize, random: &mut Random) -> Input {
     sample_of(&volume, random.below(base_symbols(depth) as usize))
 }
 
+/// The hash of the sample's symbol of an index.
+fn hashed(input: &Input, index: usize) -> [u8; HASH] {
+    let (layer, symbol) = member(input, index);
+    let kind = records::kind(input).expect("a kind");
+    kind.hash(layer, symbol, symbol_at(&input["sample"], index))
+}
+
+/// The layer and the number of the sample's symbol of an index.
+fn member(input: &Input, index: usize) -> (usize, usize) {
+    members(input.number("depth") as usize, input.number("number") as usize)[index]
+}
+
 /// The byte from which the hash of the sample's symbol of an index stands: in
 /// the root, or in the sample's symbol of the index given.
 fn hash_of(input: &Input, index: usize) -> (Option<usize>, usize) {
     let depth = input.number("depth") as usize;
-    let (layer, symbol) = members(depth, input.number("number") as usize)[index];
+    let (layer, symbol) = member(input, index);
     match committed(layer, symbol) {
         Committed::Root { at } => (None, at),
         Committed::Above { at, .. } => (Some(data_index(depth, layer - 1)), at),
@@ -119,7 +140,7 @@ fn break_hash(input: &mut Input, index: usize, byte: usize) {
         Some(above) => input["sample"][SYMBOL * above + at + byte] ^= 1,
     }
     while let Some(symbol) = holder {
-        let hash = sha256(symbol_at(&input["sample"], symbol));
+        let hash = hashed(input, symbol);
         let (next, at) = hash_of(input, symbol);
         let holding = match next {
             None => &mut root_mut(input)[at..],
@@ -189,6 +210,42 @@ fn other_numbers(c: &mut Comparisons) -> Compared {
                 input.set("number", other);
                 c.make("another number", &input)?;
             }
+        }
+    }
+    Ok(())
+}
+
+/// The same sample and the same 512 bytes by a record of the other kind: it breaks at the base.
+fn other_kinds(c: &mut Comparisons) -> Compared {
+    for &depth in c.sizes {
+        for _ in 0..turns(depth, 12) {
+            for mut input in c.of_each_kind(depth) {
+                let kind = records::kind(&input).expect("a kind");
+                put_kind(&mut input, DEPTH_WORD, kind.other() as u32);
+                let base = breaks::breaks_in(Some(depth - 1));
+                c.make_so("a record of the other kind", &input, base)?;
+            }
+        }
+    }
+    Ok(())
+}
+
+/// The sample of a blank page, given for others: it passes for those whose own is equal. By the
+/// house table all are in a plain volume, and with places those with equal pages above.
+fn blank_pages(c: &mut Comparisons) -> Compared {
+    for (&depth, kind) in c.sizes.iter().flat_map(|depth| KINDS.map(|kind| (depth, kind))) {
+        let volume = Volume::of(kind, depth, &house(depth), &[]);
+        let n = base_symbols(depth) as usize;
+        let number = c.random.below(n);
+        let mut input = sample_of(&volume, number);
+        for other in sparse(depth, n) {
+            input.set("number", other as u64);
+            let passes = sample_of(&volume, other)["sample"] == input["sample"];
+            assert!(passes || kind == Kind::Placed);
+            let result = c.make("a blank page for another", &input)?;
+            assert_eq!(result == 0, passes, "{number} for {other}, {}", input.description());
+            let how = if passes { "accepted" } else { "refused" };
+            c.met.outcomes.count(&format!("a blank page for another, {how}"));
         }
     }
     Ok(())

@@ -12,11 +12,12 @@ use crate::input::Input;
 use crate::marks::{absent, MARKS};
 use crate::random::Random;
 use crate::records::heads::RECORD;
-use crate::records::{put_value, LENGTH, RECORD_LEN};
+use crate::records::{put_kind, put_value, DEPTH as DEPTH_WORD, LENGTH, RECORD_LEN};
 use crate::results::number;
 use crate::stops::{turns, DEPTH, DEPTHS, LENGTHS};
 use crate::tables::lists::some_table;
-use crate::volumes::{lengths, some_length, Volume};
+use crate::volumes::{lengths, some_kind, some_length, Volume};
+use reference::kind::KINDS;
 use reference::record::Head;
 use reference::stop::Stop;
 use reference::table::data_symbols;
@@ -40,7 +41,7 @@ pub static BLOCK_READ: Call = Call {
         let [record, tree, marks, block] = i.all();
         number(tree::read_block(depth, record, tree, marks, block))
     },
-    own: &[block_lengths, coded_trees, absent, absent_elsewhere],
+    own: &[block_lengths, coded_trees, other_kinds, absent, absent_elsewhere],
     least: &[("end 0", 2000), ("4", 1000), ("9", 500), ("11", 1000)],
     ..CALL
 };
@@ -67,11 +68,12 @@ fn needed(depth: usize) -> Range<usize> {
     place(depth - 1, 0)..place(depth - 1, data_symbols(depth - 1))
 }
 
-/// Buffers of the right lengths: random bytes, each symbol held, and a record of some length
-/// that names no table.
+/// Buffers of the right lengths: random bytes, each symbol held, and a record of some kind and
+/// length that names no table.
 pub fn to_read(depth: usize, random: &mut Random) -> Input {
     let (tree, marks) = (random.bytes(tree_len(depth)), vec![1; tree_symbols(depth)]);
-    let head = Head::of(depth, some_length(depth, random), &random.bytes(4 * depth));
+    let (kind, length) = (some_kind(random), some_length(depth, random));
+    let head = Head::of(kind, depth, length, &random.bytes(4 * depth));
     let (record, block) = (head.before(&random.bytes(ROOT)), random.bytes(block_len(depth)));
     Input::new(&BLOCK_READ, [depth as u64], [record, tree, marks, block])
 }
@@ -104,6 +106,23 @@ fn coded_trees(c: &mut Comparisons) -> Compared {
             let volume = Volume::new(depth, &words, &mut c.random);
             (input["record"], input["tree"]) = (volume.record, volume.tree);
             c.make_done("a coded tree", &input)?;
+        }
+    }
+    Ok(())
+}
+
+/// A coded tree is read alike by a record of the other kind, since no hash is looked at.
+fn other_kinds(c: &mut Comparisons) -> Compared {
+    for &depth in c.sizes {
+        for _ in 0..turns(depth, 12) {
+            let mut input = to_read(depth, &mut c.random);
+            let words = some_table(depth, &mut c.random);
+            let volume = Volume::new(depth, &words, &mut c.random);
+            (input["record"], input["tree"]) = (volume.record, volume.tree);
+            for kind in KINDS {
+                put_kind(&mut input, DEPTH_WORD, kind as u32);
+                c.make_done("a record of either kind", &input)?;
+            }
         }
     }
     Ok(())

@@ -3,10 +3,12 @@
 use crate::difference::Difference;
 use crate::input::Input;
 use crate::library::{right, stopped};
+use crate::mutants::hashes::{self, Place, SymbolHash};
 use crate::mutants::{passes, wrong, wrong_deep};
 use crate::proofs::PROOF_CHECK as CALL;
-use crate::records::root;
+use crate::records::{kind, root};
 use crate::results::number;
+use reference::kind::Kind;
 use reference::proof::{hash_for, Head, HEAD};
 use reference::record;
 use reference::sha256::sha256;
@@ -45,6 +47,9 @@ impl Look<'_> {
 
 /// Rules of a check, those of the papers or others.
 pub struct Rules {
+    /// The hash of a symbol, and that of the exclusive-or for the withheld one, given the members.
+    pub hash: SymbolHash,
+    pub sum: fn(Kind, Place, &[usize], &[u8]) -> [u8; HASH],
     /// The symbols whose hashes are not compared.
     pub skipped: fn(&Look) -> bool,
     /// The bytes of the others' hashes that are compared.
@@ -63,6 +68,8 @@ pub struct Rules {
 }
 
 pub const RULES: Rules = Rules {
+    hash: hashes::RIGHT,
+    sum: |kind, at, _, symbol| kind.hash(at.layer, at.number, symbol),
     skipped: |_| false,
     compared: 0..HASH,
     members: |_, members| members,
@@ -78,14 +85,15 @@ pub fn check_by(rules: &Rules, i: &mut Input) -> u64 {
     if let Some(result) = stopped(i, in_form) {
         return result;
     }
-    let (root, given) = (root(i), &i["proof"][HEAD..]);
+    let (kind, root, given) = (kind(i).expect("a kind"), root(i), &i["proof"][HEAD..]);
     let equations = equations(i.number("depth"), &i["table"]).expect("a table");
     let head = Head::read(&equations, &i["proof"]).expect("a head");
     let members = (rules.members)(head, equations[head.layer][head.equation].clone());
     let height = head.layer + 1;
     let others = (0..members.len() - 1).map(|other| symbol_at(given, other * height));
     let path = (rules.withheld_in)((members.len() - 1) * height, height);
-    let sum = sha256(&exclusive_or(others));
+    let at = Place { depth: equations.len(), layer: head.layer, number: head.withheld };
+    let sum = (rules.sum)(kind, at, &members, &exclusive_or(others));
     let committed = hash_for(root, given, head.layer, head.withheld, path);
     let fault = sum[rules.withheld.clone()] != committed[rules.withheld.clone()];
     if rules.fault_first && !fault {
@@ -94,7 +102,8 @@ pub fn check_by(rules: &Rules, i: &mut Input) -> u64 {
     let symbols = head.symbols(&members);
     let looks =
         (0..symbols.len()).map(|index| Look { head, members: &members, symbols: &symbols, index });
-    let broken: Vec<Look> = looks.filter(|look| breaks(rules, root, given, look)).collect();
+    let tree = (kind, equations.len());
+    let broken: Vec<Look> = looks.filter(|look| breaks(rules, tree, root, given, look)).collect();
     if !broken.is_empty() {
         let (layer, position) = (rules.named)(&broken);
         return number(Err(Stop::Hash { layer, position: Some(position) }));
@@ -106,10 +115,17 @@ pub fn check_by(rules: &Rules, i: &mut Input) -> u64 {
     }
 }
 
-/// Whether a hash is compared, and does not fit.
-fn breaks(rules: &Rules, root: &[u8], given: &[u8], look: &Look) -> bool {
+/// Whether a hash is compared, and does not fit, in a tree of a kind and a depth.
+fn breaks(
+    rules: &Rules,
+    (kind, depth): (Kind, usize),
+    root: &[u8],
+    given: &[u8],
+    look: &Look,
+) -> bool {
     let (layer, symbol) = look.symbols[look.index];
-    let hash = sha256(symbol_at(given, look.index));
+    let place = Place { depth, layer, number: symbol };
+    let hash = (rules.hash)(kind, place, symbol_at(given, look.index));
     let expected = hash_for(root, given, layer, symbol, look.index + 1);
     let compared = rules.compared.clone();
     !(rules.skipped)(look) && hash[compared.clone()] != expected[compared]
@@ -119,6 +135,36 @@ fn breaks(rules: &Rules, root: &[u8], given: &[u8], look: &Look) -> bool {
 fn right_rules_pass() {
     passes(&CALL, |i| check_by(&RULES, i));
 }
+
+// Kinds.
+
+#[test]
+fn wrong_hashes_are_found() {
+    hashes::are_found(&CALL, |i, hash| check_by(&Rules { hash, ..RULES }, i));
+}
+
+wrong!(withheld_hashed_without_a_place, 8 => 0, |i| {
+    check_by(&Rules { sum: |_, _, _, symbol| sha256(symbol), ..RULES }, i)
+});
+
+wrong!(withheld_hashed_with_the_first_members_place, 8 => 0, |i| {
+    check_by(
+        &Rules { sum: |kind, at, members, symbol| kind.hash(at.layer, members[0], symbol), ..RULES },
+        i,
+    )
+});
+
+wrong!(withheld_hashed_with_the_last_members_place, 8 => 0, |i| {
+    let sum: fn(Kind, Place, &[usize], &[u8]) -> [u8; HASH] =
+        |kind, at, members, symbol| kind.hash(at.layer, members[members.len() - 1], symbol);
+    check_by(&Rules { sum, ..RULES }, i)
+});
+
+wrong!(withheld_hashed_with_the_layer_above, 8 => 0, |i| {
+    let sum: fn(Kind, Place, &[usize], &[u8]) -> [u8; HASH] =
+        |kind, at, _, symbol| kind.hash(at.layer.saturating_sub(1), at.number, symbol);
+    check_by(&Rules { sum, ..RULES }, i)
+});
 
 // Hashes.
 

@@ -116,7 +116,7 @@ wrong!(misfilled_as_a_number, Difference::Result { .. }, |i| match right(i) {
 });
 
 wrong!(misfilled_as_twins, Difference::Result { .. }, |i| {
-    ending(i, |_, _, repair| (repair.end == End::Misfilled).then_some(End::Twins))
+    ending(i, |_, _, repair| (repair.end == End::Misfilled).then_some(End::Twins(None)))
 });
 
 /// `right`, but a misfilled tree's buffer is left as it was lent.

@@ -2,12 +2,13 @@
 
 use crate::input::Input;
 use crate::library::stopped;
-use crate::records::head;
+use crate::mutants::hashes::{self, Place, SymbolHash};
+use crate::records::{head, kind};
 use crate::results::repaired;
+use reference::kind::Kind;
 use reference::proof::{self, Head};
 use reference::record;
 use reference::repair::{End, Repaired};
-use reference::sha256::sha256;
 use reference::table::{data_symbols, equations, Layers};
 use reference::tree::{base_data, committed_hash, exclusive_or, place, symbol_at, symbols};
 use reference::tree::{Symbol, SYMBOL};
@@ -36,6 +37,9 @@ pub enum Taken {
 }
 
 pub struct Rules {
+    /// The hash of a symbol that is held, and of one that is formed.
+    pub hash: SymbolHash,
+    pub formed_hash: SymbolHash,
     /// The layers that are worked through; those below are only marked.
     pub layers: usize,
     pub zeroed: Zeroed,
@@ -76,6 +80,8 @@ pub struct Rules {
 }
 
 pub const RULES: Rules = Rules {
+    hash: hashes::RIGHT,
+    formed_hash: hashes::RIGHT,
     layers: usize::MAX,
     zeroed: Zeroed::All,
     bad_copies_absent: true,
@@ -103,10 +109,11 @@ pub fn repair_by(rules: &Rules, i: &mut Input) -> u64 {
     }
     let equations = equations(i.number("depth"), &i["table"]).expect("a table");
     let lent = i["tree"].clone();
-    let length = head(i).expect("a head").length;
+    let (kind, length) = (kind(i).expect("a kind"), head(i).expect("a head").length);
     let [record, _, tree, marks, output] = i.all();
     let root = &record[rules.head..];
-    let mut work = Work { rules, root, lent, tree, marks, output, stored: 0 };
+    let depth = equations.len();
+    let mut work = Work { rules, kind, depth, root, lent, tree, marks, output, stored: 0 };
     let mut end = work.all_layers(&equations);
     let filling = (rules.filling)(base_data(equations.len(), work.tree), length);
     if end == End::Whole && filling.iter().any(|&byte| byte != 0) {
@@ -117,6 +124,8 @@ pub fn repair_by(rules: &Rules, i: &mut Input) -> u64 {
 
 struct Work<'a> {
     rules: &'a Rules,
+    kind: Kind,
+    depth: usize,
     root: &'a [u8],
     lent: Vec<u8>,
     tree: &'a mut [u8],
@@ -154,7 +163,8 @@ impl Work<'_> {
             self.zero_lent_absent(place(layer, 0)..place(layer + 1, 0));
         }
         for symbol in 0..symbols(layer) {
-            let fits = self.fits(layer, symbol, self.symbol(layer, symbol));
+            let bytes = self.symbol(layer, symbol);
+            let fits = self.fits(self.rules.hash, layer, symbol, bytes);
             let mark = &mut self.marks[place(layer, symbol)];
             if *mark == 1 && !fits && self.rules.bad_copies_absent {
                 *mark = 0;
@@ -240,7 +250,10 @@ impl Work<'_> {
         };
         let formed = self.others(layer, members, withheld);
         let right = match absent.first() {
-            Some(_) => !self.rules.formed_tested || self.fits(layer, withheld, &formed),
+            Some(_) => {
+                let hash = self.rules.formed_hash;
+                !self.rules.formed_tested || self.fits(hash, layer, withheld, &formed)
+            }
             None => formed == self.symbol(layer, withheld),
         };
         let head = Head { layer, equation, withheld };
@@ -265,9 +278,10 @@ impl Work<'_> {
         exclusive_or(others.map(|&member| self.symbol(layer, member)))
     }
 
-    fn fits(&self, layer: usize, symbol: usize, bytes: &[u8]) -> bool {
+    fn fits(&self, hash: SymbolHash, layer: usize, symbol: usize, bytes: &[u8]) -> bool {
+        let place = Place { depth: self.depth, layer, number: symbol };
         let tree = if self.rules.lent_hashes { &self.lent } else { &*self.tree };
-        sha256(bytes) == committed_hash(self.root, tree, layer, symbol)
+        hash(self.kind, place, bytes) == committed_hash(self.root, tree, layer, symbol)
     }
 
     fn symbol(&self, layer: usize, symbol: usize) -> &[u8] {

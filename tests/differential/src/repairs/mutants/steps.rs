@@ -2,9 +2,11 @@
 
 use super::rules::{repair_by, Rules, Taken, Zeroed, RULES};
 use crate::difference::Difference;
+use crate::mutants::hashes;
 use crate::mutants::{passes, passes_deep, wrong, wrong_deep};
 use crate::repairs::REPAIR as CALL;
 use crate::tables::mutants::trailing_words_after;
+use reference::sha256::sha256;
 
 #[test]
 fn right_rules_pass() {
@@ -29,6 +31,16 @@ wrong!(words_after_the_end_word_last, Difference::Result { .. }, |i| trailing_wo
 // The record.
 
 other_rule!(root_at_the_start_of_the_record, head: 0);
+
+// Kinds.
+
+#[test]
+fn wrong_hashes_are_found() {
+    hashes::are_found(&CALL, |i, hash| repair_by(&Rules { hash, formed_hash: hash, ..RULES }, i));
+}
+
+other_rule!(formed_symbols_hashed_without_a_place, formed_hash: |_, _, s| sha256(s));
+other_rule!(held_symbols_hashed_without_a_place, hash: |_, _, s| sha256(s));
 
 // Layers.
 

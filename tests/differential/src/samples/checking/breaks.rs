@@ -1,6 +1,6 @@
 //! Samples that break in known layers.
 
-use super::hash_of;
+use super::{hash_of, hashed};
 use crate::call::Sorts;
 use crate::comparisons::Comparisons;
 use crate::damage::{damage, damage_root};
@@ -10,7 +10,6 @@ use crate::random::Random;
 use crate::records::{root, root_mut};
 use crate::stops::DEEP;
 use reference::sample::{data_index, members};
-use reference::sha256::sha256;
 use reference::stop::Stop;
 use reference::tree::{symbol_at, symbols, HASH, SYMBOL};
 
@@ -46,7 +45,7 @@ fn broken(input: &Input, index: usize) -> bool {
         (None, at) => &root(input)[at..at + HASH],
         (Some(above), at) => &symbol_at(&input["sample"], above)[at..at + HASH],
     };
-    sha256(symbol_at(&input["sample"], index)) != hash
+    hashed(input, index) != hash
 }
 
 /// The layer and the number of each symbol of the sample.

@@ -3,12 +3,14 @@
 use super::{base_symbol, SAMPLE_CHECK as CALL};
 use crate::difference::Difference;
 use crate::input::Input;
+use crate::library::by_tests;
 use crate::library::right;
+use crate::mutants::hashes::{self, Place, SymbolHash};
 use crate::mutants::{asking, passes, wrong, wrong_deep, wrong_test};
-use crate::records::root;
+use crate::records::{kind, root};
+use crate::results::number;
 use reference::record::HEAD;
 use reference::sample::{data_index, members};
-use reference::sha256::sha256;
 use reference::stop::Stop;
 use reference::tree::{committed, symbol_at, Committed, HASH, ROOT};
 use std::ops::Range;
@@ -30,7 +32,13 @@ impl Look {
 /// The hashes that do not fit, with only those bytes of each compared that `bytes`
 /// gives for it, at the place that it gives.
 fn broken(i: &Input, bytes: fn(&mut Look) -> Range<usize>) -> Vec<Look> {
+    broken_by(i, hashes::RIGHT, bytes)
+}
+
+/// The same by a hash of symbols.
+fn broken_by(i: &Input, hash: SymbolHash, bytes: fn(&mut Look) -> Range<usize>) -> Vec<Look> {
     let (depth, base) = base_symbol(i).expect("a depth");
+    let kind = kind(i).expect("a kind");
     let mut broken = Vec::new();
     for (index, (layer, symbol)) in members(depth, base).into_iter().enumerate() {
         let (holder, at) = match committed(layer, symbol) {
@@ -41,7 +49,8 @@ fn broken(i: &Input, bytes: fn(&mut Look) -> Range<usize>) -> Vec<Look> {
         };
         let mut look = Look { depth, index, layer, at };
         let compared = bytes(&mut look);
-        let hash = sha256(symbol_at(&i["sample"], index));
+        let place = Place { depth, layer, number: symbol };
+        let hash = hash(kind, place, symbol_at(&i["sample"], index));
         let found = &holder[look.at..look.at + HASH];
         if hash[compared.clone()] != found[compared] {
             broken.push(look);
@@ -66,6 +75,17 @@ fn naming(broken: &[Look], layer: fn(&[Look]) -> usize) -> Result<(), Stop> {
 #[test]
 fn right_hashes_pass() {
     passes(&CALL, |i| asking(i, 7, |i| check_by(i, |_| 0..HASH)));
+}
+
+#[test]
+fn wrong_hashes_are_found() {
+    hashes::are_found(&CALL, |i, hash| {
+        let before = CALL.tests.iter().filter(|test| test.number != 7);
+        match by_tests(i, before) {
+            0 => number(naming(&broken_by(i, hash, |_| 0..HASH), |broken| broken[0].layer)),
+            stopped => stopped,
+        }
+    });
 }
 
 /// A test that a check is found which does not compare all hashes.

@@ -1,12 +1,17 @@
 //! Wrong writers.
 
+use super::kinds::KIND;
 use super::TREE_WRITE as CALL;
+use crate::call::Ask;
 use crate::difference::Difference;
 use crate::input::Input;
 use crate::library::{right, stopped};
+use crate::mutants::hashes::{self, Place, SymbolHash};
 use crate::mutants::{passes, wrong, wrong_deep};
+use reference::kind::Kind;
 use reference::record::{Head, HEAD};
 use reference::sha256::sha256;
+use reference::stop::Stop;
 use reference::table::{equations, house, to_bytes};
 use reference::tree::{base_data, block_len, place, symbols, HASH, SYMBOL};
 
@@ -20,6 +25,8 @@ struct Rules {
     words: Option<fn(usize) -> Vec<u32>>,
     /// What stands where the block fills up, given what the tree holds there.
     filling: fn(&mut [u8]),
+    /// The hash of a symbol.
+    hash: SymbolHash,
     /// The record, given what is lent and the root.
     record: fn(&Input, Head, &[u8]) -> Vec<u8>,
 }
@@ -28,6 +35,7 @@ const RULES: Rules = Rules {
     above: |symbol, s| (symbol % s, symbol / s),
     words: None,
     filling: |filling| filling.fill(0),
+    hash: hashes::RIGHT,
     record: |_, head, root| head.before(root),
 };
 
@@ -36,7 +44,7 @@ fn write_by(rules: &Rules, i: &mut Input) -> u64 {
     if let Some(result) = stopped(i, CALL.tests) {
         return result;
     }
-    let depth = i.number("depth") as usize;
+    let (depth, kind) = (i.number("depth") as usize, i.kind().expect("a kind"));
     let table = match rules.words {
         Some(words) => to_bytes(&words(depth)),
         None => i["table"].clone(),
@@ -57,10 +65,11 @@ fn write_by(rules: &Rules, i: &mut Input) -> u64 {
                 _ => (rules.above)(symbol, s),
             };
             let at = SYMBOL * above + HASH * hash;
-            data[at..at + HASH].copy_from_slice(&sha256(bytes));
+            let hash = (rules.hash)(kind, Place { depth, layer, number: symbol }, bytes);
+            data[at..at + HASH].copy_from_slice(&hash);
         }
     }
-    let head = Head::of(depth, i["block"].len(), &i["table"]);
+    let head = Head::of(kind, depth, i["block"].len(), &i["table"]);
     i["record"] = (rules.record)(i, head, &data);
     i["marks"].fill(1);
     0
@@ -116,6 +125,61 @@ wrong!(lent_marks_tested, Difference::Result { expected: 0, .. }, |i| {
     match (right(i), bad) {
         (0, Some(place)) => 4 + 256 * place as u64,
         (result, _) => result,
+    }
+});
+
+// Kinds.
+
+#[test]
+fn wrong_hashes_are_found() {
+    hashes::are_found(&CALL, |i, hash| write_by(&Rules { hash, ..RULES }, i));
+}
+
+/// Wrong ways to ask test 11, by whether a number is a kind's.
+pub const KINDS: &[(&str, Ask)] = &[
+    ("2 taken", |i| kinds(i, |kind| kind < 3)),
+    ("3 taken", |i| kinds(i, |kind| kind < 2 || kind == 3)),
+    ("255 taken", |i| kinds(i, |kind| kind < 2 || kind == 255)),
+    ("0 refused", |i| kinds(i, |kind| kind == 1)),
+    ("1 refused", |i| kinds(i, |kind| kind == 0)),
+    ("the lowest bit alone", |i| kinds(i, |kind| kind & 0xfffe == 0 || kind & 1 == 1)),
+    ("any number", |i| kinds(i, |_| true)),
+    ("the highest number taken", |i| kinds(i, |kind| kind < 2 || kind == u64::MAX)),
+];
+
+fn kinds(i: &Input, taken: fn(u64) -> bool) -> Result<(), Stop> {
+    if taken(i.number("kind")) {
+        Ok(())
+    } else {
+        Err(Stop::WrongRecord)
+    }
+}
+
+wrong!(kinds_exchanged, Difference::Inside { .. }, |i| told_as(i, |kind| kind.other()));
+wrong!(always_placed, Difference::Inside { .. }, |i| told_as(i, |_| Kind::Placed));
+wrong!(always_plain, Difference::Inside { .. }, |i| told_as(i, |_| Kind::Plain));
+
+/// `right`, as if it were told another kind, where it is told one.
+fn told_as(i: &mut Input, other: fn(Kind) -> Kind) -> u64 {
+    let told = i.number("kind");
+    if let Ok(kind) = Kind::told(told) {
+        i.set("kind", other(kind) as u64);
+    }
+    let result = right(i);
+    i.set("kind", told);
+    result
+}
+
+wrong!(any_number_is_plain, 11 => 0, |i| {
+    match (KIND.ask)(i) {
+        Err(_) => {
+            let mut seen = i.clone();
+            seen.set("kind", 1);
+            let result = right(&mut seen);
+            i.buffers = seen.buffers;
+            result
+        }
+        Ok(()) => right(i),
     }
 });
 
@@ -208,6 +272,22 @@ other_record!(no_kinds, |_, head, root| {
     let mut bytes = head.bytes();
     [0, 4, 8].into_iter().for_each(|at| bytes[at] &= 0x3f);
     [&bytes[..], root].concat()
+});
+other_record!(kind_01_whatever_the_kind, |_, head, root| {
+    Head { kind: Kind::Plain, ..head }.before(root)
+});
+other_record!(kind_00_whatever_the_kind, |_, head, root| {
+    Head { kind: Kind::Placed, ..head }.before(root)
+});
+other_record!(kind_of_the_other, |_, head, root| {
+    Head { kind: head.kind.other(), ..head }.before(root)
+});
+other_record!(hash_of_the_table_with_a_place, |i, head, root| {
+    let hash = match head.kind {
+        Kind::Placed => sha256(&[&[0x40, 0, 0, 0], &i["table"][..]].concat()),
+        Kind::Plain => head.hash,
+    };
+    Head { hash, ..head }.before(root)
 });
 other_record!(head_as_it_was_lent, |i, _, root| [&i["record"][..HEAD], root].concat());
 
