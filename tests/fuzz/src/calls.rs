@@ -31,6 +31,7 @@ pub static TARGETS: &[&Target] = &[
     &samples::SAMPLE_CHECK,
     &repairs::PROOF_CHECK,
     &repairs::REPAIR,
+    &repairs::RECODE,
 ];
 
 impl Target {

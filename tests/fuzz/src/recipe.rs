@@ -1,5 +1,5 @@
-//! Bytes read as a recipe: numbers, depths, tables, volumes and changes to records. Where the
-//! bytes end, zeros follow.
+//! Bytes read as a recipe: numbers, depths, kinds, tables, volumes and changes to records. Where
+//! the bytes end, zeros follow.
 
 use differential::input::Input;
 use differential::random::Random;
@@ -7,6 +7,7 @@ use differential::records::{head, put_head, put_kind, put_value, COUNT, DEPTH, L
 use differential::tables::lists::{random_table, table_of};
 use differential::tables::uses::use_times;
 use differential::volumes::{lengths, Volume};
+use reference::kind::Kind;
 use reference::record::{Head, HEAD};
 use reference::table::{data_symbols, house, listed, write};
 use reference::tree::{block_len, symbols, HASH, SYMBOL};
@@ -15,7 +16,7 @@ use reference::tree::{block_len, symbols, HASH, SYMBOL};
 const DEPTHS: [usize; 8] = [1, 1, 1, 2, 2, 3, 4, 5];
 
 /// The deep ones, which take long, for the highest bytes alone.
-const DEEP: [usize; 16] = [6, 6, 6, 6, 6, 6, 6, 6, 7, 7, 7, 7, 8, 8, 9, 9];
+const DEEP: [usize; 8] = [6, 6, 6, 6, 7, 7, 8, 9];
 
 pub struct Recipe<'a> {
     bytes: &'a [u8],
@@ -55,12 +56,12 @@ impl<'a> Recipe<'a> {
         Random::new(u64::from(self.byte()))
     }
 
-    /// The depth that buffers are made for.
-    pub fn made_for(&mut self) -> usize {
-        match self.byte() {
-            deep @ 240..=255 => DEEP[usize::from(deep) % DEEP.len()],
-            byte => DEPTHS[usize::from(byte) % DEPTHS.len()],
-        }
+    /// The depth that buffers are made for, and the kind of volume, which has a bit of the same byte.
+    pub fn made_for(&mut self) -> (usize, Kind) {
+        let byte = self.byte();
+        let depths = if byte < 240 { DEPTHS } else { DEEP };
+        let kind = if byte & 8 == 0 { Kind::Plain } else { Kind::Placed };
+        (depths[usize::from(byte) % depths.len()], kind)
     }
 
     /// A number to ask for: mostly the one given, or a small one, or any.
@@ -95,10 +96,10 @@ impl<'a> Recipe<'a> {
     /// A tree with up to three symbols replaced before they were hashed, and
     /// perhaps with one hash that does not fit.
     pub fn volume(&mut self) -> Volume {
-        let depth = self.made_for();
+        let (depth, kind) = self.made_for();
         let words = self.words(depth);
         let faults: Vec<_> = (0..self.byte() % 4).map(|_| self.symbol(depth)).collect();
-        let mut volume = Volume::miscoded(depth, &words, &faults, &mut self.random());
+        let mut volume = Volume::miscoded_of(kind, depth, &words, &faults, &mut self.random());
         if self.byte() >= 192 {
             let (layer, symbol) = self.symbol(depth);
             volume.break_hash(layer, symbol, self.below(HASH));

@@ -9,12 +9,15 @@ use differential::call::Call;
 use differential::input::Input;
 use differential::library::{by, right, Library};
 use differential::random::Random;
+use differential::recodings::NOT_WHOLE;
 use differential::records::heads::RECORD;
 use differential::records::named::NAMED;
 use differential::results::{outcome, values};
 use differential::tables::cover::COVER;
 use differential::CALLS;
-use reference::table::MAX_DEPTH;
+use reference::kind::KINDS;
+use reference::table::{data_symbols, MAX_DEPTH};
+use reference::tree::place;
 use std::collections::BTreeSet;
 use std::thread;
 
@@ -89,11 +92,11 @@ fn every_outcome_is_reached() {
 }
 
 /// The recipes to begin with come to these for each call that has them: tables that are not
-/// covered, wrong records, tables that a record does not name, and other bytes than zeros that
-/// fill up a block.
+/// covered, wrong records and kinds, tables that a record does not name, trees that are not
+/// recoded, and other bytes than zeros that fill up a block.
 #[test]
 fn seeds_reach_what_tables_and_records_stop() {
-    let numbers = [(COVER.number, 4), (RECORD.number, 4), (NAMED.number, 2)];
+    let numbers = [(COVER.number, 5), (RECORD.number, 6), (NAMED.number, 3), (NOT_WHOLE.number, 1)];
     let numbers = numbers.into_iter().map(|(number, calls)| (outcome(number), calls));
     for (reached, calls) in numbers.chain([(outcome(13 << 8), 1)]) {
         let targets = TARGETS.iter().filter(|target| outcomes(target.call).contains(&reached));
@@ -152,11 +155,25 @@ fn every_depth_is_reached() {
     }
 }
 
+/// By the recipes to begin with, in calls that are done, at each depth.
+#[test]
+fn every_kind_is_reached() {
+    for target in TARGETS.iter().filter(|target| target.call.comes_by_kinds("end 0")) {
+        let done = called(target, seeds(target.call)).filter(|(_, result)| result % 256 == 0);
+        let of_kinds = done.filter_map(|(input, _)| Some((input.size()?, input.kind()? as u32)));
+        let met: BTreeSet<(usize, u32)> = of_kinds.collect();
+        let all = (1..=MAX_DEPTH as usize).flat_map(|depth| KINDS.map(|kind| (depth, kind as u32)));
+        assert_eq!(met, all.collect(), "{}", target.call.name);
+    }
+}
+
 /// Recipes at the deep depths for samples and proofs of the base that break in each layer, the
 /// proofs on the way of the last given member and of the withheld one.
 #[test]
 fn every_layer_of_deep_depths_is_reached() {
-    for (byte, depth) in [(0xf0, 6), (0xf8, 7), (0xfc, 8), (0xfe, 9)] {
+    let plain = [(0xf0, 6), (0xf4, 7), (0xf6, 8), (0xf7, 9)];
+    let placed = plain.map(|(byte, depth)| (byte | 8, depth));
+    for (byte, depth) in plain.into_iter().chain(placed) {
         let all: BTreeSet<usize> = (0..depth).collect();
         let samples =
             (0..2 * depth as u8 - 1).map(|index| vec![0, byte, 0, 0, 0, 5, 0, 0, 3, 1, index, 128]);
@@ -184,13 +201,33 @@ fn damaged_proofs() -> impl Iterator<Item = Vec<u8>> {
     })
 }
 
+/// Recipes for trees to be recoded, of each shallow depth: a symbol of each layer that is absent,
+/// that is a bad copy, or that fails an equation; another filling, and a record of the other kind.
+fn flawed_trees() -> impl Iterator<Item = Vec<u8>> {
+    let depths = [(0, 1), (3, 2), (5, 3), (6, 4), (7, 5)].into_iter();
+    depths.flat_map(|(byte, depth)| {
+        let of = move |faults: &[u8], rest: &[u8]| [&[0, byte, 0], faults, &[0; 4], rest].concat();
+        let in_layers = (0..depth).flat_map(move |layer| {
+            let place = (place(layer, 3) as u32).to_be_bytes();
+            let at = (256 * u32::from_be_bytes(place)).to_be_bytes();
+            let parity = (data_symbols(layer) as u32).to_be_bytes();
+            let absent = of(&[0], &[0, 1, 3, place[1], place[2], place[3], 0]);
+            let bad = of(&[0], &[0, 2, 2, at[1], at[2], at[3], 1]);
+            let replaced = of(&[1, layer as u8, parity[1], parity[2], parity[3]], &[]);
+            [absent, bad, replaced]
+        });
+        let records = [of(&[0], &[200, 5, 0, 0, 0]), of(&[0], &[200, 0, 0])];
+        in_layers.chain(records)
+    })
+}
+
 /// Of the shallow depths.
 #[test]
 fn every_sort_is_reached() {
     for target in TARGETS.iter().filter(|target| target.call.sorts().count() > 0) {
         let shallow = |recipe: &Vec<u8>| recipe.get(1).map_or(true, |&depth| depth < 240);
-        let recipes = some(TRIED / 2).filter(shallow).chain(damaged_proofs());
-        let recipes = recipes.chain(seeds(target.call));
+        let recipes = some(4 * TRIED).filter(shallow).chain(damaged_proofs());
+        let recipes = recipes.chain(flawed_trees()).chain(seeds(target.call));
         let sort = |(input, result): (Input, u64)| target.call.sort(&input, result);
         let met: BTreeSet<String> = called(target, recipes).filter_map(sort).collect();
         let all: BTreeSet<String> = target.call.sorts_at(&[1, 2, 3, 4, 5]).collect();

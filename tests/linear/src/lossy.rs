@@ -4,6 +4,7 @@ use crate::random::mixed;
 use crate::search::{given, Equations};
 use crate::volume::{house, Volume};
 use crate::worst::{self, Chain};
+use reference::kind::Kind;
 use reference::repair::{End, Repaired};
 use reference::table::Layers;
 use reference::tree::{place, symbols};
@@ -76,9 +77,14 @@ impl Lossy {
         Repaired { end: End::Whole, stored }
     }
 
-    /// The tree of a block, without what is lost.
+    /// The tree of a block, as a plain volume, without what is lost.
     pub fn written(&self) -> Volume {
-        let mut volume = Volume::written(&self.layers);
+        self.written_as(Kind::Plain)
+    }
+
+    /// The same as a volume of a kind.
+    pub fn written_as(&self, kind: Kind) -> Volume {
+        let mut volume = Volume::written(kind, &self.layers);
         for (mark, absent) in volume.marks.iter_mut().zip(self.absent.concat()) {
             *mark = u8::from(!absent);
         }

@@ -9,6 +9,7 @@ use linear::lossy::Lossy;
 use linear::search::looked_at;
 use linear::volume::Volume;
 use linear::worst::Chain;
+use reference::kind::Kind;
 use reference::record::RECORD;
 use reference::repair::{output_len, End};
 use reference::table::{equations, Layers};
@@ -22,10 +23,14 @@ const DEPTHS: [usize; 2] = [5, 9];
 const MOST: u64 = 125;
 
 /// A table with what is lost.
-type Kind = (&'static str, fn(usize) -> Lossy);
-const HOUSE: Kind = ("house table", |depth| Lossy::whole(depth, 470));
-const UP: Kind = ("chain upwards", |depth| Lossy::worst(depth, Chain::Up, 470));
-const DOWN: Kind = ("chain downwards", |depth| Lossy::worst(depth, Chain::Down, 470));
+type Losses = (&'static str, fn(usize) -> Lossy);
+const HOUSE: Losses = ("house table", |depth| Lossy::whole(depth, 470));
+const UP: Losses = ("chain upwards", |depth| Lossy::worst(depth, Chain::Up, 470));
+const DOWN: Losses = ("chain downwards", |depth| Lossy::worst(depth, Chain::Down, 470));
+
+/// What is counted: the search is the same of both kinds, so with places one table is enough.
+const COUNTED: [(Kind, Losses); 4] =
+    [(Kind::Plain, HOUSE), (Kind::Plain, UP), (Kind::Plain, DOWN), (Kind::Placed, DOWN)];
 
 /// A function that is counted, by the name that valgrind knows: its call, and what that must give.
 struct Function {
@@ -106,17 +111,18 @@ fn main() -> ExitCode {
 
 /// The figures, where all are as they should be.
 fn count() -> Result<String, String> {
-    let known = counts(&BACK, DOWN)?;
+    let known = counts(&BACK, Kind::Plain, DOWN)?;
     let known_shown = shown("a search that goes back", known);
     if stays_linear(known) {
         return Err(format!("{known_shown}: the counting misses that"));
     }
     let mut figures = Vec::new();
     let mut right = true;
-    for kind in [HOUSE, UP, DOWN] {
-        let found = counts(&REPAIR, kind)?;
+    for (kind, losses) in COUNTED {
+        let found = counts(&REPAIR, kind, losses)?;
         right &= stays_linear(found);
-        figures.push(shown(kind.0, found));
+        let title = if kind == Kind::Placed { "with places, " } else { "" };
+        figures.push(shown(&format!("{title}{}", losses.0), found));
     }
     let line = format!(
         "instructions a symbol at depth {} and {}: {}; refused as it should be: {known_shown}",
@@ -131,17 +137,17 @@ fn count() -> Result<String, String> {
     }
 }
 
-fn counts(function: &Function, (title, of_depth): Kind) -> Result<Counts, String> {
+fn counts(function: &Function, kind: Kind, (title, of_depth): Losses) -> Result<Counts, String> {
     let count_at = |depth| {
-        counted(function, &of_depth(depth))
+        counted(function, kind, &of_depth(depth))
             .map_err(|why| format!("{}, {title}, depth {depth}: {why}", function.name))
     };
     Ok([count_at(DEPTHS[0])?, count_at(DEPTHS[1])?])
 }
 
 /// What valgrind counts in a function, in a process of its own, which gives what it must.
-fn counted(function: &Function, lossy: &Lossy) -> Result<Count, String> {
-    let volume = lossy.written();
+fn counted(function: &Function, kind: Kind, lossy: &Lossy) -> Result<Count, String> {
+    let volume = lossy.written_as(kind);
     let Output { status, stdout, stderr } =
         counting(function.name, &volume).map_err(|error| format!("valgrind: {error}"))?;
     let (printed, said) = (String::from_utf8_lossy(&stdout), String::from_utf8_lossy(&stderr));

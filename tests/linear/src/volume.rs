@@ -1,5 +1,6 @@
 //! Trees of a table.
 
+use reference::kind::Kind;
 use reference::record::RECORD;
 use reference::table::{data_symbols, house_equation, to_bytes, write, Layers};
 use reference::tree::{block_len, tree_symbols, SYMBOL};
@@ -29,18 +30,14 @@ impl Volume {
         }
     }
 
-    /// The tree of a block.
-    pub fn written(layers: &Layers) -> Volume {
+    /// The tree of a block, as a volume of a kind.
+    pub fn written(kind: Kind, layers: &Layers) -> Volume {
         let mut volume = Volume::new(layers);
-        volume.write();
-        volume
-    }
-
-    pub fn write(&mut self) {
-        let (tree, marks, record) = (&mut self.tree, &mut self.marks, &mut self.record);
-        let result =
-            cedunmi_sys::cmt_tree_write(self.depth, &self.table, &self.block, tree, marks, record);
+        let Volume { depth, table, block, tree, marks, record } = &mut volume;
+        let kind = kind as u64;
+        let result = cedunmi_sys::cmt_tree_write(*depth, kind, table, block, tree, marks, record);
         assert_eq!(result, 0);
+        volume
     }
 }
 

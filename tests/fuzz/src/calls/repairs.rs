@@ -1,9 +1,9 @@
-//! Trees to repair, right and miscoded, and proofs that they give.
+//! Trees to repair and to recode, right and miscoded, and proofs that they give.
 
 use super::Target;
 use crate::recipe::Recipe;
 use differential::volumes::Volume;
-use differential::{proofs, repairs};
+use differential::{proofs, recodings, repairs};
 use reference::proof::{Head, HEAD};
 
 /// A head that the table has.
@@ -21,6 +21,17 @@ pub static PROOF_CHECK: Target = Target {
         let proof = volume.proof(head(&volume, recipe));
         let mut input = proofs::of(&volume, proof);
         recipe.damage(&mut input["proof"][HEAD..]);
+        input.set("depth", recipe.asked(volume.depth));
+        recipe.record(&mut input);
+        input
+    },
+};
+
+pub static RECODE: Target = Target {
+    call: &recodings::RECODE,
+    input: |recipe| {
+        let volume = recipe.volume();
+        let mut input = recodings::of(&volume, &mut recipe.random());
         input.set("depth", recipe.asked(volume.depth));
         recipe.record(&mut input);
         input

@@ -7,7 +7,7 @@ use differential::volumes::Volume;
 pub static SAMPLE_TAKE: Target = Target {
     call: &taking::SAMPLE_TAKE,
     input: |recipe| {
-        let made_for = recipe.made_for();
+        let (made_for, _) = recipe.made_for();
         let depth = recipe.asked(made_for);
         let base = recipe.below(base_symbols(made_for) as usize);
         let number = recipe.asked(base);
@@ -20,12 +20,12 @@ pub static SAMPLE_TAKE: Target = Target {
 pub static SAMPLE_CHECK: Target = Target {
     call: &checking::SAMPLE_CHECK,
     input: |recipe| {
-        let made_for = recipe.made_for();
+        let (made_for, kind) = recipe.made_for();
         let depth = recipe.asked(made_for);
         let base = recipe.below(base_symbols(made_for) as usize);
         let number = recipe.asked(base);
         let words = recipe.words(made_for);
-        let volume = Volume::new(made_for, &words, &mut recipe.random());
+        let volume = Volume::miscoded_of(kind, made_for, &words, &[], &mut recipe.random());
         let mut input = checking::sample_of(&volume, base);
         recipe.damage(&mut input["sample"]);
         recipe.record(&mut input);

@@ -9,7 +9,7 @@ use reference::table::to_bytes;
 pub static TABLE_CHECK: Target = Target {
     call: &tables::TABLE_CHECK,
     input: |recipe| {
-        let made_for = recipe.made_for();
+        let (made_for, _) = recipe.made_for();
         let depth = recipe.asked(made_for);
         let words = if recipe.byte() < 32 { Vec::new() } else { recipe.words(made_for) };
         Input::new(&tables::TABLE_CHECK, [depth], [to_bytes(&words)])
@@ -19,7 +19,7 @@ pub static TABLE_CHECK: Target = Target {
 pub static HOUSE_TABLE: Target = Target {
     call: &tables::HOUSE_TABLE,
     input: |recipe| {
-        let made_for = recipe.made_for();
+        let (made_for, _) = recipe.made_for();
         let depth = recipe.asked(made_for);
         let len = recipe.asked(house_len(made_for)).min(1 << 18);
         to_fill(depth, len as usize, &mut Random::new(depth))
