@@ -3,9 +3,12 @@
  * through the library, and comes out as it is stored, byte for byte. A library
  * whose largest depth was 5 wrote them, when a root had no head: what follows the
  * head in their records is the root that was stored then. And of depth 1 a volume
- * that is shorter than there is room for, which no library wrote before.
+ * that is shorter than there is room for, which no library wrote before. They are
+ * plain, as all volumes were then; beside each is the same volume with places, and
+ * each of the two is the other recoded.
  *
- *     stored FOLDER    the folder that has depth-1 to depth-5 and depth-1-short
+ *     stored FOLDER    the folder that has depth-1 to depth-5 and depth-1-short, and
+ *                      depth-1-placed to depth-5-placed and depth-1-short-placed
  */
 #include "volume.h"
 
@@ -15,7 +18,7 @@
 enum { DEPTHS = 5, PATH = 256, NAME = 32, TEXT = 262144, ROW = 16, SYMBOL = 256, UNTOUCHED = 0x5a };
 
 /* The files of a volume: its bytes, the base symbol of its sample, its repairs, and the SHA-256 of the roots that were
- * stored without a head: its own, and that of the last repair. */
+ * stored without a head, of the plain one: its own, and that of the last repair. */
 static const struct form {
     const char *folder;
     uint64_t depth;
@@ -43,6 +46,7 @@ static const struct form {
 
 static const char *folder;
 static const struct form *form;
+static uint64_t kind;
 static int wrong;
 
 /* What is stored; what the library writes, or is lent to be changed; what it should leave. */
@@ -51,10 +55,16 @@ static uint8_t sample[CMT_SAMPLE_BYTES(DEPTHS)], taken[CMT_SAMPLE_BYTES(DEPTHS)]
 static uint8_t proof[CMT_OUTPUT_BYTES(DEPTHS)];
 static uint8_t text[TEXT + 1];
 
+/* What the folder of a volume with places has after its name. */
+static const char *placed(void)
+{
+    return kind == CMT_KIND_PLAIN ? "" : "-placed";
+}
+
 static void must(int right, const char *part, const char *what)
 {
     if (!right) {
-        printf("stored: %s%s%s: %s\n", form->folder, *part ? ", " : "", part, what);
+        printf("stored: %s%s%s%s: %s\n", form->folder, placed(), *part ? ", " : "", part, what);
         wrong = 1;
     }
 }
@@ -63,7 +73,7 @@ static void must(int right, const char *part, const char *what)
 static size_t load(const char *part, const char *name, uint8_t *bytes, size_t most, int *there)
 {
     char path[PATH];
-    snprintf(path, sizeof path, "%s/%s/%s%s%s", folder, form->folder, part, *part ? "/" : "", name);
+    snprintf(path, sizeof path, "%s/%s%s/%s%s%s", folder, form->folder, placed(), part, *part ? "/" : "", name);
     FILE *file = fopen(path, "rb");
     size_t len = file == NULL ? 0 : fread(bytes, 1, most, file);
     *there = file != NULL && fgetc(file) == EOF;
@@ -135,12 +145,12 @@ static void tree_of(const char *part, const char *name, uint8_t *tree)
     }
 }
 
-/* The root in a record is that of this SHA-256, where it was stored without a head. */
+/* The root in a record is that of this SHA-256, where it was stored without a head, plain. */
 static void has_root(const char *part, const uint8_t *record, const char *sum)
 {
     uint8_t digest[CMT_SHA256_DIGEST_BYTES];
     must(cmt_sha256(record + CMT_RECORD_HEAD_BYTES, CMT_ROOT_BYTES, digest, sizeof digest) == CMT_DONE, part, "a digest");
-    for (size_t i = 0; sum != NULL && i < sizeof digest; i++) {
+    for (size_t i = 0; sum != NULL && kind == CMT_KIND_PLAIN && i < sizeof digest; i++) {
         must(digits((const uint8_t *)sum + 2 * i, 2) == digest[i], part, "the root is not the one that was stored");
     }
 }
@@ -154,7 +164,7 @@ static void is_written(void)
     must(volume_house_table(&used) == CMT_DONE && memcmp(used.table, stored.table, CMT_HOUSE_TABLE_BYTES(d)) == 0, "",
          "the table comes out otherwise");
     must(cmt_table_check(d, stored.table, CMT_HOUSE_TABLE_BYTES(d)) == CMT_DONE, "", "the table is not taken");
-    must(cmt_tree_write(d, stored.table, CMT_HOUSE_TABLE_BYTES(d), stored.block, stored.block_len, used.tree,
+    must(cmt_tree_write(d, kind, stored.table, CMT_HOUSE_TABLE_BYTES(d), stored.block, stored.block_len, used.tree,
                         CMT_TREE_BYTES(d), used.marks, CMT_MARKS_BYTES(d), used.record, sizeof used.record) == CMT_DONE,
          "", "the volume is not coded");
     must(memcmp(used.tree, stored.tree, CMT_TREE_BYTES(d)) == 0, "", "the tree comes out otherwise");
@@ -178,6 +188,22 @@ static void is_read(unsigned number)
          "the sample is not accepted");
     must(cmt_sample_check(d, number, root, CMT_ROOT_BYTES, sample, CMT_SAMPLE_BYTES(d)) == CMT_WRONG_LENGTH, "",
          "a root is taken as a record");
+}
+
+/* The stored tree is recoded to the stored one of the other kind. */
+static void is_recoded(void)
+{
+    const uint64_t d = stored.depth;
+    memset(used.tree, UNTOUCHED, sizeof used.tree);
+    must(volume_recode(&stored, &used) == CMT_DONE, "", "the tree is not recoded");
+    kind = CMT_KIND_PLAIN + CMT_KIND_PLACED - kind;
+    exactly("", "tree", after.tree, CMT_TREE_BYTES(d));
+    exactly("", "marks", after.marks, CMT_MARKS_BYTES(d));
+    exactly("", "record", after.record, sizeof after.record);
+    must(memcmp(used.tree, after.tree, CMT_TREE_BYTES(d)) == 0, "", "another tree is recoded to this");
+    must(memcmp(used.marks, after.marks, CMT_MARKS_BYTES(d)) == 0, "", "other marks are recoded to these");
+    must(memcmp(used.record, after.record, sizeof used.record) == 0, "", "another record is recoded to this");
+    kind = CMT_KIND_PLAIN + CMT_KIND_PLACED - kind;
 }
 
 /* A repair's report as the file has it: the result that it stands for, and the names of the files with what is left. */
@@ -233,7 +259,7 @@ static void is_repaired(const char *part)
     must(memcmp(used.output, after.output, sizeof used.output) == 0, part, "the repair leaves another output");
 }
 
-/* All files of a form. The rest of the volume's buffer is as that which it is read back into. */
+/* All files of a form, of the kind. The rest of the volume's buffer is as that which it is read back into. */
 static void form_is_right(void)
 {
     const uint64_t d = form->depth;
@@ -251,6 +277,7 @@ static void form_is_right(void)
     exactly("", name, sample, CMT_SAMPLE_BYTES(d));
     is_written();
     is_read(form->sampled);
+    is_recoded();
     for (size_t i = 0; i < 3 && form->repairs[i] != NULL; i++) {
         is_repaired(form->repairs[i]);
     }
@@ -264,10 +291,13 @@ int main(int count, char **words)
     }
     folder = words[1];
     for (form = forms; form < forms + sizeof forms / sizeof *forms; form++) {
+        kind = CMT_KIND_PLAIN;
+        form_is_right();
+        kind = CMT_KIND_PLACED;
         form_is_right();
     }
     if (!wrong) {
-        printf("stored: forms of depth 1 to %d are read, and come out as they are stored\n", DEPTHS);
+        printf("stored: forms of depth 1 to %d, of both kinds, are read, and come out as they are stored\n", DEPTHS);
     }
     return wrong;
 }

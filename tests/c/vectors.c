@@ -23,7 +23,8 @@ struct damage {
     int junk;
 };
 
-/* A folder's vectors, of a volume of so many bytes. Where a tree is large, a damaged one is written as changes. */
+/* A folder's vectors, of a volume of so many bytes; those of one with places have a folder beside it. Where a tree is
+ * large, a damaged one is written as changes. */
 struct vectors {
     const char *folder;
     uint64_t depth;
@@ -79,7 +80,8 @@ static void must(int done, const char *what)
 static const char *path(const char *folder, const char *name)
 {
     static char text[PATH];
-    snprintf(text, sizeof text, "%s%s%s/%s", folder_of_all, *folder ? "/" : "", folder, name);
+    snprintf(text, sizeof text, "%s%s%s%s/%s", folder_of_all, right.kind == CMT_KIND_PLAIN ? "" : "-placed",
+             *folder ? "/" : "", folder, name);
     return text;
 }
 
@@ -142,9 +144,10 @@ static size_t print_hash(char *text, const char *label, uint8_t before, const ui
 /* The record as it is printed. */
 static void save_print(void)
 {
-    static const struct {
+    const char *kind = cmt_record_kind(right.record) == CMT_KIND_PLAIN ? " plain" : " placed";
+    const struct {
         const char *word, *unit;
-    } heads[] = {{"depth", ""}, {"length", " bytes"}, {"table", " words"}};
+    } heads[] = {{"depth", kind}, {"length", " bytes"}, {"table", " words"}};
     char text[2048], said[64], label[12] = "T";
     size_t len = 0;
     for (uint8_t i = 0; i < 3; i++) {
@@ -164,13 +167,14 @@ static void save_print(void)
     save("", "record.txt", text, len);
 }
 
-/* The volume, coded as it should be, and a sample. */
-static void save_right(const struct vectors *v)
+/* The volume, coded as it should be as one of a kind, and a sample. */
+static void save_right(const struct vectors *v, uint64_t kind)
 {
     static uint8_t sample[CMT_SAMPLE_BYTES(CMT_DEPTH_MAX)];
     char name[PATH];
     folder_of_all = v->folder;
     must(volume_begin(&right, v->depth) == CMT_DONE, "the table");
+    right.kind = kind;
     right.block_len = v->length;
     for (size_t i = 0; i < CMT_BLOCK_BYTES(v->depth); i++) {
         right.block[i] = (uint8_t)(i + i / SYMBOL);
@@ -295,13 +299,19 @@ static void code_misfilled(void)
     memcpy(lent.record, right.record, CMT_RECORD_HEAD_BYTES);
 }
 
+static void save_all(const struct vectors *v, uint64_t kind)
+{
+    save_right(v, kind);
+    for (size_t j = 0; j < 3 && v->damages[j].name != NULL; j++) {
+        save_repair(&v->damages[j], v->large && v->damages[j].code != code_wrongly);
+    }
+}
+
 int main(void)
 {
     for (size_t i = 0; i < sizeof ALL / sizeof *ALL; i++) {
-        save_right(&ALL[i]);
-        for (size_t j = 0; j < 3 && ALL[i].damages[j].name != NULL; j++) {
-            save_repair(&ALL[i].damages[j], ALL[i].large && ALL[i].damages[j].code != code_wrongly);
-        }
+        save_all(&ALL[i], CMT_KIND_PLAIN);
+        save_all(&ALL[i], CMT_KIND_PLACED);
     }
     return failed;
 }
