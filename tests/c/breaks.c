@@ -1,7 +1,7 @@
 /*
  * Where a path breaks: samples and proofs at depths 1, 3, 5 and 9, with damage whose
- * layer, and of a proof whose position, were worked out by hand. Each is as before
- * when the damage is undone.
+ * layer, and of a proof whose position, were worked out by hand, which are the same in
+ * both kinds of volume. Each is as before when the damage is undone.
  */
 #include "parts.h"
 #include "volume.h"
@@ -12,6 +12,7 @@
 #define DAMAGES 3
 
 static struct volume volume;
+static uint64_t kind;
 static uint8_t sample[CMT_SAMPLE_BYTES(CMT_DEPTH_MAX)];
 
 /* So many bytes of pages, a bit of each of which is changed, or changed back. */
@@ -38,7 +39,9 @@ static int breaks(uint64_t result, uint64_t layer, uint64_t position)
 
 static int begin(uint64_t depth)
 {
-    return volume_begin(&volume, depth) == CMT_DONE && volume_write(&volume) == CMT_DONE;
+    int begun = volume_begin(&volume, depth) == CMT_DONE;
+    volume.kind = kind;
+    return begun && volume_write(&volume) == CMT_DONE;
 }
 
 static int take(uint64_t number)
@@ -331,5 +334,11 @@ int main(void)
         {"some pages of a proof", of_some_pages},
         {"proofs and the root", of_proofs_by_the_root},
     };
-    return run_parts("breaks", parts, sizeof parts / sizeof *parts);
+    const size_t count = sizeof parts / sizeof *parts;
+    kind = CMT_KIND_PLACED;
+    if (run_parts("breaks, with places", parts, count) != 0) {
+        return 1;
+    }
+    kind = CMT_KIND_PLAIN;
+    return run_parts("breaks, plain", parts, count);
 }

@@ -11,7 +11,7 @@
 
 enum { SYMBOL = 256, SYMBOLS = 16, PROOF = 780 };
 
-static struct volume volume;
+static struct volume volume, other;
 
 static int all_bytes(const uint8_t *symbol, uint8_t byte)
 {
@@ -117,8 +117,11 @@ static int stops_at(uint64_t depth)
     const size_t table = CMT_HOUSE_TABLE_BYTES(1), tree = CMT_TREE_BYTES(1);
     return cmt_house_table(depth, volume.table, table) == CMT_WRONG_DEPTH &&
            cmt_table_check(depth, volume.table, table) == CMT_WRONG_DEPTH &&
-           cmt_tree_write(depth, volume.table, table, volume.block, CMT_BLOCK_BYTES(1), volume.tree, tree, volume.marks,
+           cmt_tree_write(depth, volume.kind, volume.table, table, volume.block, CMT_BLOCK_BYTES(1), volume.tree, tree, volume.marks,
                           SYMBOLS, volume.record, sizeof volume.record) == CMT_WRONG_DEPTH &&
+           cmt_recode(depth, volume.record, sizeof volume.record, volume.table, table, volume.tree, tree, volume.marks,
+                      SYMBOLS, other.tree, tree, other.marks, SYMBOLS, other.record, sizeof other.record) ==
+               CMT_WRONG_DEPTH &&
            cmt_block_read(depth, volume.record, sizeof volume.record, volume.tree, tree, volume.marks, SYMBOLS, volume.block,
                           CMT_BLOCK_BYTES(1)) == CMT_WRONG_DEPTH &&
            cmt_sample_take(depth, 0, volume.tree, tree, volume.marks, SYMBOLS, sample, sizeof sample) ==

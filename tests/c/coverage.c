@@ -9,7 +9,7 @@
 
 #include <string.h>
 
-static struct volume volume, before;
+static struct volume volume, before, recoded;
 
 /* The result of a call that stops with 10. */
 static uint64_t uncovered(uint64_t layer, uint64_t page)
@@ -90,13 +90,13 @@ static int first_is_named(void)
     return right && table_check() == uncovered(1, 4);
 }
 
-/* Whether all four calls stop so, and change nothing. The proof is a head with no right kind. */
+/* Whether all five calls stop so, and change nothing. The proof is a head with no right kind. */
 static int all_stop(uint64_t result)
 {
     memcpy(&before, &volume, sizeof before);
     return table_check() == result && volume_write(&volume) == result &&
            volume_check(&volume, CMT_PROOF_HEAD_BYTES) == result && volume_repair(&volume) == result &&
-           memcmp(&before, &volume, sizeof before) == 0;
+           volume_recode(&volume, &recoded) == result && memcmp(&before, &volume, sizeof before) == 0;
 }
 
 /* A coded volume with a mark and a proof's head that are wrong too, and this page in one equation. */
@@ -187,7 +187,7 @@ static int longest_are_taken(void)
         put_longest(depth);
         right &= words == 108 * (((size_t)1 << depth) - 1) + depth - 5;
         right &= volume_begin(&volume, depth) == CMT_DONE && cmt_table_check(depth, longest, 4 * words) == CMT_DONE &&
-                 cmt_tree_write(depth, longest, 4 * words, volume.block, CMT_BLOCK_BYTES(depth), volume.tree, tree,
+                 cmt_tree_write(depth, volume.kind, longest, 4 * words, volume.block, CMT_BLOCK_BYTES(depth), volume.tree, tree,
                                 volume.marks, marks, volume.record, sizeof volume.record) == CMT_DONE;
         memcpy(&before, &volume, sizeof before);
         volume.marks[marks - 1] = 0;

@@ -121,7 +121,7 @@ struct room {
     size_t bytes;
 };
 
-enum { RECORD, TABLE, TREE, MARKS, OUTPUT, BLOCK, ROOMS };
+enum { RECORD, TABLE, TREE, MARKS, OUTPUT, BLOCK, NEW_TREE, NEW_MARKS, NEW_RECORD, ROOMS };
 
 static struct room rooms[ROOMS];
 
@@ -129,7 +129,8 @@ static void make_rooms(void)
 {
     const size_t bytes[ROOMS] = {CMT_RECORD_BYTES, CMT_TABLE_BYTES_MAX, CMT_TREE_BYTES(CMT_DEPTH_MAX),
                                  CMT_MARKS_BYTES(CMT_DEPTH_MAX), CMT_OUTPUT_BYTES(CMT_DEPTH_MAX),
-                                 CMT_BLOCK_BYTES(CMT_DEPTH_MAX)};
+                                 CMT_BLOCK_BYTES(CMT_DEPTH_MAX), CMT_TREE_BYTES(CMT_DEPTH_MAX),
+                                 CMT_MARKS_BYTES(CMT_DEPTH_MAX), CMT_RECORD_BYTES};
     for (int i = 0; i < ROOMS; i++) {
         rooms[i].bytes = (bytes[i] / PAGE + 1) * PAGE;
         rooms[i].start = fenced(rooms[i].bytes);
@@ -151,7 +152,8 @@ struct lengths {
 static struct lengths lengths_at(uint64_t depth)
 {
     const struct lengths right = {{CMT_RECORD_BYTES, CMT_HOUSE_TABLE_BYTES(depth), CMT_TREE_BYTES(depth),
-                                   CMT_MARKS_BYTES(depth), CMT_OUTPUT_BYTES(depth), CMT_BLOCK_BYTES(depth)}};
+                                   CMT_MARKS_BYTES(depth), CMT_OUTPUT_BYTES(depth), CMT_BLOCK_BYTES(depth),
+                                   CMT_TREE_BYTES(depth), CMT_MARKS_BYTES(depth), CMT_RECORD_BYTES}};
     return right;
 }
 
@@ -206,6 +208,7 @@ static int lend_volumes(void)
     for (uint64_t depth = 1; depth <= CMT_DEPTH_MAX; depth++) {
         for (size_t lost = 0; lost < 16; lost += 5) {
             expect(CMT_DONE, volume_begin(&v, depth));
+            v.kind = (depth + lost) % 2;
             expect(CMT_DONE, volume_write(&v));
             for (size_t place = 0; place < CMT_MARKS_BYTES(depth); place++) {
                 v.marks[place] = place % 16 >= lost;
@@ -225,7 +228,7 @@ static uint64_t lend_block(struct volume *v, struct lengths len, int at_end)
 {
     uint8_t *tree = copy(TREE, at_end, v->tree, len.of[TREE]), *marks = copy(MARKS, at_end, v->marks, len.of[MARKS]);
     uint8_t *record = copy(RECORD, at_end, v->record, len.of[RECORD]);
-    uint64_t result = cmt_tree_write(v->depth, copy(TABLE, at_end, v->table, len.of[TABLE]), len.of[TABLE],
+    uint64_t result = cmt_tree_write(v->depth, v->kind, copy(TABLE, at_end, v->table, len.of[TABLE]), len.of[TABLE],
                                      copy(BLOCK, at_end, v->block, len.of[BLOCK]), len.of[BLOCK], tree, len.of[TREE], marks,
                                      len.of[MARKS], record, len.of[RECORD]);
     memcpy(v->tree, tree, len.of[TREE]);
@@ -256,6 +259,37 @@ static uint64_t lend_sample(const struct volume *v, struct lengths len, int at_e
                             copy(OUTPUT, at_end, sample, CMT_SAMPLE_BYTES(v->depth)), CMT_SAMPLE_BYTES(v->depth));
 }
 
+/* Recodes a copy of a coded volume; where that is done, its base must be the volume's. */
+static uint64_t lend_recoding(const struct volume *v, struct lengths len, int at_end)
+{
+    static const uint8_t new_before[CMT_TREE_BYTES(CMT_DEPTH_MAX)];
+    const size_t base = CMT_TREE_BYTES(v->depth - 1), bytes = CMT_TREE_BYTES(v->depth) - base;
+    uint8_t *tree = copy(NEW_TREE, at_end, new_before, len.of[NEW_TREE]);
+    uint64_t result = cmt_recode(v->depth, copy(RECORD, at_end, v->record, len.of[RECORD]), len.of[RECORD],
+                                 copy(TABLE, at_end, v->table, len.of[TABLE]), len.of[TABLE],
+                                 copy(TREE, at_end, v->tree, len.of[TREE]), len.of[TREE],
+                                 copy(MARKS, at_end, v->marks, len.of[MARKS]), len.of[MARKS], tree, len.of[NEW_TREE],
+                                 copy(NEW_MARKS, at_end, new_before, len.of[NEW_MARKS]), len.of[NEW_MARKS],
+                                 copy(NEW_RECORD, at_end, new_before, len.of[NEW_RECORD]), len.of[NEW_RECORD]);
+    another |= result == CMT_DONE && memcmp(tree + base, v->tree + base, bytes) != 0;
+    return result;
+}
+
+/* Lends a coded volume to be recoded, with right lengths, with each a byte shorter, and where it is not whole. */
+static void lend_recodings(struct volume *v, int at_end)
+{
+    const struct lengths right = lengths_at(v->depth);
+    expect(CMT_DONE, lend_recoding(v, right, at_end));
+    for (int cut = RECORD; cut < ROOMS; cut++) {
+        struct lengths shorter = right;
+        shorter.of[cut]--;
+        expect(cut == OUTPUT || cut == BLOCK ? CMT_DONE : CMT_WRONG_LENGTH, lend_recoding(v, shorter, at_end));
+    }
+    v->marks[CMT_MARKS_BYTES(v->depth) - 1] = 0;
+    expect(CMT_NOT_WHOLE, lend_recoding(v, right, at_end));
+    v->marks[CMT_MARKS_BYTES(v->depth) - 1] = 1;
+}
+
 /* Lends a block of this length, and what comes of it, with right lengths and with each a byte shorter. */
 static void lend_length(struct volume *v, size_t block_len, int at_end)
 {
@@ -265,7 +299,7 @@ static void lend_length(struct volume *v, size_t block_len, int at_end)
     expect(CMT_DONE, lend_block(v, coded, at_end));
     expect(CMT_DONE, lend_reading(v, right, at_end));
     expect(CMT_DONE, lend_sample(v, right, at_end));
-    for (int cut = RECORD; cut < ROOMS; cut++) {
+    for (int cut = RECORD; cut <= BLOCK; cut++) {
         struct lengths shorter = right;
         shorter.of[cut]--;
         int read = cut == TABLE || cut == OUTPUT;
@@ -284,8 +318,11 @@ static void lend_lengths(void)
         const size_t most = CMT_BLOCK_BYTES(depth), lens[] = {0, 1, 255, 256, 257, most - 256, most - 1, most};
         for (size_t i = 0; i < sizeof lens / sizeof *lens; i++) {
             expect(CMT_DONE, volume_begin(&v, depth));
+            v.kind = i % 2;
             lend_length(&v, lens[i], 0);
+            lend_recodings(&v, 0);
             lend_length(&v, lens[i], 1);
+            lend_recodings(&v, 1);
         }
     }
 }

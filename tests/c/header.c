@@ -4,8 +4,8 @@
  * house table's first wrong word where one is put, and 01's cases of repair. Its
  * lengths at the largest depth and its words for numbers and ends are as they
  * should be, both values of a result come out of it, a record's head says what was
- * written, a repair that stopped has no end, and the version's text is that of its
- * numbers.
+ * written, a repair that stopped has no end, twins have a place, volumes of both
+ * kinds are recoded, and the version's text is that of its numbers.
  */
 #include "cedunmi.h"
 #include "cedunmi.h"
@@ -144,6 +144,7 @@ static int head_is(const uint64_t *words, uint64_t depth, uint64_t length, uint6
     }
     return cmt_record_word(volume.record, 0) == words[0] && cmt_record_word(volume.record, 1) == words[1] &&
            cmt_record_word(volume.record, 2) == words[2] && cmt_record_depth(volume.record) == depth &&
+           cmt_record_kind(volume.record) == words[0] / 1073741824 &&
            cmt_record_length(volume.record) == length && cmt_record_table_bytes(volume.record) == table_bytes;
 }
 
@@ -156,9 +157,10 @@ static int heads_are_taken(uint64_t depth, uint64_t length)
         for (uint64_t other = 0; other < 4; other++) {
             uint64_t tried[3] = {words[0], words[1], words[2]};
             tried[at] = other * kind + words[at] % kind;
-            int taken = other == at + 1 && depth >= 1 && depth <= CMT_DEPTH_MAX && length <= CMT_BLOCK_BYTES(depth);
+            int kind_is_right = other == at + 1 || (at == 0 && other == CMT_KIND_PLACED);
+            int taken = kind_is_right && depth >= 1 && depth <= CMT_DEPTH_MAX && length <= CMT_BLOCK_BYTES(depth);
             right &= head_is(tried, taken ? depth : 0, length, 244);
-            right &= depth != 1 || (volume_repair(&volume) == CMT_WRONG_RECORD) == !taken;
+            right &= depth != 1 || (volume_read(&volume) == CMT_WRONG_RECORD) == !taken;
         }
     }
     return right;
@@ -168,6 +170,7 @@ static int heads_are_right(void)
 {
     const uint64_t most[3] = {2147483647, 3221225471, 4294967295};
     int right = cases_tree() && cmt_record_depth(volume.record) == 1 && cmt_record_length(volume.record) == 1024 &&
+                cmt_record_kind(volume.record) == CMT_KIND_PLAIN &&
                 cmt_record_table_bytes(volume.record) == CMT_HOUSE_TABLE_BYTES(1);
     for (uint64_t depth = 0; depth <= CMT_DEPTH_MAX + 1; depth++) {
         const uint64_t k = depth < 1 ? 1 : CMT_BLOCK_BYTES(depth);
@@ -190,6 +193,31 @@ static int ends_have_room(void)
            cmt_repair_layer(unavailable) == 65535 && cmt_repair_proof_bytes(unavailable) == 0 &&
            cmt_repair_end(misfilled) == CMT_MISFILLED && cmt_repair_stored(misfilled) == 65535 &&
            cmt_repair_proof_bytes(misfilled) == 0 && cmt_repair_layer(misfilled) == 0;
+}
+
+/* The place that twins name: the least, where it is none, and the last of the largest depth. */
+static int twins_have_a_place(void)
+{
+    const uint64_t twins = 256 * CMT_TWINS, step = UINT64_C(281474976710656), last = twins + step * (8 * 4096 + 4095);
+    const uint64_t fault = 256 * CMT_FAULT + step * 18188;
+    return cmt_repair_twins_layer(twins) == 0 && cmt_repair_twins_number(twins) == 0 && cmt_repair_twins_layer(last) == 8 &&
+           cmt_repair_twins_number(last) == 4095 && cmt_repair_end(last) == CMT_TWINS && cmt_repair_layer(last) == 0 &&
+           cmt_repair_proof_bytes(last) == 0 && cmt_repair_stored(last + step / 65536 * 7) == 7 &&
+           cmt_repair_twins_layer(fault) == 0 && cmt_repair_twins_number(fault) == 0 &&
+           cmt_repair_twins_layer(CMT_WRONG_DEPTH + last) == 0 && cmt_repair_twins_number(CMT_WRONG_DEPTH + last) == 0;
+}
+
+/* 01's tree, recoded, is that of the other kind; with a page that is absent it is not whole. */
+static int recodings_are_right(void)
+{
+    static struct volume placed, new_one;
+    int right = cases_tree() && volume_begin(&placed, 1) == CMT_DONE;
+    placed.kind = CMT_KIND_PLACED;
+    right &= volume_write(&placed) == CMT_DONE && volume_recode(&volume, &new_one) == CMT_DONE;
+    right &= memcmp(placed.record, new_one.record, sizeof placed.record) == 0 && cmt_record_depth(placed.record) == 1 &&
+             cmt_record_kind(placed.record) == CMT_KIND_PLACED && CMT_PLACE_BYTES == 4;
+    placed.marks[15] = 0;
+    return right && volume_recode(&placed, &new_one) == CMT_NOT_WHOLE && CMT_NOT_WHOLE == 14;
 }
 
 /* Lengths at the largest depth, which constants can hold, and how much stack each depth is said to need. */
@@ -231,9 +259,11 @@ static int texts_are_right(void)
         {CMT_WRONG_RECORD,
          "the record's head has a wrong kind, a length that is too large, or another depth than the call's"},
         {CMT_OTHER_TABLE, "the table is not the one that the record names"},
+        {CMT_MISFILLED, none},
+        {CMT_NOT_WHOLE, "the tree is not whole as it is, so it is not recoded"},
     };
     const uint64_t known = sizeof numbers / sizeof *numbers;
-    int right = known == 13 && strcmp(cmt_explain(UINT64_MAX), none) == 0;
+    int right = known == 15 && strcmp(cmt_explain(UINT64_MAX), none) == 0;
     for (uint64_t number = 0; number < 512; number++) {
         const char *text = number < known ? numbers[number].text : none;
         right &= (number >= known || numbers[number].of == number) && strcmp(cmt_explain(number), text) == 0;
@@ -248,7 +278,7 @@ static int end_texts_are_right(void)
         {CMT_WHOLE, "whole: every page is held, and the tree agrees with the record and the table"},
         {CMT_FAULT, "fault: the volume was not coded as the table says"},
         {CMT_UNAVAILABLE, "unavailable: no equation gives another page of the layer"},
-        {CMT_TWINS, "twins: two different pages of equal SHA-256 were found"},
+        {CMT_TWINS, "twins: two different pages of equal hash were found"},
         {CMT_MISFILLED,
          "misfilled: every page is held, and the tree agrees with the root and the table, but what fills up the volume "
          "isn't zero"},
@@ -298,6 +328,8 @@ int main(void)
         {"repairs and proofs", repairs_are_right},
         {"repairs that stop", stops_have_no_end},
         {"ends", ends_have_room},
+        {"twins", twins_have_a_place},
+        {"recodings", recodings_are_right},
         {"the words for numbers", texts_are_right},
         {"the words for ends", end_texts_are_right},
         {"the version", version_is_right},

@@ -1,8 +1,8 @@
 /*
  * The record: what is written into it of volumes of any length, and what comes back
  * by it; each bit of its head, lent to the calls that take it; the places of its two
- * tests among the others; and volumes that are not filled up with zeros. Wrong
- * functions are tried first, and each must be found by its own part.
+ * tests among the others; and volumes that are not filled up with zeros: all of both
+ * kinds. Wrong functions are tried first, and each must be found by its own part.
  */
 #include "parts.h"
 #include "record_calls.h"
@@ -10,13 +10,14 @@
 enum { LENGTHS = 8, BEFORE = 0xa5 };
 
 static const struct calls *calls = &library;
+static uint64_t kind;
 static struct volume volume, whole, before;
 static uint8_t sample[CMT_SAMPLE_BYTES(CMT_DEPTH_MAX)];
 
 /* The calls over the volume; the sample is that of base page 0, and the proof the first bytes of the output. */
 static uint64_t code(void)
 {
-    return calls->write(volume.depth, volume.table, CMT_HOUSE_TABLE_BYTES(volume.depth), volume.block, volume.block_len,
+    return calls->write(volume.depth, volume.kind, volume.table, CMT_HOUSE_TABLE_BYTES(volume.depth), volume.block, volume.block_len,
                         volume.tree, CMT_TREE_BYTES(volume.depth), volume.marks, CMT_MARKS_BYTES(volume.depth),
                         volume.record, sizeof volume.record);
 }
@@ -61,6 +62,7 @@ static size_t length_at(uint64_t depth, size_t i)
 static int begin(uint64_t depth, size_t length)
 {
     int begun = volume_begin(&volume, depth) == CMT_DONE;
+    volume.kind = kind;
     volume.block_len = length;
     memset(volume.tree, BEFORE, sizeof volume.tree);
     memset(volume.marks, BEFORE, sizeof volume.marks);
@@ -89,7 +91,7 @@ static int all_are(const uint8_t *bytes, size_t from, size_t past, uint8_t byte)
 static int head_is_right(void)
 {
     uint8_t head[CMT_RECORD_BYTES];
-    put_word(head, 0, 1, (size_t)volume.depth);
+    put_word(head, 0, (size_t)kind, (size_t)volume.depth);
     put_word(head, 1, 2, volume.block_len);
     return record_name(head, volume.table, CMT_HOUSE_TABLE_BYTES(volume.depth)) == CMT_DONE &&
            memcmp(head, volume.record, CMT_RECORD_HEAD_BYTES) == 0;
@@ -100,6 +102,7 @@ static int is_filled_up(void)
 {
     const uint64_t depth = volume.depth;
     int right = volume_begin(&whole, depth) == CMT_DONE;
+    whole.kind = kind;
     memset(whole.block + volume.block_len, 0, CMT_BLOCK_BYTES(depth) - volume.block_len);
     return right && volume_write(&whole) == CMT_DONE && memcmp(volume.tree, whole.tree, CMT_TREE_BYTES(depth)) == 0 &&
            memcmp(volume.marks, whole.marks, CMT_MARKS_BYTES(depth)) == 0 &&
@@ -158,10 +161,10 @@ static int filling_is_needed(void)
 /* What the calls that look at the head alone must give for the record as it is, and those that take a table too. */
 static uint64_t by_the_head(void)
 {
-    const uint64_t kind = 1073741824, depth = cmt_record_word(volume.record, 0), count = cmt_record_word(volume.record, 2);
+    const uint64_t step = 1073741824, depth = cmt_record_word(volume.record, 0), count = cmt_record_word(volume.record, 2);
     const uint64_t length = cmt_record_word(volume.record, 1);
-    const int right = depth == kind + volume.depth && length >= 2 * kind &&
-                      length <= 2 * kind + CMT_BLOCK_BYTES(volume.depth) && count >= 3 * kind;
+    const int right = (depth == volume.depth || depth == step + volume.depth) && length >= 2 * step &&
+                      length <= 2 * step + CMT_BLOCK_BYTES(volume.depth) && count >= 3 * step;
     return right ? CMT_DONE : CMT_WRONG_RECORD;
 }
 
@@ -171,15 +174,25 @@ static uint64_t by_the_table(void)
     return head != CMT_DONE || memcmp(volume.record + 8, before.record + 8, 36) == 0 ? head : CMT_OTHER_TABLE;
 }
 
-/* The volume is full to its half: a length in that half leaves other bytes than zeros after it. */
+/* The volume is full to its half: a length in that half leaves other bytes than zeros after it. By a record of the other
+ * kind no page fits: a sample breaks at the base, and a repair takes away all of layer 0, which is put back. */
 static int answers_are_right(void)
 {
     const uint64_t head = by_the_head(), table = by_the_table();
-    const uint64_t end = cmt_record_length(volume.record) < volume.block_len ? CMT_MISFILLED : CMT_WHOLE;
+    const int other = head == CMT_DONE && cmt_record_kind(volume.record) != kind;
+    const uint64_t filled = cmt_record_length(volume.record) < volume.block_len ? CMT_MISFILLED : CMT_WHOLE;
+    const uint64_t end = other ? (uint64_t)CMT_UNAVAILABLE : filled;
+    const uint64_t sampled = other ? CMT_WRONG_HASH + 256 * (volume.depth - 1) : head;
     const uint8_t *record = volume.record;
-    return sample_with(record, CMT_RECORD_BYTES, 0) == head && read_with(record, CMT_RECORD_BYTES) == head &&
-           proof_with(record, CMT_RECORD_BYTES) == (table == CMT_DONE ? (uint64_t)CMT_WRONG_HEAD : table) &&
-           repair_with(record, CMT_RECORD_BYTES) == (table == CMT_DONE ? 256 * end : table);
+    int right = sample_with(record, CMT_RECORD_BYTES, 0) == sampled && read_with(record, CMT_RECORD_BYTES) == head &&
+                proof_with(record, CMT_RECORD_BYTES) == (table == CMT_DONE ? (uint64_t)CMT_WRONG_HEAD : table) &&
+                repair_with(record, CMT_RECORD_BYTES) == (table == CMT_DONE ? 256 * end : table);
+    if (other && table == CMT_DONE) {
+        right &= all_are(volume.marks, 0, 16, 0) && all_are(volume.tree, 0, CMT_TREE_BYTES(1), 0);
+        memcpy(volume.marks, before.marks, 16);
+        memcpy(volume.tree, before.tree, CMT_TREE_BYTES(1));
+    }
+    return right;
 }
 
 static int each_bit_is_right(void)
@@ -234,7 +247,7 @@ static int lengths_come_first(void)
     right &= read_with(longer, sizeof longer) == CMT_WRONG_DEPTH && repair_with(longer, sizeof longer) == CMT_WRONG_DEPTH;
     volume.depth = 1;
     for (size_t len = 0; len <= sizeof longer; len += len == CMT_RECORD_BYTES - 1 ? 2 : 1) {
-        right &= calls->write(1, volume.table, CMT_HOUSE_TABLE_BYTES(1), volume.block, 700, volume.tree, CMT_TREE_BYTES(1),
+        right &= calls->write(1, kind, volume.table, CMT_HOUSE_TABLE_BYTES(1), volume.block, 700, volume.tree, CMT_TREE_BYTES(1),
                               volume.marks, CMT_MARKS_BYTES(1), longer, len) == CMT_WRONG_LENGTH;
     }
     return right;
@@ -350,6 +363,8 @@ static const struct {
     struct calls calls;
     int (*part)(void);
 } wrong[] = {
+    {"writes_the_other_kind", {.write = writes_the_other_kind}, volumes_are_coded},
+    {"writes_a_place_before_the_table", {.write = writes_a_place_before_the_table}, volumes_are_coded},
     {"writes_no_length", {.write = writes_no_length}, volumes_are_coded},
     {"writes_no_end_word", {.write = writes_no_end_word}, volumes_are_coded},
     {"writes_what_follows", {.write = writes_what_follows}, volumes_are_coded},
@@ -386,11 +401,16 @@ static int is_found(size_t i)
 
 int main(void)
 {
+    kind = CMT_KIND_PLACED;
     for (size_t i = 0; i < sizeof wrong / sizeof *wrong; i++) {
         if (!is_found(i)) {
             printf("record: %s was not found\n", wrong[i].name);
             return 1;
         }
     }
-    return run_parts("record", parts, sizeof parts / sizeof *parts);
+    if (run_parts("record, with places", parts, sizeof parts / sizeof *parts) != 0) {
+        return 1;
+    }
+    kind = CMT_KIND_PLAIN;
+    return run_parts("record, plain", parts, sizeof parts / sizeof *parts);
 }

@@ -13,13 +13,13 @@
 #define WRITTEN(name) uint8_t *name, size_t name##_len
 #define LENT(name) name, name##_len
 
-#define WRITE_WORDS uint64_t depth, READ(table), READ(block), WRITTEN(tree), WRITTEN(marks), WRITTEN(record)
+#define WRITE_WORDS uint64_t depth, uint64_t kind, READ(table), READ(block), WRITTEN(tree), WRITTEN(marks), WRITTEN(record)
 #define READ_WORDS uint64_t depth, READ(record), READ(tree), READ(marks), WRITTEN(block)
 #define SAMPLE_WORDS uint64_t depth, uint64_t number, READ(record), READ(sample)
 #define PROOF_WORDS uint64_t depth, READ(record), READ(table), READ(proof)
 #define REPAIR_WORDS uint64_t depth, READ(record), READ(table), WRITTEN(tree), WRITTEN(marks), WRITTEN(output)
 
-#define WRITE depth, LENT(table), LENT(block), LENT(tree), LENT(marks), LENT(record)
+#define WRITE depth, kind, LENT(table), LENT(block), LENT(tree), LENT(marks), LENT(record)
 #define READ_BACK depth, LENT(record), LENT(tree), LENT(marks), LENT(block)
 #define SAMPLE depth, number, LENT(record), LENT(sample)
 #define PROOF depth, LENT(record), LENT(table), LENT(proof)
@@ -34,6 +34,28 @@ struct calls {
 };
 
 static const struct calls library = {cmt_tree_write, cmt_block_read, cmt_sample_check, cmt_proof_check, cmt_repair};
+
+/* The record of a call that is done is of the other kind. */
+static uint64_t writes_the_other_kind(WRITE_WORDS)
+{
+    uint64_t result = cmt_tree_write(WRITE);
+    if (result == CMT_DONE) {
+        record[0] ^= 0x40;
+    }
+    return result;
+}
+
+/* The table's hash in it covers a place, as a page's does. */
+static uint64_t writes_a_place_before_the_table(WRITE_WORDS)
+{
+    static uint8_t placed[CMT_PLACE_BYTES + CMT_TABLE_BYTES_MAX] = {0x40};
+    uint64_t result = cmt_tree_write(WRITE);
+    if (result == CMT_DONE && kind == CMT_KIND_PLACED) {
+        memcpy(placed + CMT_PLACE_BYTES, table, table_len);
+        result = cmt_sha256(placed, CMT_PLACE_BYTES + table_len, record + 12, CMT_SHA256_DIGEST_BYTES);
+    }
+    return result;
+}
 
 /* The record of a call that is done has the longest block's length. */
 static uint64_t writes_no_length(WRITE_WORDS)
@@ -110,7 +132,7 @@ static uint64_t samples_of_any_depth(SAMPLE_WORDS)
     uint8_t own[CMT_RECORD_BYTES];
     if (record_len == sizeof own && depth >= 1 && depth <= CMT_DEPTH_MAX) {
         memcpy(own, record, sizeof own);
-        put_word(own, 0, 1, (size_t)depth);
+        put_word(own, 0, (size_t)cmt_record_kind(own), (size_t)depth);
         record = own;
     }
     return cmt_sample_check(SAMPLE);

@@ -1,8 +1,8 @@
 /*
  * How much stack a call uses: it is made on a stack of its own that was filled
  * with one byte, and the deepest byte that then holds another is looked for.
- * Fails where it is deeper than the header says: for each call at every depth,
- * and where it is refused for its depth, or at a small depth for a table as long
+ * Fails where it is deeper than the header says: for each call at every depth and
+ * of both kinds, and where it is refused for its depth, or at a small depth for a table as long
  * as any. That too deep a use is found is tried first.
  */
 #define _XOPEN_SOURCE 700
@@ -19,7 +19,7 @@ enum { STACK = 4 * CMT_STACK_BYTES_DEEP, SHALLOW = 5 };
 static uint8_t stack[STACK];
 static uint8_t message[CMT_SHA256_MESSAGE_MAX];
 static uint8_t digest[CMT_SHA256_DIGEST_BYTES];
-static struct volume volume;
+static struct volume volume, recoded;
 static uint8_t sample[CMT_SAMPLE_BYTES(CMT_DEPTH_MAX)];
 static uint8_t long_table[CMT_TABLE_BYTES_MAX];
 static size_t message_len, proof_len;
@@ -97,6 +97,20 @@ static void repair_whole(void)
     another |= cmt_repair_end(volume_repair(&volume)) != CMT_WHOLE;
 }
 
+/* Follows repair_whole(). */
+static void recode(void)
+{
+    gives(volume_recode(&volume, &recoded));
+}
+
+/* The last page is absent, so that all before it is looked at. */
+static void recode_refused(void)
+{
+    volume.marks[CMT_MARKS_BYTES(volume.depth) - 1] = 0;
+    another |= volume_recode(&volume, &recoded) != CMT_NOT_WHOLE;
+    volume.marks[CMT_MARKS_BYTES(volume.depth) - 1] = 1;
+}
+
 /* By a record that has a byte less for the length. */
 static void repair_misfilled(void)
 {
@@ -121,7 +135,7 @@ static void long_check(void)
 
 static void long_write(void)
 {
-    gives(cmt_tree_write(depth_asked, long_table, sizeof long_table, volume.block, CMT_BLOCK_BYTES(3), volume.tree,
+    gives(cmt_tree_write(depth_asked, volume.kind, long_table, sizeof long_table, volume.block, CMT_BLOCK_BYTES(3), volume.tree,
                          CMT_TREE_BYTES(3), volume.marks, CMT_MARKS_BYTES(3), volume.record, sizeof volume.record));
 }
 
@@ -129,6 +143,13 @@ static void long_repair(void)
 {
     gives(cmt_repair(depth_asked, volume.record, sizeof volume.record, long_table, sizeof long_table, volume.tree,
                      CMT_TREE_BYTES(3), volume.marks, CMT_MARKS_BYTES(3), volume.output, CMT_OUTPUT_BYTES(3)));
+}
+
+static void long_recode(void)
+{
+    gives(cmt_recode(depth_asked, volume.record, sizeof volume.record, long_table, sizeof long_table, volume.tree,
+                     CMT_TREE_BYTES(3), volume.marks, CMT_MARKS_BYTES(3), recoded.tree, CMT_TREE_BYTES(3), recoded.marks,
+                     CMT_MARKS_BYTES(3), recoded.record, sizeof recoded.record));
 }
 
 static void long_proof_check(void)
@@ -183,6 +204,8 @@ static const struct measured calls[] = {
     {"cmt_repair, to a fault", repair},
     {"cmt_proof_check", proof_check},
     {"cmt_repair", repair_whole},
+    {"cmt_recode", recode},
+    {"cmt_recode, not whole", recode_refused},
     {"cmt_repair, misfilled", repair_misfilled},
     {"cmt_repair, another table", repair_otherwise},
 };
@@ -193,6 +216,7 @@ static const struct measured refused[] = {
     {"cmt_table_check, refused", long_check},
     {"cmt_tree_write, refused", long_write},
     {"cmt_repair, refused", long_repair},
+    {"cmt_recode, refused", long_recode},
     {"cmt_proof_check, refused", long_proof_check},
 };
 
@@ -222,12 +246,14 @@ static int sha256_over(void)
     return found;
 }
 
-/* All calls at a depth: each does its work, and the repair finds a fault. */
-static int calls_over(uint64_t depth)
+/* All calls at a depth, of a kind: each does its work, and the repair finds a fault. */
+static int calls_over(uint64_t depth, uint64_t kind)
 {
-    char when[] = "depth 0: ";
+    char when[] = "depth 0, kind 00: ";
     when[6] = (char)('0' + depth);
+    when[15] = (char)('0' + kind);
     another |= volume_begin(&volume, depth) != CMT_DONE;
+    volume.kind = kind;
     return any_over(when, calls, sizeof calls / sizeof *calls, CMT_DONE, CMT_STACK_BYTES_AT(depth));
 }
 
@@ -282,7 +308,8 @@ int main(void)
     }
     wrong |= sha256_over();
     for (uint64_t depth = 1; depth <= CMT_DEPTH_MAX; depth++) {
-        wrong |= calls_over(depth);
+        wrong |= calls_over(depth, CMT_KIND_PLACED);
+        wrong |= calls_over(depth, CMT_KIND_PLAIN);
     }
     wrong |= refused_over();
     if (another) {

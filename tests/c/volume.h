@@ -1,7 +1,8 @@
 /*
  * A volume to test with: a block, at depth 1 that of 01's cases, and the
  * buffers of its tree, which is coded with the house table. Its block is as long as
- * the depth has room for, where nobody makes it shorter before it is coded.
+ * the depth has room for, and it is plain, where nobody says otherwise before it is
+ * coded.
  */
 #ifndef VOLUME_H
 #define VOLUME_H
@@ -9,7 +10,7 @@
 #include "cedunmi.h"
 
 struct volume {
-    uint64_t depth;
+    uint64_t depth, kind;
     uint8_t table[CMT_HOUSE_TABLE_BYTES(CMT_DEPTH_MAX)];
     uint8_t block[CMT_BLOCK_BYTES(CMT_DEPTH_MAX)];
     size_t block_len;
@@ -40,6 +41,7 @@ static inline uint64_t volume_begin(struct volume *v, uint64_t depth)
 {
     static const uint8_t bytes[8] = {1, 2, 4, 8, 16, 32, 64, 128};
     v->depth = depth;
+    v->kind = CMT_KIND_PLAIN;
     v->block_len = CMT_BLOCK_BYTES(depth);
     for (size_t i = 0; i < CMT_BLOCK_BYTES(depth); i++) {
         v->block[i] = bytes[i / 256 % 8];
@@ -73,7 +75,7 @@ static inline uint64_t volume_change_table(struct volume *v)
 CMT_CHECKED
 static inline uint64_t volume_write(struct volume *v)
 {
-    return cmt_tree_write(v->depth, v->table, CMT_HOUSE_TABLE_BYTES(v->depth), v->block,
+    return cmt_tree_write(v->depth, v->kind, v->table, CMT_HOUSE_TABLE_BYTES(v->depth), v->block,
                           v->block_len, v->tree, CMT_TREE_BYTES(v->depth), v->marks,
                           CMT_MARKS_BYTES(v->depth), v->record, sizeof v->record);
 }
@@ -92,6 +94,16 @@ static inline uint64_t volume_repair(struct volume *v)
     return cmt_repair(v->depth, v->record, sizeof v->record, v->table, CMT_HOUSE_TABLE_BYTES(v->depth),
                       v->tree, CMT_TREE_BYTES(v->depth), v->marks, CMT_MARKS_BYTES(v->depth),
                       v->output, CMT_OUTPUT_BYTES(v->depth));
+}
+
+/* Recodes a volume into the tree, the marks and the record of another. */
+CMT_CHECKED
+static inline uint64_t volume_recode(const struct volume *v, struct volume *other)
+{
+    return cmt_recode(v->depth, v->record, sizeof v->record, v->table, CMT_HOUSE_TABLE_BYTES(v->depth), v->tree,
+                      CMT_TREE_BYTES(v->depth), v->marks, CMT_MARKS_BYTES(v->depth), other->tree,
+                      CMT_TREE_BYTES(v->depth), other->marks, CMT_MARKS_BYTES(v->depth), other->record,
+                      sizeof other->record);
 }
 
 /* Checks the first bytes of the output as a proof. */
