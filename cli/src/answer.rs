@@ -2,13 +2,22 @@
 
 use crate::failure::{DAMAGED, ENDS};
 use crate::report::{layers, Layer, Pages};
-use cedunmi::{Depth, End, Repaired};
+use crate::volume;
+use cedunmi::{Depth, End, Place, Repaired};
 
 /// Where what a repair shows goes.
 pub enum Shown<'a> {
     /// Nowhere: nothing is written.
     Nowhere,
     In(&'a str),
+}
+
+/// What a repair was given, and what it left.
+pub struct Compared<'a> {
+    pub depth: Depth,
+    pub record: &'a [u8],
+    pub before: Pages<'a>,
+    pub after: Pages<'a>,
 }
 
 /// The exit status of a repair that ended so.
@@ -29,24 +38,30 @@ pub fn status_as_is(repaired: &Repaired) -> u8 {
 }
 
 /// The report of a repair: layers, pages stored, end.
-pub fn report(
-    depth: Depth,
-    repaired: &Repaired,
-    before: Pages,
-    after: Pages,
-    shown: &Shown,
-) -> String {
-    let Repaired { stored, end } = repaired;
+pub fn report(repaired: &Repaired, compared: &Compared, shown: &Shown) -> String {
+    let (Repaired { stored, end }, Compared { depth, before, after, .. }) = (repaired, compared);
     let head = if let Shown::Nowhere = shown { "a repair would come to this:\n" } else { "" };
-    let layers = layers(depth, end, before, after);
-    format!("{head}{layers}stored: {stored}\n{}\n", ended(depth, end, before, after, shown))
+    let layers = layers(*depth, end, *before, *after);
+    format!("{head}{layers}stored: {stored}\n{}\n", ended(end, compared, shown))
 }
 
 /// Half of the top layer: where so many of its pages are bad copies, the record may be another volume's.
 const HALF: usize = 8;
 
+/// Why pages of the top layer, most of which were held, don't fit the record.
+fn doubt(compared: &Compared) -> String {
+    let Compared { depth, record, before, .. } = compared;
+    let other = volume::of_tree(*depth, record, *before);
+    match other.and_then(|other| other.line(record, "tree")) {
+        Some(line) => format!("; most of them were held: {line}"),
+        None => {
+            "; most of them were held, and don't fit this record: is it the volume's?".to_string()
+        }
+    }
+}
+
 /// The end in one line, with what to do about it.
-pub fn ended(depth: Depth, end: &End, before: Pages, after: Pages, shown: &Shown) -> String {
+pub fn ended(end: &End, compared: &Compared, shown: &Shown) -> String {
     match (end, shown) {
         (End::Fault { proof }, Shown::In(name)) => {
             format!("{}; the proof of {} bytes is in {name}", end.meaning(), proof.len())
@@ -55,24 +70,38 @@ pub fn ended(depth: Depth, end: &End, before: Pages, after: Pages, shown: &Shown
             format!("{}; the proof would have {} bytes", end.meaning(), proof.len())
         }
         (End::Unavailable { layer }, _) => {
-            let Layer { bad, missing, .. } = Layer::compare(depth, *layer, before, after);
+            let Compared { depth, before, after, .. } = compared;
+            let Layer { bad, missing, .. } = Layer::compare(*depth, *layer, *before, *after);
             let count = missing.len();
             let hint = match *layer == 0 && bad.len() >= HALF {
-                true => "; most of them were held, and don't fit this record: is it the volume's?",
-                false => "",
+                true => doubt(compared),
+                false => String::new(),
             };
             format!("unavailable: no equation gives another page of layer {layer}; bring some of its {count} missing pages, and repair again{hint}")
         }
-        (End::Twins { .. }, Shown::In(name)) => format!("{}; they are in {name}", end.meaning()),
+        (End::Twins { place, .. }, _) => {
+            let at = place.map_or(String::new(), |place| twins_at(compared.depth, place));
+            let there = match shown {
+                Shown::In(name) => format!("; they are in {name}"),
+                Shown::Nowhere => String::new(),
+            };
+            format!("{}{at}{there}", end.meaning())
+        }
         _ => end.meaning().to_string(),
     }
+}
+
+/// Which page twins are copies of.
+fn twins_at(depth: Depth, Place { layer, number }: Place) -> String {
+    let page = depth.places(layer).start + number;
+    format!(": two of page {page} of the tree, number {number} of layer {layer}")
 }
 
 #[cfg(test)]
 mod tests {
     use super::*;
     use crate::failure::{Failure, UNKNOWN};
-    use cedunmi::Stop;
+    use cedunmi::{Kind, Stop};
 
     const WOULD: &str = "a repair would come to this:\n";
 
@@ -103,8 +132,18 @@ mod tests {
         after: &Held,
         shown: &Shown,
     ) -> (String, u8, u8) {
-        let repaired = Repaired { stored, end };
-        let text = report(depth(), &repaired, before.pages(), after.pages(), shown);
+        told_by(&[], Repaired { stored, end }, before, after, shown)
+    }
+
+    fn told_by(
+        record: &[u8],
+        repaired: Repaired,
+        before: &Held,
+        after: &Held,
+        shown: &Shown,
+    ) -> (String, u8, u8) {
+        let (before, after) = (before.pages(), after.pages());
+        let text = report(&repaired, &Compared { depth: depth(), record, before, after }, shown);
         (text, status(&repaired.end), status_as_is(&repaired))
     }
 
@@ -184,14 +223,51 @@ mod tests {
         assert_eq!((now.0.lines().last(), now.1), (Some(last), 32));
     }
 
+    /// So they are where the record's kind was changed, and where tree and record are of two kinds: that is said.
+    #[test]
+    fn another_kind() {
+        let table = cedunmi::house_table(2).expect("the house table");
+        let code = |kind| cedunmi::code(2, kind, &table, &[7; 700]).expect("a tree");
+        let mut after = held();
+        after.marks[..13].copy_from_slice(&[0; 13]);
+        let last = |tree: &[u8], marks: Vec<u8>, record: &[u8]| {
+            let before = Held { tree: tree.to_vec(), marks };
+            let repaired = Repaired { stored: 0, end: End::Unavailable { layer: 0 } };
+            let (text, ..) = told_by(record, repaired, &before, &after, &Shown::Nowhere);
+            let line = text.lines().last().expect("an end");
+            line.split("; most of them were held").nth(1).expect("a doubt").to_string()
+        };
+        let (placed, plain) = (code(Kind::Placed), code(Kind::Plain));
+        let flipped = volume::of_other_kind(&placed.record);
+        let root = ": this record says kind 01, plain, but its root fits as one of kind 00, with places: compare it with the manual";
+        assert_eq!(last(&placed.tree, vec![1; 48], &flipped), root);
+        let tree = ": this tree is of kind 01, plain, and the record of kind 00, with places: take the record that was made with it";
+        assert_eq!(last(&plain.tree, vec![1; 48], &placed.record), tree);
+        let neither = ", and don't fit this record: is it the volume's?";
+        let top = [vec![1; 16], vec![0; 32]].concat();
+        assert_eq!(last(&plain.tree, top, &placed.record), neither);
+        assert_eq!(last(&[9; 12288], vec![1; 48], &placed.record), neither);
+        assert_eq!(last(&placed.tree, vec![1; 48], &placed.record), neither);
+    }
+
+    /// Of a plain volume no place is told; with places the page is, and the layers below were not entered.
     #[test]
     fn twins() {
-        let now =
-            told(7, End::Twins { symbols: vec![0; 512] }, &held(), &held(), &Shown::In("twins"));
-        assert!(now.0.ends_with("stored: 7\ntwins: two different pages of equal SHA-256 were found; they are in twins\n"));
-        assert_eq!((now.1, now.2), (33, 33));
-        let now = told(7, End::Twins { symbols: vec![0; 512] }, &held(), &held(), &Shown::Nowhere);
-        assert!(now.0.ends_with("\ntwins: two different pages of equal SHA-256 were found\n"));
+        let now = |place, shown| {
+            told(7, End::Twins { symbols: vec![0; 512], place }, &held(), &held(), &shown)
+        };
+        let said = "stored: 7\ntwins: two different pages of equal hash were found";
+        let plain = now(None, Shown::In("twins"));
+        assert!(plain.0.ends_with(&format!("0 missing\n{said}; they are in twins\n")));
+        assert_eq!((plain.1, plain.2), (33, 33));
+        assert!(now(None, Shown::Nowhere).0.ends_with(&format!("{said}\n")));
+        let place = Some(Place { layer: 1, number: 2 });
+        let at = ": two of page 18 of the tree, number 2 of layer 1";
+        let placed = now(place, Shown::In("twins"));
+        assert!(placed.0.ends_with(&format!("{said}{at}; they are in twins\n")));
+        assert!(now(place, Shown::Nowhere).0.ends_with(&format!("{said}{at}\n")));
+        let place = Some(Place { layer: 0, number: 15 });
+        assert!(now(place, Shown::Nowhere).0.contains("layer 1: 32 pages, 16 to 47: not entered"));
     }
 
     /// Every stop there is: its status is its number, and its line begins with it.
@@ -219,8 +295,9 @@ mod tests {
             ),
             (Stop::WrongRecord, Stop::WrongRecord.meaning()),
             (Stop::OtherTable, Stop::OtherTable.meaning()),
+            (Stop::NotWhole, "the tree is not whole as it is, so it is not recoded"),
         ];
-        for (number, (stop, line)) in (1..).zip(stops) {
+        for (number, (stop, line)) in (1..=12).chain([14]).zip(stops) {
             let failure = Failure::stopped(stop);
             let line = format!("{line} (number {number}: cedunmi explain {number})");
             assert_eq!((failure.status, failure.lines), (number, vec![line]));

@@ -17,14 +17,16 @@ pub struct Options {
     pub force: bool,
     pub in_place: bool,
     pub for_volume: bool,
+    pub plain: bool,
     pub unverified: bool,
     pub quiet: bool,
 }
 
 /// Which option goes with which command; `--quiet` goes with all.
-const FORCE: &[&str] = &["table", "code", "typed", "sample", "repair", "read"];
+const FORCE: &[&str] = &["table", "code", "recode", "typed", "sample", "repair", "read"];
 const IN_PLACE: &[&str] = &["repair"];
 const FOR_VOLUME: &[&str] = &["table"];
+const PLAIN: &[&str] = &["code"];
 const UNVERIFIED: &[&str] = &["read"];
 
 impl Arguments {
@@ -63,6 +65,7 @@ impl Arguments {
             Some("--force") => (&mut self.options.force, Some(FORCE)),
             Some("--in-place") => (&mut self.options.in_place, Some(IN_PLACE)),
             Some("--for") => (&mut self.options.for_volume, Some(FOR_VOLUME)),
+            Some("--plain") => (&mut self.options.plain, Some(PLAIN)),
             Some("--unverified") => (&mut self.options.unverified, Some(UNVERIFIED)),
             _ => {
                 let name = shown(word);

@@ -1,6 +1,6 @@
 //! A repair, attempted on a copy in memory: what `repair`, `check` and `read` begin with.
 
-use crate::answer::{self, Shown};
+use crate::answer::{self, Compared, Shown};
 use crate::depths;
 use crate::failure::Failure;
 use crate::input::{stopped, Input, Reader};
@@ -72,13 +72,18 @@ impl After<'_> {
         Pages { tree: &self.tree, marks: &self.marks }
     }
 
+    fn compared(&self) -> Compared<'_> {
+        let record = &self.attempt.record.bytes;
+        Compared { depth: self.depth, record, before: self.before(), after: self.now() }
+    }
+
     pub fn report(&self, shown: &Shown) -> String {
-        answer::report(self.depth, &self.repaired, self.before(), self.now(), shown)
+        answer::report(&self.repaired, &self.compared(), shown)
     }
 
     /// The end in one line.
     pub fn ended(&self) -> String {
-        answer::ended(self.depth, &self.repaired.end, self.before(), self.now(), &Shown::Nowhere)
+        answer::ended(&self.repaired.end, &self.compared(), &Shown::Nowhere)
     }
 
     /// How many pages were absent, and how many bad.
@@ -90,7 +95,7 @@ impl After<'_> {
     pub fn shown(&self) -> Option<(&'static str, &[u8])> {
         match &self.repaired.end {
             End::Fault { proof } => Some((PROOF, proof)),
-            End::Twins { symbols } => Some((TWINS, symbols)),
+            End::Twins { symbols, .. } => Some((TWINS, symbols)),
             _ => None,
         }
     }
@@ -98,8 +103,7 @@ impl After<'_> {
     /// Tells what was done, with what was shown in the file of this name.
     pub fn tell(&self, quiet: bool, name: &str) -> Result<u8, Failure> {
         if !quiet {
-            let told = said::report(&self.report(&Shown::In(name)));
-            told.map_err(|failure| failure.and("the files are in their places"))?;
+            said::report(&self.report(&Shown::In(name))).map_err(Failure::placed)?;
         }
         Ok(answer::status(&self.repaired.end))
     }

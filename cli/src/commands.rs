@@ -9,6 +9,7 @@ mod explain;
 mod help;
 mod in_place;
 mod read;
+mod recode;
 mod record;
 mod repair;
 mod sample;
@@ -29,6 +30,7 @@ pub fn run(arguments: &Arguments) -> Done {
         "table" => table::run(arguments),
         "check-table" => check_table::run(arguments),
         "code" => code::run(arguments),
+        "recode" => recode::run(arguments),
         "record" => record::run(arguments),
         "typed" => typed::run(arguments),
         "sample" => sample::run(arguments),
@@ -52,4 +54,9 @@ fn told(arguments: &Arguments, line: &str) -> Done {
         said::report(&format!("{line}\n"))?;
     }
     Ok(0)
+}
+
+/// The same where files have been written.
+fn made(arguments: &Arguments, line: &str) -> Done {
+    told(arguments, line).map_err(Failure::placed)
 }

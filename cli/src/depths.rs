@@ -19,7 +19,7 @@ pub fn given(word: Option<&OsStr>) -> Result<Option<u64>, Failure> {
 /// The depth of a record. One that is given must be the same; what else is wrong is for the call to find.
 pub fn of_record(given: Option<u64>, record: &Input) -> Result<u64, Failure> {
     let whole = record.bytes.len() == RECORD_BYTES;
-    let first = words(&record.bytes).next().filter(|(kind, _)| whole && *kind == 1);
+    let first = words(&record.bytes).next().filter(|(kind, _)| whole && *kind < 2);
     let said = first.map(|(_, depth)| depth as u64);
     let stop = match (given, said) {
         (Some(given), Some(said)) if given != said && Depth::new(given).is_some() => {

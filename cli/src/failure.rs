@@ -58,6 +58,11 @@ impl Failure {
         Failure::new(number, format!("{words} (number {number}: cedunmi explain {number})"))
     }
 
+    /// What failed after files were written.
+    pub fn placed(self) -> Failure {
+        self.and("the files are in their places")
+    }
+
     pub fn and(mut self, line: impl Into<String>) -> Failure {
         self.lines.push(line.into());
         self

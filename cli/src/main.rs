@@ -24,6 +24,7 @@ mod record;
 mod report;
 mod said;
 mod typed;
+mod volume;
 
 use arguments::Arguments;
 use std::process::exit;

@@ -3,7 +3,10 @@
 
 use crate::failure::Failure;
 use crate::members::{members, words};
-use cedunmi::{Depth, Stop, DIGEST_BYTES, PROOF_HEAD_BYTES, RECORD_HEAD_BYTES, SYMBOL_BYTES};
+use crate::volume;
+use cedunmi::{
+    Depth, Kind, Place, Record, Stop, DIGEST_BYTES, PROOF_HEAD_BYTES, ROOT_BYTES, SYMBOL_BYTES,
+};
 
 /// A file that a sample or a proof came in.
 pub struct File<'a> {
@@ -23,23 +26,20 @@ struct Page<'a> {
 /// has a parity page beside it.
 struct Way<'a> {
     depth: Depth,
-    root: &'a [u8],
+    kind: Kind,
+    root: [u8; ROOT_BYTES],
     pages: Vec<Page<'a>>,
     file: &'a str,
     /// What must be so, or other pages came than are looked for.
     right: String,
+    /// What is said where it is the record's kind by which it breaks.
+    kinds: Option<String>,
 }
 
 /// A sample that stopped with 7: which pages don't fit, and what to do.
-pub fn of_sample(
-    stop: Stop,
-    depth: u64,
-    number: u64,
-    record: &[u8],
-    sample: File,
-) -> Option<Failure> {
+pub fn of_sample(stop: Stop, number: u64, record: &[u8], sample: File) -> Option<Failure> {
     let (layer, _) = broken_at(stop)?;
-    let (depth, root) = (Depth::new(depth)?, record.get(RECORD_HEAD_BYTES..)?);
+    let Record { depth, kind, root, .. } = Record::read(record).ok()?;
     let sampled = |(index, bytes)| {
         let layer = depth.layers() - 1 - (index + 1) / 2;
         let place = depth.sampled_place(number as usize, index);
@@ -47,20 +47,17 @@ pub fn of_sample(
     };
     let pages = sample.bytes.chunks_exact(SYMBOL_BYTES).enumerate().map(sampled).collect();
     let right = format!("this record is the volume's, and the sample that of base page {number}");
-    Way { depth, root, pages, file: sample.name, right }.failure(stop, layer, "")
+    let layers = depth.layers() as u64;
+    let by_other =
+        cedunmi::check_sample(layers, number, &volume::of_other_kind(record), sample.bytes);
+    let kinds = volume::of_stop(stop, by_other).and_then(|other| other.line(record, "sample"));
+    Way { depth, kind, root, pages, file: sample.name, right, kinds }.failure(stop, layer, "")
 }
 
 /// The same of a fault proof.
-pub fn of_proof(
-    stop: Stop,
-    depth: u64,
-    record: &[u8],
-    table: &[u8],
-    proof: File,
-) -> Option<Failure> {
+pub fn of_proof(stop: Stop, record: &[u8], table: &[u8], proof: File) -> Option<Failure> {
     let (layer, position) = broken_at(stop)?;
-    let root = record.get(RECORD_HEAD_BYTES..)?;
-    let (depth, position) = (Depth::new(depth)?, position?);
+    let (Record { depth, kind, root, .. }, position) = (Record::read(record).ok()?, position?);
     let (start, member, given) = member_at(table, proof.bytes, position)?;
     let whose = match (given, layer == start) {
         (true, true) => ", a given member".to_string(),
@@ -76,7 +73,10 @@ pub fn of_proof(
     let symbols = proof.bytes.get(first..)?.chunks_exact(SYMBOL_BYTES).enumerate();
     let pages = symbols.zip(layers.rev()).map(step).collect();
     let right = "this record is the volume's".to_string();
-    Way { depth, root, pages, file: proof.name, right }.failure(stop, layer, &whose)
+    let layers = depth.layers() as u64;
+    let by_other = cedunmi::check_proof(layers, &volume::of_other_kind(record), table, proof.bytes);
+    let kinds = volume::of_stop(stop, by_other).and_then(|other| other.line(record, "proof"));
+    Way { depth, kind, root, pages, file: proof.name, right, kinds }.failure(stop, layer, &whose)
 }
 
 /// The member at a position of a proof: its layer, its number there, and whether it is given; the withheld one comes
@@ -125,37 +125,45 @@ impl Way<'_> {
     fn fits(&self, page: &Page) -> bool {
         let (hashes, slot) = match self.above(page) {
             Some(above) => (above.bytes, page.number / self.depth.data(above.layer)),
-            None => (self.root, page.number),
+            None => (&self.root[..], page.number),
         };
         let committed = hashes.chunks_exact(DIGEST_BYTES).nth(slot);
-        cedunmi::sha256(page.bytes).map_or(false, |hash| committed == Some(&hash[..]))
+        let place = Place { layer: page.layer, number: page.number };
+        let hash = self.kind.hash(place, page.bytes);
+        hash.map_or(false, |hash| committed == Some(&hash[..]))
     }
 
     /// The failure where pages of this layer don't fit. WHOSE says more of the page.
     fn failure(&self, stop: Stop, layer: usize, whose: &str) -> Option<Failure> {
         let broken: Vec<&Page> =
             self.pages.iter().filter(|page| page.layer == layer && !self.fits(page)).collect();
-        let above = self.above(broken.first()?).map(|page| format!("page {}", self.place(page)));
-        let hash = if broken.len() == 1 { "another hash for it" } else { "other hashes for them" };
-        let to_do = match (above, self.topmost(layer)) {
-            (None, _) => format!("the root has {hash}: {}", self.to_ask(&broken, "again")),
-            (Some(above), None) => {
-                let ask = self.to_ask(&broken, "again");
-                format!("{above} has {hash}, and leads to the root: {ask}")
-            }
-            (Some(above), Some(top)) => {
-                let ask = self.to_ask(&[top], "again first");
-                format!("{above} has {hash}, but doesn't lead to the root itself: {ask}")
-            }
-        };
+        let above = self.above(broken.first()?);
+        let to_do = self.kinds.clone().unwrap_or_else(|| self.to_do(&broken, above));
         let (pages, meaning) = (self.listed(&broken), stop.meaning());
         let numbers = listed("number", broken.iter().map(|page| page.number));
         let words = format!("{meaning}: {pages} of the tree, {numbers} of layer {layer}{whose}");
         Some(Failure::numbered(stop, &words).and(to_do))
     }
 
+    /// What is said of the page above those that don't fit, and which to ask for again.
+    fn to_do(&self, broken: &[&Page], above: Option<&Page>) -> String {
+        let hash = if broken.len() == 1 { "another hash for it" } else { "other hashes for them" };
+        let above = above.map(|page| format!("page {}", self.place(page)));
+        match (above, self.topmost(broken[0].layer)) {
+            (None, _) => format!("the root has {hash}: {}", self.to_ask(broken, "again")),
+            (Some(above), None) => {
+                let ask = self.to_ask(broken, "again");
+                format!("{above} has {hash}, and leads to the root: {ask}")
+            }
+            (Some(above), Some(top)) => {
+                let ask = self.to_ask(&[top], "again first");
+                format!("{above} has {hash}, but doesn't lead to the root itself: {ask}")
+            }
+        }
+    }
+
     /// The topmost page above a layer that doesn't fit. The one above it leads to the root, so that it is wrong,
-    /// unless two pages of equal SHA-256 came.
+    /// unless two pages of equal hash came.
     fn topmost(&self, layer: usize) -> Option<&Page<'_>> {
         let mut higher = self.pages.iter().filter(|page| page.layer < layer && self.is_data(page));
         higher.rfind(|page| !self.fits(page))
@@ -179,11 +187,15 @@ mod tests {
     use super::*;
 
     /// A volume of depth 3, coded with the house table: table, tree, record.
-    fn coded() -> (Vec<u8>, Vec<u8>, Vec<u8>) {
+    fn coded_as(kind: Kind) -> (Vec<u8>, Vec<u8>, Vec<u8>) {
         let volume: Vec<u8> = (0..4096).map(|i| (i + i / 256) as u8).collect();
         let table = cedunmi::house_table(3).expect("the house table");
-        let coded = cedunmi::code(3, &table, &volume).expect("a tree");
+        let coded = cedunmi::code(3, kind, &table, &volume).expect("a tree");
         (table, coded.tree, coded.record.to_vec())
+    }
+
+    fn coded() -> (Vec<u8>, Vec<u8>, Vec<u8>) {
+        coded_as(Kind::Placed)
     }
 
     /// The two lines of a failure, the first without its number.
@@ -197,14 +209,47 @@ mod tests {
 
     /// The sample of base page 50 with these bytes changed: the pages 98; 18 and 26; 2 and 6.
     fn sampled(layer: u64, changed: &[usize]) -> [String; 2] {
-        let (_, tree, record) = coded();
-        let mut sample: Vec<u8> = [98, 18, 26, 2, 6]
-            .iter()
-            .flat_map(|place| tree[256 * place..][..256].to_vec())
-            .collect();
-        changed.iter().for_each(|at| sample[*at] ^= 1);
-        let sample = File { name: "came", bytes: &sample };
-        lines(of_sample(Stop::WrongHash { layer, position: None }, 3, 50, &record, sample))
+        let said = Kind::ALL.map(|kind| {
+            let (_, tree, record) = coded_as(kind);
+            let mut sample = sample_of(&tree);
+            changed.iter().for_each(|at| sample[*at] ^= 1);
+            let sample = File { name: "came", bytes: &sample };
+            lines(of_sample(Stop::WrongHash { layer, position: None }, 50, &record, sample))
+        });
+        assert_eq!(said[0], said[1]);
+        said[0].clone()
+    }
+
+    fn sample_of(tree: &[u8]) -> Vec<u8> {
+        let pages = [98, 18, 26, 2, 6].iter();
+        pages.flat_map(|place| tree[256 * place..][..256].to_vec()).collect()
+    }
+
+    /// A sample by a record whose kind was changed, and one of the same volume by the record of the other kind: that is
+    /// said, and no page is asked for.
+    #[test]
+    fn samples_of_another_kind() {
+        let said = |layer, tree: &[u8], record: &[u8]| {
+            let (stop, sample) = (Stop::WrongHash { layer, position: None }, sample_of(tree));
+            let broken = cedunmi::check_sample(3, 50, record, &sample);
+            assert_eq!(broken, Err(stop));
+            lines(of_sample(stop, 50, record, File { name: "came", bytes: &sample }))[1].clone()
+        };
+        let (_, placed, record) = coded();
+        let (_, plain, plain_record) = coded_as(Kind::Plain);
+        let flipped = said(2, &placed, &volume::of_other_kind(&record));
+        assert_eq!(
+            flipped,
+            "this record says kind 01, plain, but its root fits as one of kind 00, with places: \
+             compare it with the manual"
+        );
+        let mixed = said(2, &plain, &record);
+        assert_eq!(
+            mixed,
+            "this sample is of kind 01, plain, and the record of kind 00, with places: \
+             take the record that was made with it"
+        );
+        assert!(said(2, &placed, &plain_record).contains("of kind 00, with places, and the"));
     }
 
     /// What is to be asked for of the sample, after why.
@@ -260,14 +305,38 @@ mod tests {
     /// The proof of layer 2, equation 17, which has 1, 3, 32 and 33, with 32 withheld; these bytes after its head are
     /// changed. The ways up of 1, 3 and 33 are the pages 49, 17, 1; 51, 19, 3; 81, 17, 1; of 32 it is 16, 0.
     fn proved(layer: u64, position: u64, changed: &[usize]) -> [String; 2] {
-        let (table, tree, record) = coded();
+        let said = Kind::ALL.map(|kind| {
+            let (table, tree, record) = coded_as(kind);
+            let mut proof = proof_of(&tree);
+            changed.iter().for_each(|at| proof[12 + at] ^= 1);
+            let (proof, position) = (File { name: "came", bytes: &proof }, Some(position));
+            lines(of_proof(Stop::WrongHash { layer, position }, &record, &table, proof))
+        });
+        assert_eq!(said[0], said[1]);
+        said[0].clone()
+    }
+
+    fn proof_of(tree: &[u8]) -> Vec<u8> {
         let mut proof = vec![0x40, 0, 0, 2, 0x80, 0, 0, 17, 0xc0, 0, 0, 32];
         for place in [49, 17, 1, 51, 19, 3, 81, 17, 1, 16, 0] {
             proof.extend_from_slice(&tree[256 * place..][..256]);
         }
-        changed.iter().for_each(|at| proof[12 + at] ^= 1);
-        let (proof, position) = (File { name: "came", bytes: &proof }, Some(position));
-        lines(of_proof(Stop::WrongHash { layer, position }, 3, &record, &table, proof))
+        proof
+    }
+
+    #[test]
+    fn proofs_of_another_kind() {
+        let said = |tree: &[u8], record: &[u8]| {
+            let (table, proof) = (coded().0, proof_of(tree));
+            let stop = cedunmi::check_proof(3, record, &table, &proof).expect_err("a stop");
+            assert_eq!(stop, Stop::WrongHash { layer: 2, position: Some(0) });
+            let came = File { name: "came", bytes: &proof };
+            lines(of_proof(stop, record, &table, came))[1].clone()
+        };
+        let ((_, placed, record), (_, plain, _)) = (coded(), coded_as(Kind::Plain));
+        let flipped = said(&placed, &volume::of_other_kind(&record));
+        assert!(flipped.starts_with("this record says kind 01, plain, but its root fits"));
+        assert!(said(&plain, &record).starts_with("this proof is of kind 01, plain, and the"));
     }
 
     #[test]
@@ -307,11 +376,11 @@ mod tests {
         let sample = [&tree[256 * 98..][..256], &[0; 1024]].concat();
         let file = |bytes| File { name: "came", bytes };
         let at = |layer, position| Stop::WrongHash { layer, position };
-        let of_sample = |stop, depth| of_sample(stop, depth, 50, &record, file(&sample));
-        assert!(of_sample(at(3, None), 3).is_none());
-        assert!(of_sample(Stop::NoFault, 3).is_none());
-        assert!(of_sample(at(2, None), 10).is_none());
-        let of_proof = |stop, proof| of_proof(stop, 3, &record, &table, file(proof));
+        let of_sample = |stop, record| of_sample(stop, 50, record, file(&sample));
+        assert!(of_sample(at(3, None), &record).is_none());
+        assert!(of_sample(Stop::NoFault, &record).is_none());
+        assert!(of_sample(at(2, None), &record[1..]).is_none());
+        let of_proof = |stop, proof| of_proof(stop, &record, &table, file(proof));
         assert!(of_proof(at(0, Some(0)), &[]).is_none());
         assert!(of_proof(at(0, None), &[0; 268]).is_none());
         assert!(of_proof(Stop::WrongHead, &[0; 268]).is_none());

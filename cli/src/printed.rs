@@ -1,13 +1,17 @@
 //! A record on paper: a line each for depth, length and table, then seventeen hashes, T of the table and 0 to 15 of the
 //! root, each line with a check of four digits; then a check of all.
 
+use crate::volume;
 use cedunmi::{
-    house_table, sha256, Record, Stop, DIGEST_BYTES, RECORD_HEAD_BYTES, ROOT_BYTES, SYMBOL_BYTES,
+    house_table, sha256, Kind, Record, Stop, DIGEST_BYTES, RECORD_HEAD_BYTES, ROOT_BYTES,
+    SYMBOL_BYTES,
 };
 use std::ops::Range;
 
-/// The lines in words: what each begins with, and what it counts.
-pub const WORDS: [(&str, &str); 3] = [("depth", ""), ("length", "bytes"), ("table", "words")];
+/// The lines in words: what each begins with, and the words of which one may stand after its number: what is counted, or
+/// of the depth the kind.
+pub const WORDS: [(&str, &[&str]); 3] =
+    [("depth", &["placed", "plain"]), ("length", &["bytes"]), ("table", &["words"])];
 const WORD_BYTES: usize = 4;
 /// The line of the table's hash, after which the root's begin.
 pub const TABLE_HASH: usize = WORDS.len();
@@ -65,14 +69,18 @@ pub fn check(line: usize, bytes: &[u8]) -> Result<String, Stop> {
 pub fn print(bytes: &[u8]) -> Result<String, Stop> {
     let record = Record::read(bytes)?;
     let mut text = comments(&record)?;
-    let values = [record.depth.layers(), record.length, record.table_words];
+    let values = [
+        (record.depth.layers(), volume::word(record.kind)),
+        (record.length, "bytes"),
+        (record.table_words, "words"),
+    ];
     for line in 0..LINES {
         let bytes = &bytes[part(line)];
         let check = check(line, bytes)?;
         text += &match WORDS.get(line) {
-            Some((word, unit)) => {
-                let said = format!("{word:<7} {} {unit}", values[line]);
-                format!("{:<COLUMNS$}  {check}\n", said.trim_end())
+            Some((word, _)) => {
+                let (value, after) = values[line];
+                format!("{:<COLUMNS$}  {check}\n", format!("{word:<7} {value} {after}"))
             }
             None => {
                 let groups: Vec<String> = bytes.chunks(4).map(hex).collect();
@@ -99,15 +107,27 @@ fn comments(record: &Record) -> Result<String, Stop> {
         true => format!("That depth holds up to {most}; zeros fill up the rest."),
         false => "That is as much as this depth holds.".to_string(),
     };
-    let tables = match is_house(record)? {
-        true => format!(
+    let kind = match record.kind {
+        Kind::Placed => {
+            "\
+# It is placed, of kind 00: each of these is the hash of a page's place and the
+# page, so that no two are equal.
+"
+        }
+        Kind::Plain => "# It is plain, of kind 01: each of these is the hash of a page alone.\n",
+    };
+    let tables = match (is_house(record)?, record.kind) {
+        (true, Kind::Placed) => {
+            format!("# Its table is the house table: cedunmi table {layers} TABLE writes it.\n")
+        }
+        (true, Kind::Plain) => format!(
             "\
 # Its table is the house table: cedunmi table {layers} TABLE writes it. By that, equal
 # lines are no mistake: whatever the volume is, the pages 7, 11 and 15 are zero,
 # and 5 and 8, 6 and 12, 10 and 13 are equal.
 "
         ),
-        false => "\
+        (false, _) => "\
 # Its table is not the house table: without a copy of it nothing is repaired.
 "
         .to_string(),
@@ -118,7 +138,7 @@ fn comments(record: &Record) -> Result<String, Stop> {
 # bytes. {filled}
 # Each line ends with its check. Hash T is that of the table, 0 to 15 are those
 # of the pages of the top layer.
-{tables}"
+{kind}{tables}"
     ))
 }
 
@@ -126,22 +146,27 @@ fn comments(record: &Record) -> Result<String, Stop> {
 mod tests {
     use super::*;
 
-    fn printed(depth: u64, length: usize) -> (Vec<u8>, Vec<String>) {
+    fn printed(kind: Kind, depth: u64, length: usize) -> (Vec<u8>, Vec<String>) {
         let table = house_table(depth).expect("the house table");
-        let coded = cedunmi::code(depth, &table, &vec![7; length]).expect("a tree");
+        let coded = cedunmi::code(depth, kind, &table, &vec![7; length]).expect("a tree");
         let text = print(&coded.record).expect("a print");
         (coded.record.to_vec(), text.lines().map(str::to_string).collect())
     }
 
     #[test]
     fn the_head_is_in_words() {
-        let (record, lines) = printed(5, 700);
+        for (kind, depth) in [(Kind::Placed, "depth   5 placed"), (Kind::Plain, "depth   5 plain")]
+        {
+            the_head_is(kind, [depth, "length  700 bytes", "table   1861 words"]);
+        }
+    }
+
+    fn the_head_is(kind: Kind, words: [&str; 3]) {
+        let (record, lines) = printed(kind, 5, 700);
         let lines: Vec<&str> =
             lines.iter().map(String::as_str).filter(|line| !line.starts_with('#')).collect();
         assert_eq!(lines.len(), LINES + 1);
-        for (line, said) in
-            ["depth   5", "length  700 bytes", "table   1861 words"].iter().enumerate()
-        {
+        for (line, said) in words.iter().enumerate() {
             let check = check(line, &record[4 * line..][..4]).unwrap();
             assert_eq!(lines[line], format!("{said:<20}  {check}"));
         }
@@ -163,28 +188,51 @@ mod tests {
         assert_eq!(check(4, &[7; 32]), digits(&[&[0][..], &[7; 32]].concat(), 4));
         assert_eq!(check(3, &[7; 32]), digits(&[&[19][..], &[7; 32]].concat(), 4));
         assert_eq!(check(0, &[64, 0, 0, 1]), digits(&[16, 64, 0, 0, 1], 4));
+        assert_eq!(check(0, &[0, 0, 0, 1]), digits(&[16, 0, 0, 0, 1], 4));
     }
 
     #[test]
     fn comments_fit_and_know_the_house_table() {
         for (depth, length) in [(1, 0), (5, 16384), (9, 262144)] {
-            let (mut record, lines) = printed(depth, length);
-            assert!(lines.iter().all(|line| line.len() <= 80));
-            assert!(lines[4].contains(&format!("cedunmi table {depth} TABLE")));
-            for place in [11, 12, 43] {
-                record[place] ^= 1;
-                let text = print(&record).unwrap();
-                assert!(text.contains("not the house table") && !text.contains("pages 7, 11"));
-                record[place] ^= 1;
+            for kind in Kind::ALL {
+                let (mut record, lines) = printed(kind, depth, length);
+                assert!(lines.iter().all(|line| line.len() <= 80));
+                let text = lines.join("\n");
+                assert!(text.contains(&format!("cedunmi table {depth} TABLE")));
+                assert_eq!(text.contains("pages 7, 11"), kind == Kind::Plain);
+                for place in [11, 12, 43] {
+                    record[place] ^= 1;
+                    let text = print(&record).unwrap();
+                    assert!(text.contains("not the house table") && !text.contains("pages 7, 11"));
+                    record[place] ^= 1;
+                }
             }
         }
     }
 
+    /// What is said of equal lines is so: by the house table some are in a plain record, and none in one with places.
+    #[test]
+    fn comments_know_the_kind() {
+        let of = |kind| {
+            let (record, lines) = printed(kind, 2, 2048);
+            let mut hashes: Vec<Vec<u8>> = record[44..].chunks(32).map(<[u8]>::to_vec).collect();
+            hashes.sort();
+            hashes.dedup();
+            (hashes.len(), lines.join("\n"))
+        };
+        let (different, text) = of(Kind::Placed);
+        assert!(different == 16 && text.contains("placed, of kind 00") && text.contains("no two"));
+        let (different, text) = of(Kind::Plain);
+        assert!(different < 12 && text.contains("plain, of kind 01") && !text.contains("no two"));
+    }
+
     #[test]
     fn what_is_no_record_is_not_printed() {
-        let (mut record, _) = printed(1, 700);
+        let (mut record, _) = printed(Kind::Placed, 1, 700);
         assert_eq!(print(&record[..512]), Err(Stop::WrongLength));
         record[3] = 10;
+        assert_eq!(print(&record), Err(Stop::WrongRecord));
+        (record[3], record[0]) = (1, 128);
         assert_eq!(print(&record), Err(Stop::WrongRecord));
     }
 }

@@ -5,17 +5,20 @@ use crate::printed::{hex, is_house, WORDS};
 use cedunmi::{sha256, Depth, Record};
 
 /// What the words of the head are.
-const HEAD: [&str; WORDS.len()] = ["depth", "length", "number of table words"];
+const HEAD: [&str; WORDS.len()] = ["kind and depth", "length", "number of table words"];
+/// The kinds that each may have.
+const KINDS: [&[u32]; WORDS.len()] = [&[0, 1], &[2], &[3]];
 
 /// What is wrong with a record, as long as a record is, that a call of this depth refuses.
 pub fn wrong(name: &str, record: &[u8], depth: u64) -> Option<String> {
     let head: Vec<(u32, usize)> = words(record).take(WORDS.len()).collect();
-    if let Some(at) = (0..head.len()).find(|at| head[*at].0 as usize != at + 1) {
+    if let Some(at) = (0..head.len()).find(|at| !KINDS[*at].contains(&head[*at].0)) {
         let (first, last, kind) = (4 * at, 4 * at + 3, head[at].0);
         let (what, bytes) = (HEAD[at], hex(&record[first..=last]));
+        let right: Vec<String> = KINDS[at].iter().map(|kind| format!("{kind:02b}")).collect();
         return Some(format!(
-            "{name} is no record, or damaged: bytes {first} to {last}, its {what}, are {bytes}, of kind {kind:02b}, not {:02b}",
-            at + 1
+            "{name} is no record, or damaged: bytes {first} to {last}, its {what}, are {bytes}, of kind {kind:02b}, not {}",
+            right.join(" or ")
         ));
     }
     let (said, length) = (head.first()?.1 as u64, head.get(1)?.1);
@@ -65,10 +68,12 @@ fn counted(words: usize, digest: &[u8]) -> String {
 #[cfg(test)]
 mod tests {
     use super::*;
+    use cedunmi::Kind;
 
     fn record(depth: u64, length: usize) -> Vec<u8> {
         let table = cedunmi::house_table(depth).expect("the house table");
-        cedunmi::code(depth, &table, &vec![1; length]).expect("a tree").record.to_vec()
+        let coded = cedunmi::code(depth, Kind::Placed, &table, &vec![1; length]);
+        coded.expect("a tree").record.to_vec()
     }
 
     /// The record of depth 2 with a byte changed, at depth 2.
@@ -82,7 +87,11 @@ mod tests {
     fn what_is_wrong_is_said() {
         let kind = |said: &str| Some(format!("r is no record, or damaged: bytes {said}"));
         assert_eq!(wrong("r", &record(2, 700), 2), None);
-        assert_eq!(changed(0, 0), kind("0 to 3, its depth, are 00000002, of kind 00, not 01"));
+        assert_eq!(changed(0, 64), None);
+        for (byte, of) in [(128, "80000002, of kind 10"), (255, "ff000002, of kind 11")] {
+            let said = format!("0 to 3, its kind and depth, are {of}, not 00 or 01");
+            assert_eq!(changed(0, byte), kind(&said));
+        }
         assert_eq!(changed(4, 64), kind("4 to 7, its length, are 400002bc, of kind 01, not 10"));
         let words = "8 to 11, its number of table words, are b00000b5, of kind 10, not 11";
         assert_eq!(changed(8, 0xb0), kind(words));

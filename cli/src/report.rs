@@ -1,6 +1,6 @@
 //! What a repair did, layer by layer.
 
-use cedunmi::{Depth, End, SYMBOL_BYTES};
+use cedunmi::{Depth, End, Place, SYMBOL_BYTES};
 use std::fmt::Write;
 
 /// A tree and its marks.
@@ -11,11 +11,11 @@ pub struct Pages<'a> {
 }
 
 impl Pages<'_> {
-    fn page(&self, place: usize) -> &[u8] {
+    pub fn page(&self, place: usize) -> &[u8] {
         &self.tree[SYMBOL_BYTES * place..][..SYMBOL_BYTES]
     }
 
-    fn held(&self, place: usize) -> bool {
+    pub fn held(&self, place: usize) -> bool {
         self.marks[place] == 1
     }
 }
@@ -45,11 +45,13 @@ impl Layer {
     }
 }
 
-/// The last layer that a repair entered. A fault proof has its layer in its first word.
+/// The last layer that a repair entered. A fault proof has its layer in its first word; of twins in a plain volume it is
+/// not told.
 fn last_entered(depth: Depth, end: &End) -> usize {
     match end {
         End::Fault { proof } => usize::from(proof[3]),
         End::Unavailable { layer } => *layer,
+        End::Twins { place: Some(Place { layer, .. }), .. } => *layer,
         _ => depth.layers() - 1,
     }
 }

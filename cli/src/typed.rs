@@ -3,7 +3,8 @@
 use crate::printed::{
     check, digits, label, name, CHECK, CHECK_OF_ALL, DIGITS, LINES, TABLE_HASH, WORDS,
 };
-use cedunmi::{Depth, Record, Stop};
+use crate::volume;
+use cedunmi::{Depth, Kind, Record, Stop};
 
 /// A record that was typed.
 #[derive(Debug)]
@@ -11,6 +12,8 @@ pub struct Typed {
     pub record: Vec<u8>,
     /// No check was typed, so that a slip could not be found.
     pub unchecked: bool,
+    /// No word for the kind was typed, so that it is plain.
+    pub kindless: bool,
 }
 
 /// Where a typed text is not a record: lines for whoever typed it.
@@ -160,14 +163,17 @@ pub fn parse(text: &[u8]) -> Result<Typed, Slips> {
     }
     let (form, record, mut slips) = best.expect("there are forms");
     if slips.is_empty() {
-        let right = digits(&record, CHECK_OF_ALL)?;
-        slips.extend(of_all.iter().take(1).filter_map(|line| slip_of_all(line, &right, form)));
+        let first = of_all.first().map_or(Ok(None), |line| slip_of_all(line, &record, form))?;
+        slips.extend(first);
         let more = of_all.iter().skip(1);
         slips.extend(more.map(|line| format!("line {}: the check of all is there twice", line.at)));
         slips.extend(slip_of_length(&lines, &record));
     }
     match slips.is_empty() {
-        true => Ok(Typed { record, unchecked: !form.checked && of_all.is_empty() }),
+        true => {
+            let kindless = !lines[0].words.iter().any(|word| says_kind(word));
+            Ok(Typed { record, unchecked: !form.checked && of_all.is_empty(), kindless })
+        }
         false => Err(Slips::Lines(slips)),
     }
 }
@@ -187,7 +193,7 @@ fn read(lines: &[Line], form: Form) -> Result<(Vec<u8>, Vec<String>), Stop> {
         }
         match bytes_of(line, place, form) {
             Ok((bytes, typed)) if form.checked && typed != check(place, &bytes)? => {
-                slip(format!("{} has a slip: it does not fit its check", name(place)));
+                slip(misfit(place, &bytes, &typed)?);
             }
             Ok((bytes, _)) => record.extend(bytes),
             Err(why) => slip(why),
@@ -198,6 +204,24 @@ fn read(lines: &[Line], form: Form) -> Result<(Vec<u8>, Vec<String>), Stop> {
         slips.push(cut_short(wanted, form));
     }
     Ok((record, slips))
+}
+
+/// What to say of a line that does not fit its check. The depth's may fit it as of the other kind.
+fn misfit(place: usize, bytes: &[u8], typed: &str) -> Result<String, Stop> {
+    let mut slip = format!("{} has a slip: it does not fit its check", name(place));
+    if place == 0 {
+        let other = volume::of_other_kind(bytes);
+        if check(place, &other)? == typed {
+            slip += &format!(", which is that of '{}'", depth_line(&other));
+        }
+    }
+    Ok(slip)
+}
+
+/// The depth's line of a record that begins with these bytes, without its check.
+fn depth_line(bytes: &[u8]) -> String {
+    let kind = if bytes[0] == 0 { Kind::Placed } else { Kind::Plain };
+    format!("{} {} {}", name(0), bytes[3], volume::word(kind))
 }
 
 /// Which line of the record one is: after one that is missing, or there twice, the others go on by what they begin with.
@@ -252,17 +276,23 @@ fn cut_short(wanted: usize, form: Form) -> String {
 }
 
 /// What is wrong with a check of all, as it was typed. Where each line fits its own, the slip is here.
-fn slip_of_all(line: &Line, right: &str, form: Form) -> Option<String> {
+fn slip_of_all(line: &Line, record: &[u8], form: Form) -> Result<Option<String>, Stop> {
     let (at, typed) = (line.at, line.words[1..].concat());
     if typed.len() != CHECK_OF_ALL {
-        return Some(format!(
-            "line {at}: the check of all has {CHECK_OF_ALL} digits, not {}",
-            typed.len()
-        ));
+        let count = typed.len();
+        let slip = format!("line {at}: the check of all has {CHECK_OF_ALL} digits, not {count}");
+        return Ok(Some(slip));
     }
-    let place = if form.checked { "the slip is in this line" } else { "a digit is wrong" };
-    (typed != right)
-        .then(|| format!("line {at}: the check of this record is {right}, not {typed}: {place}"))
+    let (right, other) = (digits(record, CHECK_OF_ALL)?, volume::of_other_kind(record));
+    let place = if digits(&other, CHECK_OF_ALL)? == typed {
+        format!("it is that of '{}'", depth_line(&other))
+    } else if form.checked {
+        "the slip is in this line".to_string()
+    } else {
+        "a digit is wrong".to_string()
+    };
+    let slip = format!("line {at}: the check of this record is {right}, not {typed}: {place}");
+    Ok(Some(slip).filter(|_| typed != right))
 }
 
 /// What is wrong with a length that the depth does not hold.
@@ -280,7 +310,7 @@ fn bytes_of(line: &Line, place: usize, form: Form) -> Result<(Vec<u8>, String), 
         return Err(format!("{} is wanted, not {}", name(place), line.begins()));
     }
     match WORDS.get(place) {
-        Some((_, unit)) => word(line, place, unit, form),
+        Some((_, after)) => word(line, place, after, form),
         None => hash(line, place, form),
     }
 }
@@ -291,11 +321,42 @@ fn no_digit(place: usize, typed: &str) -> Option<String> {
     Some(format!("{} has '{other}', which is no digit from 0 to f", name(place)))
 }
 
-/// What a line in words has before what it counts, or as its first group where that is not there; and what comes after.
-fn parted<'a>(said: &'a str, unit: &str) -> (&'a str, &'a str) {
-    let counted = said.split_once(unit).filter(|_| !unit.is_empty());
-    let (value, check) = counted.or_else(|| said.split_once(' ')).unwrap_or((said, ""));
-    (value.trim(), check.trim())
+/// What a line in words has before one of these words, or as its first group where none is there; the word; and what
+/// comes after.
+fn parted<'a>(said: &'a str, words: &[&'static str]) -> (&'a str, Option<&'static str>, &'a str) {
+    let at = |word: &&'static str| {
+        said.split_once(*word).map(|(value, check)| (value, Some(*word), check))
+    };
+    let without = || said.split_once(' ').map(|(value, check)| (value, None, check));
+    let found = words.iter().find_map(at).or_else(without);
+    let (value, word, check) = found.unwrap_or((said, None, ""));
+    (value.trim(), word, check.trim())
+}
+
+/// The kind of a line's word: that of the depth's is the volume's, which is plain where the line does not say it, as none
+/// did while there was one kind.
+fn kind_of(place: usize, said: Option<&str>) -> u32 {
+    let placed = said == Some(volume::word(Kind::Placed));
+    match place {
+        0 if placed => Kind::Placed.number() as u32,
+        0 => Kind::Plain.number() as u32,
+        _ => place as u32 + 1,
+    }
+}
+
+/// Whether a group of the depth's line has the kind in it.
+fn says_kind(group: &str) -> bool {
+    WORDS[0].1.iter().any(|word| group.contains(word))
+}
+
+/// That a line in words has another word than these after its number, where it has; its last group may be a check.
+fn other_word(place: usize, said: &str, words: &[&str], form: Form) -> Option<String> {
+    let groups: Vec<&str> = said.split(' ').collect();
+    let before = groups.len() - usize::from(form.checked);
+    let other = groups[..before].iter().find(|group| no_digit(place, group).is_some())?;
+    let other = other.escape_default();
+    let wanted = if words.len() > 1 { "neither" } else { "not" };
+    Some(format!("{} has '{other}', which is {wanted} {}", name(place), words.join(" nor ")))
 }
 
 /// What is wrong with the groups of a line in words. Number and check are one each: were they put together, a check
@@ -312,12 +373,18 @@ fn misgrouped(value: &str, check: &str, form: Form) -> Option<&'static str> {
     }
 }
 
-/// The word that a line writes as a decimal number, with what it counts or without, and its check.
-fn word(line: &Line, place: usize, unit: &str, form: Form) -> Result<(Vec<u8>, String), String> {
+/// The word that a line writes as a decimal number, with one of these words after it or without, and its check.
+fn word(
+    line: &Line,
+    place: usize,
+    words: &[&'static str],
+    form: Form,
+) -> Result<(Vec<u8>, String), String> {
     const MOST: u32 = (1 << 30) - 1;
     let (name, said) = (name(place), line.words[1..].join(" "));
-    let (value, check) = parted(&said, unit);
-    if let Some(why) = no_digit(place, value).or_else(|| no_digit(place, check)) {
+    let (value, after, check) = parted(&said, words);
+    let other = no_digit(place, value).or_else(|| other_word(place, check, words, form));
+    if let Some(why) = other.or_else(|| no_digit(place, check)) {
         return Err(why);
     }
     if let Some(why) = misgrouped(value, check, form) {
@@ -330,7 +397,7 @@ fn word(line: &Line, place: usize, unit: &str, form: Form) -> Result<(Vec<u8>, S
     let least = u32::from(place == 0);
     let value = value.parse().ok().filter(|value| (least..=most).contains(value));
     let value = value.ok_or_else(|| format!("{name} is a number from {least} to {most}"))?;
-    let word = (place as u32 + 1) << 30 | value;
+    let word = kind_of(place, after) << 30 | value;
     Ok((word.to_be_bytes().to_vec(), check.to_string()))
 }
 

@@ -17,7 +17,7 @@ pub fn run(arguments: &Arguments) -> Done {
     let depth = depths::of_record(depth, &record)?;
     let inputs = [&record, &table, &proof];
     let file = File { name: &proof.name, bytes: &proof.bytes };
-    let broken = |stop| paths::of_proof(stop, depth, &record.bytes, &table.bytes, file);
+    let broken = |stop| paths::of_proof(stop, &record.bytes, &table.bytes, file);
     cedunmi::check_proof(depth, &record.bytes, &table.bytes, &proof.bytes)
         .map_err(|stop| broken(stop).unwrap_or_else(|| stopped(stop, depth, &inputs)))?;
     told(arguments, "accepted: the volume with this record was not coded as this table says")

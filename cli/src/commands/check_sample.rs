@@ -16,7 +16,7 @@ pub fn run(arguments: &Arguments) -> Done {
     let depth = depths::of_record(depth, &record)?;
     let inputs = [&record, &sample];
     let file = File { name: &sample.name, bytes: &sample.bytes };
-    let broken = |stop| paths::of_sample(stop, depth, number, &record.bytes, file);
+    let broken = |stop| paths::of_sample(stop, number, &record.bytes, file);
     cedunmi::check_sample(depth, number, &record.bytes, &sample.bytes)
         .map_err(|stop| broken(stop).unwrap_or_else(|| stopped(stop, depth, &inputs)))?;
     told(arguments, "accepted: every hash leads to the root")

@@ -1,13 +1,16 @@
-//! `code [DEPTH] TABLE VOLUME FOLDER`
+//! `code [DEPTH] TABLE VOLUME FOLDER`, and `code --plain [DEPTH] TABLE VOLUME FOLDER`
 
-use super::Done;
+use super::{made, Done};
 use crate::arguments::Arguments;
 use crate::depths;
+use crate::failure::Failure;
 use crate::input::{stopped, Reader};
 use crate::kind::Kind;
 use crate::output::{Content, Output};
+use crate::volume::called;
+use cedunmi::Coded;
 
-const FILES: [&str; 3] = ["tree", "marks", "record"];
+pub const FILES: [&str; 3] = ["tree", "marks", "record"];
 
 pub fn run(arguments: &Arguments) -> Done {
     let (depth, [table, volume, folder]) = arguments.take_after_depth()?;
@@ -18,13 +21,20 @@ pub fn run(arguments: &Arguments) -> Done {
     let inputs = [&table, &volume];
     let output = Output::folder(folder, &FILES, arguments.options, &inputs)?;
     let depth = depths::of_table(depth, &table);
-    let coded = cedunmi::code(depth, &table.bytes, &volume.bytes)
+    let kind = match arguments.options.plain {
+        true => cedunmi::Kind::Plain,
+        false => cedunmi::Kind::Placed,
+    };
+    let coded = cedunmi::code(depth, kind, &table.bytes, &volume.bytes)
         .map_err(|stop| stopped(stop, depth, &inputs))?;
+    put(output, &coded)?;
+    made(arguments, &format!("coded: {}", called(kind)))
+}
+
+/// Puts a coded volume into its folder.
+pub fn put(output: Output, coded: &Coded) -> Result<(), Failure> {
     let [tree, marks, record] = FILES;
-    output.put(Content::Folder(&[
-        (tree, &coded.tree),
-        (marks, &coded.marks),
-        (record, &coded.record),
-    ]))?;
-    Ok(0)
+    let files: [(&str, &[u8]); 3] =
+        [(tree, &coded.tree), (marks, &coded.marks), (record, &coded.record)];
+    output.put(Content::Folder(&files))
 }

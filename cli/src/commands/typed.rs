@@ -24,6 +24,9 @@ pub fn run(arguments: &Arguments) -> Done {
     output.put(Content::File(&typed.record))?;
     if typed.unchecked && !arguments.options.quiet {
         said::remark("no check was typed: a slip in these lines would not be found");
+        if typed.kindless {
+            said::remark("no kind was typed: it is taken for plain, as older prints are");
+        }
     }
     Ok(0)
 }

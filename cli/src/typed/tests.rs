@@ -4,12 +4,17 @@ use crate::printed::{hex, print};
 /// The lines before those of the record, which are comments.
 const COMMENTS: usize = 7;
 
-/// A record of depth 5 and 700 bytes, by the house table; its root is made up.
+/// A record with places of depth 5 and 700 bytes, by the house table; its root is made up.
 fn record() -> Vec<u8> {
     let table = cedunmi::house_table(5).expect("the house table");
-    let head = [64, 0, 0, 5, 128, 0, 2, 188, 192, 0, 7, 69].into_iter();
+    let head = [0, 0, 0, 5, 128, 0, 2, 188, 192, 0, 7, 69].into_iter();
     let root = (0..512).map(|i| (i * 37 + i / 32) as u8);
     head.chain(cedunmi::sha256(&table).expect("its hash")).chain(root).collect()
+}
+
+/// The same of a plain volume.
+fn plain() -> Vec<u8> {
+    volume::of_other_kind(&record())
 }
 
 fn slips(text: &str) -> Vec<String> {
@@ -28,7 +33,7 @@ fn printed() -> (String, Vec<String>) {
 
 /// The lines of a print as they are without number and check.
 fn bare() -> Vec<String> {
-    let words = ["depth 5", "length 700", "table 1861"].map(str::to_string).into_iter();
+    let words = ["depth 5 placed", "length 700", "table 1861"].map(str::to_string).into_iter();
     words.chain(record()[12..].chunks(32).map(hex)).collect()
 }
 
@@ -39,6 +44,54 @@ fn a_print_is_read_back() {
     assert_eq!((typed.record, typed.unchecked), (record(), false));
     assert_eq!(lines.len(), COMMENTS + LINES + 1);
     assert!(lines[..COMMENTS].iter().all(|line| line.starts_with('#')));
+}
+
+/// A plain one too; and as it was printed while there was one kind, which its line did not say: with checks, with the
+/// last one alone, with none.
+#[test]
+fn plain_prints_are_read_back() {
+    let new = print(&plain()).unwrap();
+    assert!(new.contains("\ndepth   5 plain       "));
+    let old = new.replace("5 plain ", "5       ");
+    let unchecked = [&["depth 5".to_string()], &bare()[1..]].concat().join("\n");
+    let last = old.lines().last().expect("the check of all");
+    for text in [&new, &old, &unchecked, &format!("{unchecked}\n{last}")] {
+        let typed = parse(text.as_bytes()).unwrap();
+        assert_eq!((typed.record, typed.kindless), (plain(), text != &new), "{text}");
+    }
+}
+
+/// The kind left out, or the other one, or another word, is a slip of the depth's line; which kind its check has is said.
+#[test]
+fn slips_of_the_kind_are_named() {
+    let (text, _) = printed();
+    let with = |word: &str| slips(&text.replace("5 placed", &format!("5 {word}")));
+    let misfit = "line 8: depth has a slip: it does not fit its check";
+    for word in ["", "plain"] {
+        assert_eq!(with(word), [format!("{misfit}, which is that of 'depth 5 placed'")]);
+    }
+    for word in ["palced", "place", "placd", "0", "with places"] {
+        let found = with(word);
+        assert!(found.len() == 1 && found[0].starts_with("line 8: depth has "), "{found:?}");
+    }
+    assert_eq!(with("palced"), ["line 8: depth has 'palced', which is neither placed nor plain"]);
+    assert_eq!(slips(&text.replace("5 placed", "4 plain")), [misfit]);
+    let new = print(&plain()).unwrap();
+    let other = slips(&new.replace("5 plain", "5 placed"));
+    assert!(other
+        .concat()
+        .ends_with("it does not fit its check, which is that of 'depth 5 plain'"));
+}
+
+/// Where no line has its check, the check of all finds the kind.
+#[test]
+fn the_check_of_all_has_the_kind() {
+    let (text, _) = printed();
+    let last = text.lines().last().expect("the check of all").to_string();
+    let lines = [&["depth 5".to_string()], &bare()[1..], &[last]].concat();
+    let found = slips(&lines.join("\n"));
+    assert!(found.len() == 1 && found[0].starts_with("line 21: the check of this record is "));
+    assert!(found[0].ends_with(": it is that of 'depth 5 placed'"), "{found:?}");
 }
 
 /// With or without numbers and checks, in groups of any length, in either case.
@@ -179,7 +232,8 @@ fn numbers_in_words_are_read() {
     };
     let [depth, length, table] = [0, 1, 2].map(|at| lines[COMMENTS + at][22..].to_string());
     for same in [
-        with(0, &format!("Depth: 5 {depth}")),
+        with(0, &format!("Depth: 5 Placed {depth}")),
+        with(0, &format!("depth 5placed{depth}")),
         with(1, &format!("length 700 {length}")),
         with(1, &format!("length 700bytes{length}")),
         with(2, &format!("TABLE. 1861 WORDS {table}")),
@@ -188,6 +242,9 @@ fn numbers_in_words_are_read() {
     }
     let said = |at, line: &str| slips(&with(at, line)).concat();
     assert_eq!(said(0, "depth"), "line 1: depth has no number");
+    assert_eq!(said(0, &format!("depth placed {depth}")), "line 1: depth has no number");
+    let twice = said(0, &format!("depth 5 placed placed {depth}"));
+    assert_eq!(twice, "line 1: depth has 'placed', which is neither placed nor plain");
     assert_eq!(
         said(1, "length 700 bytes"),
         "line 2: length has no check, and other lines have one"
@@ -199,7 +256,10 @@ fn numbers_in_words_are_read() {
     let found = said(1, &format!("length 7.00 {length}"));
     assert_eq!(found, "line 2: length has '.', which is no digit from 0 to f");
     assert_eq!(said(2, &format!("tabel 1861 {table}")), "line 3: table is wanted, not 'tabel'");
-    assert_eq!(said(0, &format!("depth 12 {depth}")), "line 1: depth is a number from 1 to 9");
+    assert_eq!(
+        said(0, &format!("depth 12 placed {depth}")),
+        "line 1: depth is a number from 1 to 9"
+    );
     assert_eq!(said(1, "lenght 700 bytes"), "line 2: length is wanted, not 'lenght'");
     assert_eq!(said(1, "length 7oo 0000"), "line 2: length has 'o', which is no digit from 0 to f");
     assert_eq!(said(1, "length 7a0 0000"), "line 2: length has '7a0', which is no decimal number");
