@@ -5,38 +5,39 @@ import shlex
 import struct
 
 import by_hand
-from by_hand import DEPTHS
+from by_hand import DEPTHS, KINDS
 from room import Coded, contents, need, put, slurp, table_leaving, volume_of
 
-STATUSES = [*range(13), 30, 31, 32, 33, 43, 64, 65, 66, 70, 73, 74]
+STATUSES = [*range(13), 14, 30, 31, 32, 33, 43, 64, 65, 66, 70, 73, 74]
 MISFILLED = 13      # the end of a repair, explained as its status 43 is
-COMMANDS = ["table", "check-table", "code", "record", "typed", "sample", "check-sample", "check",
-            "repair", "check-proof", "read", "explain", "sha256", "help"]
+COMMANDS = ["table", "check-table", "code", "recode", "record", "typed", "sample", "check-sample",
+            "check", "repair", "check-proof", "read", "explain", "sha256", "help"]
 
 
 def test_every_depth(room):
-    """Tables, trees, samples and volumes are those made by hand, and each check accepts them."""
+    """Tables, trees and volumes of both kinds are those made by hand, and each check accepts them."""
     for depth in DEPTHS:
-        coded = Coded(depth, 1)
-        put("volume", coded.volume)
-        room.works("table", depth, "t%d" % depth)
-        need(slurp("t%d" % depth) == coded.table, "the house table of depth", depth)
-        room.ends(0, "check-table", depth, "t%d" % depth).prints(
+        table = "t%d" % depth
+        room.works("table", depth, table)
+        need(slurp(table) == by_hand.house_table(depth), "the house table of depth", depth)
+        room.ends(0, "check-table", depth, table).prints(
             "accepted: the table is well-formed, with each data page in two equations or more\n")
-        folder = "coded%d" % depth
-        room.works("code", depth, "t%d" % depth, "volume", folder)
-        need(contents(folder) == coded.files(), "what code wrote at depth", depth)
-        for options in ([depth, folder + "/record", "t%d" % depth],
-                        ["--unverified", depth, folder + "/record"]):
-            room.works("read", *options, folder + "/tree", folder + "/marks", "back")
-            need(slurp("back") == coded.volume, "the volume read at depth", depth)
-            os.remove("back")
+        for kind in KINDS:
+            coded, folder = Coded(depth, 1, kind=kind), "coded%d-%d" % (depth, kind)
+            put("volume", coded.volume)
+            room.codes(depth, table, "volume", folder, kind=kind)
+            need(contents(folder) == coded.files(), "what code wrote at depth", depth, kind)
+            for options in ([depth, folder + "/record", table],
+                            ["--unverified", depth, folder + "/record"]):
+                room.works("read", *options, folder + "/tree", folder + "/marks", "back")
+                need(slurp("back") == coded.volume, "the volume read at depth", depth)
+                os.remove("back")
 
 
 def test_samples(room):
     """Samples of every kind of number are those made by hand, and no other number's."""
-    for depth in DEPTHS:
-        coded = Coded(depth, 2).lay()
+    for depth, kind in ((depth, kind) for depth in DEPTHS for kind in KINDS):
+        coded = Coded(depth, 2, kind=kind).lay()
         last = (8 << depth) - 1
         for number in sorted({0, 1, 5, last // 3, last // 2, last}):
             name = "sample%d" % number
@@ -54,7 +55,7 @@ def test_other_tables(room):
     equations[1][0] = [0, 2, 8]
     coded = Coded(2, 3, by_hand.table_of(equations)).lay()
     room.ends(0, "check-table", 2, "table")
-    room.works("code", 2, "table", "volume", "coded")
+    room.codes(2, "table", "volume", "coded")
     need(contents("coded") == coded.files(), "a volume coded by another table")
     room.works("read", 2, "record", "table", "tree", "marks", "back")
     need(slurp("back") == coded.volume, "a volume read by another table")
@@ -95,6 +96,8 @@ def test_uncovered_everywhere(room):
                   ("repair", 2, "record", "thin", "tree", "marked", "none"),
                   ("repair", "--in-place", 2, "record", "thin", "tree", "marked", "none"),
                   ("read", 2, "record", "thin", "tree", "marked", "none"),
+                  ("recode", 2, "record", "thin", "tree", "marked", "none"),
+                  ("code", "--plain", 2, "thin", "volume", "none"),
                   ("check-proof", 2, "record", "thin", "proof")):
         said = room.refused(10, *words).says(
             "cedunmi: a data page stands in fewer than two equations of its layer: "
@@ -125,6 +128,8 @@ def test_numbers(room):
             (1, "depth", ("check", 10, "record", "table", *tree)),
             (1, "depth", ("repair", 10, "record", "table", *tree, "none")),
             (1, "depth", ("read", 10, "record", "table", *tree, "none")),
+            (1, "depth", ("recode", 10, "record", "table", *tree, "none")),
+            (1, "depth", ("code", "--plain", 10, "table", "volume", "none")),
             (1, "depth", ("read", "--unverified", 10, "record", *tree, "none")),
             (1, "depth", ("sample", 10, 3, *tree, "none")),
             (1, "depth", ("check-sample", 10, 3, "record", "sample")),
@@ -136,8 +141,10 @@ def test_numbers(room):
             (3, "word 1 ", ("check-table", 1, "bad")), (3, "", ("check-table", 2, "table")),
             (3, "word 1 ", ("check", 1, "record", "bad", *tree)),
             (3, "word 1 ", ("repair", 1, "record", "bad", *tree, "none")),
+            (3, "word 1 ", ("recode", 1, "record", "bad", *tree, "none")),
             (4, "3", ("repair", 1, "record", "table", "tree", "marked", "none")),
             (4, "3", ("check", 1, "record", "table", "tree", "marked")),
+            (4, "3", ("recode", 1, "record", "table", "tree", "marked", "none")),
             (4, "3", ("read", 1, "record", "table", "tree", "marked", "none")),
             (4, "3", ("read", "--unverified", 1, "record", "tree", "marked", "none")),
             (4, "3", ("sample", 1, 0, "tree", "marked", "none")),
@@ -146,7 +153,10 @@ def test_numbers(room):
             (5, "", ("check-sample", 1, 16, "record", "sample")),
             (7, "", ("check-sample", 1, 4, "record", "sample")),
             (9, "page 3", ("read", "--unverified", 1, "record", "tree", "lost", "none")),
-            (9, "page 3", ("sample", 1, 3, "tree", "lost", "none"))]:
+            (9, "page 3", ("sample", 1, 3, "tree", "lost", "none")),
+            (14, "1 pages absent, 0 bad", ("recode", "record", "table", "tree", "lost", "none")),
+            (14, "0 pages absent, 1 bad", ("recode", 1, "record", "table", "harmed", "marks",
+                                           "none"))]:
         room.refused(status, *words).says(said)
     room.works("read", "--unverified", 1, "record", "harmed", "marks", "unverified")
     need(slurp("unverified")[900] == ord("x"), "read --unverified looks at hashes")
@@ -172,6 +182,9 @@ def test_lengths(room):
                   ("sample", 2, 3, "tree", "other", "none"),
                   ("read", "--unverified", 2, "record", "tree", "other", "none"),
                   ("repair", 2, "record", "other", "tree", "marks", "none"),
+                  ("recode", 2, "record", "table", "other", "marks", "none"),
+                  ("recode", 2, "record", "table", "tree", "other", "none"),
+                  ("recode", 2, "other", "table", "tree", "marks", "none"),
                   ("check-proof", 2, "record", "table", "other"),
                   ("check-proof", 2, "other", "table", "sample")):
         room.refused(2, *words).says("cedunmi: other has 7 bytes; ")
@@ -181,8 +194,8 @@ def test_lengths(room):
 
 def test_proofs(room):
     """A fault proof is accepted for its record and table alone; each way to spoil it is a number."""
-    for depth in DEPTHS:
-        wrong = Coded(depth, 4).wrong_seven().lay()
+    for depth, kind in ((depth, kind) for depth in DEPTHS for kind in KINDS):
+        wrong = Coded(depth, 4, kind=kind).wrong_seven().lay()
         proof = wrong.repair().proof
         put("proof", proof)
         room.ends(0, "check-proof", depth, "record", "table", "proof").prints(
@@ -196,7 +209,7 @@ def test_proofs(room):
         put("long", proof + b"\0")
         room.refused(2, "check-proof", depth, "record", "table", "long").says(
             "cedunmi: long has %d bytes; " % (len(proof) + 1))
-        right = Coded(depth, 4)
+        right = Coded(depth, 4, kind=kind)
         put("right", right.record)
         room.refused((7, 8), "check-proof", depth, "right", "table", "proof")
     right.lay()
@@ -233,7 +246,12 @@ def test_usage(room):
                   ("table", "--in-place", 1, "none"), ("table", "--unverified", 1, "none"),
                   ("code", "--in-place", 1, "table", "volume", "none"),
                   ("check", "--force", 1, *whole), ("check", "--in-place", 1, *whole),
-                  ("repair", "--unverified", 1, *whole, "none"),
+                  ("repair", "--unverified", 1, *whole, "none"), ("recode", *whole),
+                  ("recode", "one", *whole, "none"), ("recode", *whole[:3]),
+                  ("recode", 1, 1, *whole, "none"), ("recode", "--plain", *whole, "none"),
+                  ("recode", "--in-place", *whole, "none"), ("repair", "--plain", *whole, "none"),
+                  ("table", "--plain", 1, "none"), ("code", "--placed", "table", "volume", "none"),
+                  ("code", "--plain=yes", "table", "volume", "none"), ("code", "--plain", "table"),
                   ("table", "--force=yes", 1, "none"), ("table", "--forc", 1, "none")]:
         room.refused(64, *words)
     room.refused((1, 64), "table", 2 ** 64 + 1, "none")
@@ -251,6 +269,7 @@ def test_unreadable(room):
                   ("check-sample", 1, 3, "record", "sample"),
                   ("check", 1, "record", "table", "tree", "marks"),
                   ("repair", 1, "record", "table", "tree", "marks", "none"),
+                  ("recode", 1, "record", "table", "tree", "marks", "none"),
                   ("check-proof", 1, "record", "table", "proof"),
                   ("read", 1, "record", "table", "tree", "marks", "none")]:
         for place, word in enumerate(words):
@@ -273,7 +292,7 @@ def test_help(room):
         need(room.run(command, "-h").out == lines, "other lines by -h for", command)
         need(re.match(rb"\W*(usage: )?(cedunmi )?%s\b" % command.encode(), lines), lines)
         need(len(lines) < len(said.out) // 2, "help", command, "says everything")
-    for option in ("--force", "--in-place", "--unverified", "--for", "--quiet", "-q",
+    for option in ("--force", "--in-place", "--unverified", "--for", "--plain", "--quiet", "-q",
                    "--version"):
         need(option in text, "the help has not", option)
     version = room.ends(0, "--version").out
@@ -293,7 +312,7 @@ def test_statuses(room):
         need(len(words) > 10 and words.endswith(b"\n"), "explain", status, "prints", words)
         said.add(words)
     need(len(said) == len(STATUSES) + 1, "two statuses are explained alike")
-    for status in (14, 23, 29, 42, 44, 34, 63, 67, 75, 256, -1):
+    for status in (15, 23, 29, 42, 44, 34, 63, 67, 75, 256, -1):
         room.refused(64, "explain", "--", status)
 
 
@@ -312,11 +331,14 @@ def test_examples(room):
 def test_quiet(room):
     """With -q nothing is printed, and the status is the same; data and errors are still there."""
     coded = Coded(1).harm(absent=[2]).lay()
+    put("held", b"\1" * 16)
     whole = (1, "record", "table", "tree", "marks")
     for option in ("-q", "--quiet"):
         room.ends(30, "check", option, *whole).prints("")
         room.ends(0, "check-sample", option, 1, 3, "record", "sample").prints("")
         room.ends(0, "check-table", 1, "table", option).prints("")
+        room.ends(0, "code", option, 1, "table", "volume", "coded" + option).prints("")
+        room.ends(0, "recode", "record", "table", "tree", "held", "new" + option, option).prints("")
         room.ends(0, option, "repair", *whole, "made" + option).prints("")
         need(contents("made" + option) == coded.repair().files(), "what a quiet repair wrote")
         room.refused(66, "check-table", option, 1, "nowhere")

@@ -3,6 +3,7 @@ reports.
 
 The tests compare with it what the program writes and prints. It shares no code with the library.
 """
+import functools
 import hashlib
 import heapq
 import struct
@@ -10,6 +11,9 @@ from collections import Counter
 
 PAGE = 256
 DEPTHS = range(1, 10)
+PLACED, PLAIN = KINDS = 0, 1
+CALLED = ("kind 00, with places", "kind 01, plain")     # by the program
+KIND_WORDS = ("placed", "plain")                        # in a print
 WHOLE, FAULT, UNAVAILABLE, MISFILLED = 0, 1, 2, 13
 HEAD = 44         # bytes of a record before the root
 MISFILLED_SAID = ("misfilled: every page is held, and the tree agrees with the root and the table, "
@@ -19,6 +23,12 @@ MISFILLED_SAID = ("misfilled: every page is held, and the tree agrees with the r
 def digest(data):
     """The SHA-256 of the bytes."""
     return hashlib.sha256(data).digest()
+
+
+def page_hash(kind, layer, number, page):
+    """The hash of a page in a volume of this kind; its number is that in its layer."""
+    place = struct.pack(">I", 1 << 30 | layer << 24 | number)
+    return digest((b"" if kind == PLAIN else place) + page)
 
 
 def first(layer):
@@ -108,16 +118,26 @@ def with_parity(data, equations):
     return layer
 
 
-def hashes_above(layer):
+def hashes_above(hashes):
     """The data pages of the layer above: eight hashes of this layer in each."""
-    s = len(layer) // 8
-    return [b"".join(digest(layer[q * s + i]) for q in range(8)) for i in range(s)]
+    s = len(hashes) // 8
+    return [b"".join(hashes[q * s + i] for q in range(8)) for i in range(s)]
 
 
-def head_of(depth, length, table):
-    """The record of a volume without the root: what it says of depth, length and table."""
-    return struct.pack(">3I", 1 << 30 | depth, 2 << 30 | length, 3 << 30 | len(table) // 4) \
-        + digest(table)
+def head_of(depth, length, table, kind=PLACED):
+    """The record of a volume without the root: what it says of kind, depth, length and table."""
+    words = kind << 30 | depth, 2 << 30 | length, 3 << 30 | len(table) // 4
+    return struct.pack(">3I", *words) + digest(table)
+
+
+def kind_of(record):
+    """The kind of volume that a record says."""
+    return record[0] >> 6
+
+
+def of_other_kind(record):
+    """A record that says the other kind, of the same root."""
+    return bytes([record[0] ^ 64]) + record[1:]
 
 
 def length_of(record):
@@ -125,22 +145,23 @@ def length_of(record):
     return struct.unpack(">I", record[4:8])[0] & (1 << 30) - 1
 
 
-def tree_of(depth, table, filled):
-    """Tree and root of a volume that is filled up."""
+@functools.lru_cache(maxsize=8)
+def tree_of(depth, table, filled, kind=PLACED):
+    """Tree and root of a volume of this kind that is filled up."""
     equations = equations_of(table)
     data = [filled[i:i + PAGE] for i in range(0, len(filled), PAGE)]
     layers = []
     for j in reversed(range(depth)):
         layers.insert(0, with_parity(data, equations[j]))
-        data = hashes_above(layers[0])
-    root = b"".join(digest(page) for page in layers[0])
-    return b"".join(b"".join(layer) for layer in layers), root
+        hashes = [page_hash(kind, j, i, page) for i, page in enumerate(layers[0])]
+        data = hashes_above(hashes)
+    return b"".join(b"".join(layer) for layer in layers), b"".join(hashes)
 
 
-def code(depth, table, volume):
+def code(depth, table, volume, kind=PLACED):
     """Tree, marks and record of a volume."""
-    tree, root = tree_of(depth, table, volume.ljust(lengths(depth)["volume"], b"\0"))
-    return tree, b"\1" * first(depth), head_of(depth, len(volume), table) + root
+    tree, root = tree_of(depth, table, volume.ljust(lengths(depth)["volume"], b"\0"), kind)
+    return tree, b"\1" * first(depth), head_of(depth, len(volume), table, kind) + root
 
 
 def sample_places(depth, number):
@@ -187,7 +208,8 @@ def unfit(way, record, data):
     for (layer, held), hashes in zip(way, above):
         s = pages(layer) // 8 if layer else 1
         yield [(i, at) for i, at in held
-               if digest(data[at:at + PAGE]) != hashes[32 * (i // s):][:32]]
+               if page_hash(kind_of(record), layer, i, data[at:at + PAGE])
+               != hashes[32 * (i // s):][:32]]
 
 
 def listed(word, numbers):
@@ -268,7 +290,7 @@ class Repair:
     """A repair of a tree: its end, what it stored, the tree and the marks then, and the proof."""
 
     def __init__(self, depth, record, table, tree, marks):
-        self.depth, self.root = depth, record[HEAD:]
+        self.depth, self.kind, self.root = depth, kind_of(record), record[HEAD:]
         self.tree = [tree[i:i + PAGE] for i in range(0, len(tree), PAGE)]
         self.marks = list(marks)
         self.end, self.stored, self.proof, self.layers = WHOLE, 0, b"", []
@@ -283,19 +305,21 @@ class Repair:
         base = first(self.depth - 1)
         return b"".join(self.tree[base:base + pages(self.depth - 1) // 4])
 
-    def committed(self, layer, number):
-        """The hash that stands for a page."""
+    def fits(self, layer, number, page):
+        """Whether a page has the hash that stands for the one of this number."""
         if layer == 0:
-            return self.root[32 * number:32 * number + 32]
-        s = pages(layer) // 8
-        return self.tree[first(layer - 1) + number % s][32 * (number // s):][:32]
+            committed = self.root[32 * number:32 * number + 32]
+        else:
+            s = pages(layer) // 8
+            committed = self.tree[first(layer - 1) + number % s][32 * (number // s):][:32]
+        return page_hash(self.kind, layer, number, page) == committed
 
     def enter(self, number, equations):
         """Repairs one layer."""
         low, count = first(number), pages(number)
         found = Layer(number, self.marks[low:low + count].count(0), [])
         for i in range(count):
-            if self.marks[low + i] and digest(self.tree[low + i]) != self.committed(number, i):
+            if self.marks[low + i] and not self.fits(number, i, self.tree[low + i]):
                 found.bad.append(low + i)
                 self.marks[low + i] = 0
             if not self.marks[low + i]:
@@ -317,7 +341,7 @@ class Repair:
             withheld = gone[0] if gone else members[-1]
             others = [i for i in members if i != withheld]
             formed = xor(self.tree[low + i] for i in others)
-            if digest(formed) != self.committed(layer, withheld):
+            if not self.fits(layer, withheld, formed):
                 self.end = FAULT
                 self.proof = self.prove(layer, number, withheld, others)
             elif gone:
@@ -390,11 +414,11 @@ def check_of(before, value):
     return digest(bytes([before]) + value).hex()[:4]
 
 
-def printed(record):
+def printed(record, kinds=True):
     """The lines of a printed record, without its comments: depth, length, table, hash T, the
-    hashes 0 to 15, and the check of all."""
-    lines = []
-    for i, form in enumerate(("depth   %d", "length  %d bytes", "table   %d words")):
+    hashes 0 to 15, and the check of all. Without KINDS, as it was while there was one kind."""
+    lines, word = [], " " + KIND_WORDS[kind_of(record)] if kinds else ""
+    for i, form in enumerate(("depth   %d" + word, "length  %d bytes", "table   %d words")):
         word = record[4 * i:4 * i + 4]
         said = form % (struct.unpack(">I", word)[0] & (1 << 30) - 1)
         lines.append("%-20s  %s" % (said, check_of(16 + i, word)))

@@ -11,6 +11,7 @@ WHOLE = ("record", "table", "tree", "marks")
 # Each command, and its statuses with a file of zeros without end in each place.
 PLACES = [(("check-table", 1, "table"), {"table": 2}),
           (("code", 1, "table", "volume", "none"), {"table": 2, "volume": 2}),
+          (("recode", 1, *WHOLE, "none"), dict.fromkeys(WHOLE, 2)),
           (("record", "record"), {"record": 2}), (("sha256", "volume"), {"volume": 2}),
           (("typed", "text", "none"), {"text": (2, 65)}),
           (("sample", 1, 3, "tree", "marks", "none"), {"tree": 2, "marks": 2}),
@@ -101,7 +102,9 @@ def test_little_memory(room):
     """At the largest depth, every file at its longest, little memory is enough."""
     Coded(9).harm(bad=range(5000, 5030)).lay()
     for words in (("check", 9, *WHOLE), ("read", 9, *WHOLE, "volume2"),
-                  ("repair", 9, *WHOLE, "made")):
-        room.ends((0, 30), *words, limits=[(resource.RLIMIT_AS, 64 << 20)])
+                  ("repair", 9, *WHOLE, "made"), ("recode", 9, *WHOLE, "none"),
+                  ("recode", 9, "record", "table", "made/tree", "made/marks", "other")):
+        room.ends((0, 14, 30), *words, limits=[(resource.RLIMIT_AS, 64 << 20)])
+    need(os.path.exists("other/tree") and not os.path.exists("none"), "what was recoded")
     put("megabyte", bytes(1 << 20))
     room.ends(0, "sha256", "megabyte", limits=[(resource.RLIMIT_AS, 64 << 20)])

@@ -14,16 +14,20 @@ COMMANDS = [(0, ("check-table",), ("table",)), (0, ("code",), ("table", "volume"
             (0, ("sample",), (3, "tree", "marks", "OUT")),
             (1, ("check-sample",), (3, "record", "sample")), (1, ("check",), WHOLE),
             (1, ("repair",), (*WHOLE, "OUT")), (1, ("repair", "--in-place"), (*WHOLE, "OUT")),
+            (1, ("recode",), ("record", "table", "whole", "held", "OUT")),
+            (0, ("code", "--plain"), ("table", "volume", "OUT")),
             (1, ("check-proof",), ("record", "table", "proof")), (1, ("read",), (*WHOLE, "OUT")),
             (1, ("read", "--unverified"), ("record", "tree", "marks", "OUT"))]
 
 
 def lay(depth, **how):
     """A damaged volume, and a proof that shows nothing."""
-    coded = Coded(depth, 31, **how).harm(bad=[2], absent=[9]).lay()
+    whole = Coded(depth, 31, **how)
+    put("whole", whole.tree)
+    put("held", whole.marks)
     put("proof", struct.pack(">3I", 1 << 30, 2 << 30, 3 << 30 | 4)
-        + b"".join(Coded(depth, 31, **how).tree[256 * i:256 * i + 256] for i in (0, 1)))
-    return coded
+        + b"".join(whole.tree[256 * i:256 * i + 256] for i in (0, 1)))
+    return whole.harm(bad=[2], absent=[9]).lay()
 
 
 def done(room, words):
@@ -46,7 +50,7 @@ def test_left_out(room):
     then says which it is."""
     statuses = set()
     for depth in DEPTHS:
-        lay(depth, length=700)
+        lay(depth, length=700, kind=depth % 2)
         for _, command, after in COMMANDS:
             given = done(room, (*command, depth, *after))
             without = done(room, (*command, *after))
@@ -81,7 +85,7 @@ def test_count_tells(room):
                        ("5", coded.marks), ("7", coded.volume)):
         put(name, data)
     room.ends(0, "check-table", "1")
-    room.works("code", "1", "7", "9")
+    room.codes("1", "7", "9")
     need(contents("9") == coded.files(), "coded by the table 1")
     room.works("read", "3", "1", "4", "5", "8")
     need(slurp("8") == coded.volume, "read by the record 3")

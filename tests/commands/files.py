@@ -4,6 +4,7 @@ import shutil
 import socket
 import subprocess
 
+import by_hand
 import writers
 from room import Coded, contents, fill, need, put, slurp, snapshot, unchanged
 
@@ -11,7 +12,8 @@ WHOLE = ("record", "table", "tree", "marks")
 # Each command that writes one file, with its arguments; OUT is the output.
 FILES = [("table", 1, "OUT"), ("typed", "text", "OUT"), ("sample", 1, 3, "tree", "marks", "OUT"),
          ("read", 1, *WHOLE, "OUT"), ("read", "--unverified", 1, "record", "tree", "marks", "OUT")]
-FOLDERS = [("code", 1, "table", "volume", "OUT"), ("repair", 1, *WHOLE, "OUT")]
+FOLDERS = [("code", 1, "table", "volume", "OUT"), ("repair", 1, *WHOLE, "OUT"),
+           ("recode", 1, *WHOLE, "OUT")]
 IN_PLACE = ("repair", "--in-place", 1, *WHOLE, "OUT")
 INPUTS = ("table", "volume", "text", "tree", "marks", "record")
 
@@ -53,7 +55,7 @@ def test_new_modes(room):
         old = os.umask(mask)
         try:
             room.works("table", 1, "new")
-            room.works("code", 1, "table", "volume", "made")
+            room.codes(1, "table", "volume", "made")
         finally:
             os.umask(old)
         modes = [os.stat(name).st_mode & 0o7777 for name in ("new", "made/tree", "made")]
@@ -144,7 +146,8 @@ def test_folder_is_input(room):
     coded = Coded(1).lay()
     room.refused(73, "code", 1, "table", "tree", ".")
     room.refused(73, "--force", "code", 1, "table", "tree", ".")
-    for words, names in ((FOLDERS[0], ("table", "volume")), (FOLDERS[1], WHOLE)):
+    for words, names in ((FOLDERS[0], ("table", "volume")), (FOLDERS[1], WHOLE),
+                         (FOLDERS[2], WHOLE)):
         for target in names:
             for inside in ("tree", "marks"):
                 fill("made", {})
@@ -156,6 +159,7 @@ def test_folder_is_input(room):
     fill("made", coded.files())
     made = ("made/tree", "made/marks", "made")
     room.refused(73, "--force", "repair", 1, "made/record", "table", *made)
+    room.refused(73, "--force", "recode", 1, "made/record", "table", *made)
     os.remove("made/record")
     room.refused(73, "--force", "repair", 1, "record", "table", *made)
     fill("made", {"tree": coded.volume, "t": coded.table})
@@ -226,10 +230,13 @@ def test_no_files(room):
 def test_folders(room):
     """FOLDER must not be there, or be empty; with --force it may hold what the command writes."""
     coded = Coded(1).harm(absent=[3]).lay()
-    made = {"code": Coded(1, table=coded.table).files(), "repair": coded.repair().files()}
-    other = {"code": "proof", "repair": "record"}
+    made = {"code": Coded(1, table=coded.table).files(), "repair": coded.repair().files(),
+            "recode": Coded(1, kind=by_hand.PLAIN).files()}
+    other = {"code": "proof", "repair": "record", "recode": "twins"}
     for words in FOLDERS:
         name = words[0]
+        if name == "recode":
+            put("marks", b"\1" * 16)
         os.mkdir("empty")
         room.ends(0, "-q", *to(words, "empty"))
         need(contents("empty") == made[name], "what was made in an empty folder:", words)
@@ -276,7 +283,7 @@ def test_folder_paths(room):
     coded = Coded(1).lay()
     os.makedirs("below/it")
     for name in ("below/it/made", "./plain", "below/../other", os.path.abspath("absolute")):
-        room.works("code", 1, "table", "volume", name)
+        room.codes(1, "table", "volume", name)
         need(contents(name) == coded.files(), "coded into", name)
     before = snapshot()
     status = room.ends((0, 73), "code", 1, "table", "volume", "slash/").status

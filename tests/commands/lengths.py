@@ -3,7 +3,7 @@ import os
 import shutil
 
 import by_hand
-from by_hand import DEPTHS
+from by_hand import DEPTHS, KINDS
 from room import Coded, contents, need, put, slurp, volume_of
 
 WHOLE = ("record", "table", "tree", "marks")
@@ -28,8 +28,8 @@ def test_trim_chart(room):
     chart = b"".join(b"R%03d  %5d ohm  +-1 %%\n" % (i, 47 * i) for i in range(40))[:700]
     put("chart", chart)
     room.works("table", "--for", "chart", "table")
-    room.works("code", "table", "chart", "coded")
-    need(contents("coded")["record"][:8].hex() == "40000001800002bc", "the record's head")
+    room.codes("table", "chart", "coded")
+    need(contents("coded")["record"][:8].hex() == "00000001800002bc", "the record's head")
     coded = ("coded/record", "table", "coded/tree", "coded/marks")
     room.works("read", *coded, "back")
     need(slurp("back") == chart and len(chart) == 700, "another chart")
@@ -41,9 +41,10 @@ def test_there_and_back(room):
     """Each length at each depth is coded as by hand, and comes back, whole and from damage."""
     for depth in DEPTHS:
         lengths = of_depth(depth) if depth < 7 else [0, 257, of_depth(depth)[-2]]
-        for length in lengths:
-            coded = Coded(depth, length, length=length).lay()
-            room.works("code", "table", "volume", "made")
+        for turn, length in enumerate(lengths):
+            kind = (depth + turn) % 2
+            coded = Coded(depth, length, length=length, kind=kind).lay()
+            room.codes("table", "volume", "made", kind=kind)
             need(contents("made") == coded.files(), "coded at depth", depth, "of", length)
             shutil.rmtree("made")
             back(room, coded, 0, *WHOLE)
@@ -124,10 +125,12 @@ def test_misfilled(room):
     for depth in DEPTHS:
         most = by_hand.lengths(depth)["volume"]
         for length in (0, 700, most - 1) if depth < 6 else (700,):
-            for place in sorted({length, (length + most) // 2, most - 1}):
-                misfilled(room, Coded(depth, 7, length=length).misfilled(place))
-        misfilled(room, Coded(depth, 8, length=700).misfilled(701, most - 1).harm(
-            absent=[3, 10], bad=[7]))
+            for turn, place in enumerate(sorted({length, (length + most) // 2, most - 1})):
+                kind = (depth + turn) % 2
+                misfilled(room, Coded(depth, 7, length=length, kind=kind).misfilled(place))
+        for kind in KINDS:
+            misfilled(room, Coded(depth, 8, length=700, kind=kind).misfilled(701, most - 1).harm(
+                absent=[3, 10], bad=[7]))
 
 
 def test_filled(room):
@@ -138,7 +141,7 @@ def test_filled(room):
                        b"\0"):
             put("volume", volume)
             put("table", by_hand.house_table(depth))
-            room.works("code", "table", "volume", "made")
+            room.codes("table", "volume", "made")
             words = ("made/record", "table", "made/tree", "made/marks")
             room.ends(0, "check", *words)
             room.works("read", *words, "back")

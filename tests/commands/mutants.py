@@ -36,6 +36,12 @@ def saying(edit):
             'sed "%s" >&2; exit $status' % edit)
 
 
+def telling(edit):
+    """A program that prints something else: this edit of its standard output, by sed."""
+    return ('said=$("$real" "$@"); status=$?; [ -z "$said" ] || printf "%%s\\n" "$said" | '
+            'sed "%s"; exit $status' % edit)
+
+
 TELLING_LATER = '"$real" "$@" >told; status=$?; cat told 2>/dev/null; exit $status'
 SCRIPTS = [
     ("careless", "basics.numbers", '"$real" "$@"; exit 0'),
@@ -174,6 +180,64 @@ SCRIPTS = [
      '[ "$1 $#" = "check-table 2" ] && exec "$real" check-table 1 "$2"'),
     ("large-tabled", "depths.house_tables",
      '[ "$2" = --for ] && [ "$(wc -c <"$3")" = 1024 ] && exec "$real" table 2 "$last"'),
+    ("plain-making", "kinds.coding", '[ "$command" != code ] || exec "$real" --plain "$@"'),
+    ("kind-hiding", "kinds.coding", '[ "$command" != code ] || exec "$real" --quiet "$@"'),
+    ("kind-misnaming", "kinds.coding", telling("s/01, plain/00, with places/")),
+    ("placeless", "kinds.coding",
+     '[ "$command $last" = "code placed" ] && { "$real" -q --plain "$@"; '
+     'printf "\\0" | dd of=placed/record bs=1 conv=notrunc status=none; '
+     'echo "coded: kind 00, with places"; exit 0; }'),
+    ("same-kind-copying", "kinds.recoding",
+     '[ "$command" = recode ] && { "$real" "$@"; status=$?; for file in tree marks record; do '
+     '[ ! -e "$last/$file" ] || cp "$file" "$last"; done; exit $status; }'),
+    ("kind-copying", "kinds.recoding",
+     '[ "$command" = recode ] && { "$real" "$@"; status=$?; '
+     'head -c 1 record | dd of="$last/record" bs=1 conv=notrunc status=none; exit $status; }'),
+    ("one-way", "kinds.recoding",
+     '[ "$command $(head -c 1 record)" != "recode @" ] || exit 64'),
+    ("way-misnaming", "kinds.recoding",
+     telling("s/from \\(kind.*\\), to \\(kind.*\\)/from \\2, to \\1/")),
+    ("length-dropping", "kinds.recoding",
+     '[ "$command" = recode ] && { "$real" "$@"; status=$?; '
+     'printf "\\200" | dd of="$last/record" bs=1 seek=4 conv=notrunc status=none; '
+     'head -c 3 /dev/zero | dd of="$last/record" bs=1 seek=5 conv=notrunc status=none; '
+     'exit $status; }'),
+    ("mending-first", "kinds.damage",
+     '[ "$command $last" = "recode none" ] && "$real" -q repair record table tree marks kept && '
+     '{ "$real" recode record table kept/tree kept/marks none; status=$?; rm -r kept; '
+     'exit $status; }'),
+    ("advice-dropping", "kinds.damage", saying("/a repair makes it whole/d")),
+    ("lack-misnaming", "kinds.damage",
+     saying("s/\\([0-9]*\\) pages absent, \\([0-9]*\\) bad/\\2 pages absent, \\1 bad/")),
+    ("filling-recoding", "kinds.other_ends",
+     '[ "$command" = recode ] && { "$real" -q check record table tree marks; '
+     '[ $? != 43 ] || { mkdir none; cp tree marks record none; exit 0; }; }'),
+    ("end-hiding", "kinds.other_ends", saying("/a repair would end so/d")),
+    ("whole-first", "kinds.order",
+     '[ "$command" = recode ] && { "$real" "$@"; status=$?; [ $status != 4 ] || exit 14; '
+     'exit $status; }'),
+    ("kind-guessing", "kinds.changed_kinds",
+     '[ "$command" = check ] && { "$real" "$@"; status=$?; [ $status != 32 ] || exit 0; '
+     'exit $status; }'),
+    ("doubtless", "kinds.changed_kinds", telling("s/: this record says kind .*/./")),
+    ("record-blaming", "kinds.mixed_kinds",
+     '[ "$command" = check-sample ] && { %s; }'
+     % saying("s/this sample is of kind \\(.*\\), and .*/this record says kind \\1/")),
+    ("tree-trusting", "kinds.mixed_kinds",
+     telling("s/this tree is of kind .*, and the/this tree is damaged; the/")),
+    ("one-hashing", "kinds.blank_pages",
+     '[ "$command" != code ] || exec "$real" --plain "$@"'),
+    ("wordless", "typed.print", telling("s/ placed/       /; s/ plain/      /")),
+    ("old-refusing", "typed.old_prints",
+     '[ "$command" != typed ] || grep -qi "placed\\|plain" text || '
+     '{ echo "cedunmi: line 1: depth has no kind" >&2; exit 65; }'),
+    ("placed-supposing", "typed.slips_of_the_kind",
+     '[ "$command" = typed ] && { sed "s/^\\(depth *2\\)  /\\1 placed /" text | '
+     '"$real" typed - "$last"; exit; }'),
+    ("kind-hinting-not", "typed.slips_of_the_kind", saying("s/, which is that of .*//")),
+    ("equal-calling", "typed.every_print", telling("s/so that no two are equal/some are equal/")),
+    ("always-equal-calling", "typed.every_print",
+     telling("s/TABLE writes it[.]$/&\\n# the pages 7, 11 and 15 are zero/")),
     ("kind-blind", "records.kinds",
      '[ "$command" = check-sample ] && { "$real" "$@"; status=$?; [ $status != 11 ] || exit 0; '
      'exit $status; }'),

@@ -24,12 +24,12 @@ def test_single_bytes(room):
 
 def all_of_it(room, name, coded):
     """A volume coded, sampled, harmed, repaired and read, each file in a folder under this name."""
-    for kind in ("v", "c", "s", "r", "t", "p", "n"):
+    for kind in "vcsrtpno":
         os.mkdir(kind)
-    at = {kind: os.fsencode(kind) + b"/" + name for kind in "vcsrtpn"}
+    at = {kind: os.fsencode(kind) + b"/" + name for kind in "vcsrtpno"}
     put(at["v"], coded.volume)
     room.works("table", 1, "--", at["t"])
-    room.works("code", 1, at["t"], at["v"], at["c"])
+    room.codes(1, at["t"], at["v"], at["c"])
     need(contents(at["c"].decode("utf-8", "surrogateescape")) == coded.files(), "coded", name)
     tree, marks, record = (at["c"] + b"/" + kind for kind in (b"tree", b"marks", b"record"))
     room.works("sample", 1, 3, tree, marks, at["s"])
@@ -40,10 +40,12 @@ def all_of_it(room, name, coded):
     need(slurp(at["r"]) == coded.record, "typed", name)
     room.ends(0, "repair", 1, at["r"], at["t"], tree, marks, at["n"])
     need(sorted(os.listdir(at["n"])) == [b"marks", b"tree"], "repaired", name)
+    room.recodes(by_hand.PLACED, at["r"], at["t"], tree, marks, at["o"])
+    need(slurp(at["o"] + b"/tree") == coded.tree, "recoded", name)
     os.remove(at["v"])
     room.works("read", 1, record, at["t"], tree, marks, at["v"])
     need(slurp(at["v"]) == coded.volume, "read", name)
-    for kind in "vcsrtpn":
+    for kind in "vcsrtpno":
         need(os.listdir(os.fsencode(kind)) == [name], "beside", name, os.listdir(kind))
 
 
@@ -87,8 +89,8 @@ def test_long_names(room):
     room.works("table", "--force", 1, longest)
     need(slurp(longest) == coded.table, "a long name")
     os.remove(longest)
-    room.works("code", 1, "table", "volume", longest)
-    room.works("code", "--force", 1, "table", "volume", longest)
+    room.codes(1, "table", "volume", longest)
+    room.codes("--force", 1, "table", "volume", longest)
     need(contents(longest) == Coded(1).files(), "a folder with a long name")
     room.refused(73, "table", 1, "n" * 256)
     room.refused(73, "code", 1, "table", "volume", "n" * 256)
@@ -123,7 +125,7 @@ def test_like_options(room):
         room.ends(0, "check-table", "--", 1, name)
         room.works("table", "--force", 1, "./" + name)
         os.remove(name)
-    room.works("code", 1, "table", "--", "volume", "-a folder")
+    room.codes(1, "table", "--", "volume", "-a folder")
     need(contents("-a folder") == coded.files(), "made after --")
 
 
@@ -179,7 +181,7 @@ def test_surroundings(room):
             {"TMPDIR": os.path.abspath("plain")}, {"CDPATH": os.path.abspath("other")},
             {"IFS": "/"}, {"LC_ALL": "de_DE.UTF-8"}, {"POSIXLY_CORRECT": "1"}, {"HOME": "/nowhere"},
             {"PATH": "/nowhere"}]):
-        room.works("code", 1, "table", "volume", "made%d" % number, env=env)
+        room.codes(1, "table", "volume", "made%d" % number, env=env)
         need(contents("made%d" % number) == coded.files(), "coded with", env)
     need(os.listdir("other/made") == [] and os.listdir("back\\slash") == [], "made elsewhere")
     room.made += 1

@@ -2,7 +2,7 @@
 import random
 
 import by_hand
-from by_hand import DEPTHS
+from by_hand import DEPTHS, KINDS
 from room import Coded, need, put
 
 
@@ -48,9 +48,9 @@ def some(depth, slots, step):
 def test_samples(room):
     """Each page of a sample with a byte changed in each of its eight hashes, or two pages."""
     chance, told = random.Random(4), []
-    for depth in DEPTHS:
-        coded = laid(Coded(depth, 15))
-        for number in chance.sample(range(8 << depth), 2):
+    for depth, kind in ((depth, kind) for depth in DEPTHS for kind in KINDS):
+        coded = laid(Coded(depth, 15, kind=kind))
+        for number in chance.sample(range(8 << depth), 2 - (depth > 5)):
             sample = by_hand.sample(depth, number, coded.tree)
             for slot in some(depth, len(sample) // 32, 3):
                 places = [32 * slot + chance.randrange(32)]
@@ -66,7 +66,7 @@ def test_two_pages(room):
     """Data page and parity page of each layer at once, by the page above or by themselves; with
     another record; with another number."""
     for depth in DEPTHS:
-        coded = laid(Coded(depth, 16))
+        coded = laid(Coded(depth, 16, kind=depth % 2))
         for number in (0, 5, (8 << depth) - 1):
             sample = by_hand.sample(depth, number, coded.tree)
             for index in range(1, 2 * depth - 1, 2):
@@ -77,21 +77,22 @@ def test_two_pages(room):
                 lines = sample_broken(room, coded, number, gone, "--quiet")
                 need(index == 1 or ": pages " in lines, lines)
             sample_broken(room, coded, (number + 1) % (8 << depth), sample)
-        coded.record = Coded(depth, 17).record
+        coded.record = Coded(depth, 17, kind=depth % 2).record
         put("record", coded.record)
         sample_broken(room, coded, 5, by_hand.sample(depth, 5, coded.tree))
 
 
 def test_other_numbers(room):
-    """A sample under each number that is not its own: it breaks at any layer, and what is to be
-    asked for depends on the number in each."""
-    coded = laid(Coded(5, 21))
-    sample = by_hand.sample(5, 200, coded.tree)
-    told = [sample_broken(room, coded, i, sample) for i in range(256) if i != 200]
-    for layer, count in enumerate((3, 4, 8, 16, 224)):
-        lines = [said for said in told if " of layer %d (number 7" % layer in said]
-        need(len(lines) == count, "layer", layer, len(lines))
-        need(all("the sample that of base page " in said for said in lines), "layer", layer)
+    """A sample under each number that is not its own: plain, it breaks at any layer, and what is to
+    be asked for depends on the number in each; with places it breaks at the base."""
+    for kind, counts in ((by_hand.PLAIN, (3, 4, 8, 16, 224)), (by_hand.PLACED, (0, 0, 0, 0, 255))):
+        coded = laid(Coded(5, 21, kind=kind))
+        sample = by_hand.sample(5, 200, coded.tree)
+        told = [sample_broken(room, coded, i, sample) for i in range(256) if i != 200]
+        for layer, count in enumerate(counts):
+            lines = [said for said in told if " of layer %d (number 7" % layer in said]
+            need(len(lines) == count, "layer", layer, len(lines))
+            need(all("the sample that of base page " in said for said in lines), "layer", layer)
 
 
 def test_other_tables(room):
@@ -99,7 +100,7 @@ def test_other_tables(room):
     other slots: it breaks at its own layer, and what is to be asked for depends on the record."""
     for depth in DEPTHS:
         base, equations = depth - 1, by_hand.house_equations(depth)
-        coded = laid(Coded(depth, 22))
+        coded = laid(Coded(depth, 22, kind=depth % 2))
         members = equations[base][9]
         proof = coded.repair().prove(base, 9, members[-1], members[:-1])
         data = sorted((i + (2 << base)) % (4 << base) for i in members[:2])
@@ -113,7 +114,7 @@ def test_proofs(room):
     """Each page of a proof with a byte changed in each hash: members, paths, the withheld one's."""
     chance, told = random.Random(5), []
     for depth in DEPTHS:
-        coded = laid(Coded(depth, 18))
+        coded = laid(Coded(depth, 18, kind=depth % 2))
         for layer in sorted({0, depth // 2, depth - 1}):
             equation = chance.randrange(12 << layer)
             others = list(by_hand.house_members(layer, equation))
@@ -131,7 +132,7 @@ def test_first_member(room):
     """Of several members whose ways break, and with another record, the first in the proof's order
     is named; in a proof of layer 0 the withheld one has no path."""
     for depth in DEPTHS:
-        wrong = laid(Coded(depth, 19).wrong_seven())
+        wrong = laid(Coded(depth, 19, kind=depth % 2).wrong_seven())
         proof = wrong.repair().proof
         proof_broken(room, wrong, changed(proof, 12 + 256, 12 + 512))
         proof_broken(room, wrong, changed(proof, len(proof) - 1))
@@ -140,6 +141,6 @@ def test_first_member(room):
         proof = wrong.repair().prove(base, 3, members[1], members[:1] + members[2:])
         for places in ((len(proof) - 1, 12), (12 + 256 * depth, 12 + 512 * depth), (12, 13)):
             proof_broken(room, wrong, changed(proof, *places))
-        wrong.record = Coded(depth, 20).record
+        wrong.record = Coded(depth, 20, kind=depth % 2).record
         put("record", wrong.record)
         proof_broken(room, wrong, proof)

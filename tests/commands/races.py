@@ -9,6 +9,7 @@ import subprocess
 import threading
 import time
 
+import by_hand
 import writers
 from room import Coded, Wrong, contents, fill, need, put, slurp, snapshot, unchanged
 
@@ -167,7 +168,7 @@ def test_readers_of_a_folder(room):
             pass                    # an old folder, which was taken away while it was read
         finally:
             os.close(folder)
-    while_read(look, lambda: [room.works("code", "--force", 2, "table", "volume%d" % i, "made")
+    while_read(look, lambda: [room.codes("--force", 2, "table", "volume%d" % i, "made")
                               for _ in range(30) for i in (0, 1)])
 
 
@@ -321,7 +322,7 @@ def test_many_kinds_at_once(room):
     expected = {"a": coded.table, "b": coded.record, "c": slurp("sample"), "d": coded.volume}
     commands = [("table", 1, "a"), ("typed", "text", "b"), ("sample", 1, 3, "tree", "marks", "c"),
                 ("read", 1, *WHOLE, "d"), ("code", 1, "table", "volume", "e"),
-                ("repair", 1, *WHOLE, "f"), ("check", 1, *WHOLE)]
+                ("repair", 1, *WHOLE, "f"), ("recode", 1, *WHOLE, "g"), ("check", 1, *WHOLE)]
     for _ in range(15):
         chance.shuffle(commands)
         need(set(together(room, commands)) == {0}, "not all ended with 0")
@@ -329,7 +330,8 @@ def test_many_kinds_at_once(room):
             need(slurp(name) == data, "another file:", name)
             os.remove(name)
         need(contents("e") == coded.files(), "another folder")
-        for folder in ("e", "f"):
+        need(contents("g") == Coded(1, kind=by_hand.PLAIN).files(), "another folder, recoded")
+        for folder in ("e", "f", "g"):
             for name in os.listdir(folder):
                 os.remove(os.path.join(folder, name))
             os.rmdir(folder)

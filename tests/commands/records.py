@@ -10,8 +10,10 @@ WHOLE = ("record", "table", "tree", "marks")
 BY_RECORD = [("check-sample", 3, "record", "sample"),
              ("read", "--unverified", "record", "tree", "marks", "none")]
 BY_TABLE = [("check", *WHOLE), ("repair", *WHOLE, "none"), ("read", *WHOLE, "none"),
-            ("repair", "--in-place", *WHOLE, "none"), ("check-proof", "record", "table", "proof")]
-KINDS = ("depth", "length", "number of table words")
+            ("repair", "--in-place", *WHOLE, "none"), ("recode", *WHOLE, "none"),
+            ("check-proof", "record", "table", "proof")]
+# What the words of the head are, and the kinds that each may have.
+HEAD = (("kind and depth", (0, 1)), ("length", (2,)), ("number of table words", (3,)))
 
 
 def with_depth(words, depth):
@@ -35,14 +37,15 @@ def changed(record, word, value):
 def test_kinds(room):
     """A word of another kind is 11 in every command, with a depth or without; it is named."""
     coded = lay(2)
-    for word in range(3):
+    for word, (name, right) in enumerate(HEAD):
         value = struct.unpack(">3I", coded.record[:12])[word]
-        for kind in {0, 1, 2, 3} - {word + 1}:
+        for kind in {0, 1, 2, 3} - set(right):
             put("record", changed(coded.record, word, value & (1 << 30) - 1 | kind << 30))
             wanted = "record is no record, or damaged: bytes %d to %d, its %s, are %s, of kind " \
-                "%s, not %s\n" % (4 * word, 4 * word + 3, KINDS[word],
+                "%s, not %s\n" % (4 * word, 4 * word + 3, name,
                                   slurp("record")[4 * word:4 * word + 4].hex(),
-                                  format(kind, "02b"), format(word + 1, "02b"))
+                                  format(kind, "02b"),
+                                  " or ".join(format(other, "02b") for other in right))
             for words in BY_RECORD + BY_TABLE + [("record", "record")]:
                 room.refused(11, *words).says(wanted)
                 if words[0] != "record":
@@ -68,14 +71,14 @@ def test_depths(room):
     """A depth that there is not is 11 where no other is given; one that there is, is taken."""
     coded = lay(2)
     for depth in (0, 10, 17, (1 << 30) - 1):
-        put("record", changed(coded.record, 0, 1 << 30 | depth))
+        put("record", changed(coded.record, 0, depth % 2 << 30 | depth))
         for words in BY_RECORD + BY_TABLE + [("record", "record")]:
             room.refused(11, *words).says(
                 "cedunmi: record says depth %d, and depths are 1 to 9\n" % depth)
             if words[0] != "record":
                 room.refused(11, *with_depth(words, 2))
-    put("record", changed(coded.record, 0, 1 << 30 | 3))
-    for words in BY_RECORD + BY_TABLE[:4]:
+    put("record", changed(coded.record, 0, 3))
+    for words in BY_RECORD + BY_TABLE[:5]:
         named = "sample" if words[0] == "check-sample" else "tree"
         room.refused(2, *words).says("of depth 3 has ").says(
             "cedunmi: record says depth 3; %s is as long as a %s of depth 2\n" % (named, named))
@@ -147,14 +150,21 @@ def test_other_counts(room):
 def test_each_bit(room):
     """Each bit of a record's head: what it says of the table is 12, of kind, depth and length 11 or
     another length."""
-    coded = lay(1)
+    for kind in by_hand.KINDS:
+        each_bit(room, lay(1, kind=kind))
+
+
+def each_bit(room, coded):
+    """Each bit of this record's head. The second is that of the other kind, by which no page fits."""
     words = with_depth(("check", *WHOLE), 1)
     for bit in range(8 * by_hand.HEAD):
         record = bytearray(coded.record)
         record[bit // 8] ^= 128 >> bit % 8
         put("record", bytes(record))
         length = by_hand.length_of(record)
-        if bit >= 66:
+        if bit == 1:
+            wanted = 32
+        elif bit >= 66:
             wanted = 12
         elif 34 <= bit < 64 and length <= 1024:
             wanted = 43 if length < 700 else 0
@@ -181,6 +191,7 @@ def test_order(room):
                           (4, (2, "record", "table", "tree", "marked"))):
         room.refused(status, "check", *words)
         room.refused(status, "repair", *words, "none")
+        room.refused(status, "recode", *words, "none")
     put("head", bytes(12))
     for status, words in ((11, ("wrong", "bad", "head")), (3, ("record", "bad", "head")),
                           (10, ("record", "thin", "head")), (12, ("record", "other", "head")),

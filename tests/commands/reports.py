@@ -59,20 +59,24 @@ def test_the_report_of_the_manual(room):
 def test_no_damage(room):
     """A whole tree: status 0, nothing stored."""
     for depth in by_hand.DEPTHS:
-        need(compare(room, Coded(depth, 5)) == by_hand.WHOLE, "a whole tree")
+        for kind in by_hand.KINDS:
+            need(compare(room, Coded(depth, 5, kind=kind)) == by_hand.WHOLE, "a whole tree")
 
 
 def test_damage(room):
     """Absent pages and bad copies in every layer, from few to more than can be repaired."""
     chance, ends = random.Random(14), []
-    for turn in range(40):
-        depth = 1 + turn % 5
+    for turn in range(60):
+        depth, kind = 1 + turn % 5, turn // 5 % 2
         places = range(by_hand.first(depth))
         share = chance.choice([0.02, 0.1, 0.2, 0.4, 0.6])
         hit = [p for p in places if chance.random() < share]
         bad = [p for p in hit if chance.random() < 0.4]
-        ends.append(compare(room, Coded(depth, turn).harm(set(hit) - set(bad), bad)))
-    need(10 < ends.count(by_hand.WHOLE) and 5 < ends.count(by_hand.UNAVAILABLE), "ends:", ends)
+        harmed = Coded(depth, turn, kind=kind).harm(set(hit) - set(bad), bad)
+        ends.append((kind, compare(room, harmed)))
+    for kind in by_hand.KINDS:
+        for end in (by_hand.WHOLE, by_hand.UNAVAILABLE):
+            need(2 < ends.count((kind, end)), "ends:", ends)
 
 
 def test_deeper(room):
@@ -85,16 +89,17 @@ def test_deeper(room):
             hit = [p for p in range(by_hand.first(depth))
                    if chance.random() < (share if p >= base else 0.05)]
             bad = [p for p in hit if chance.random() < 0.4]
-            found = compare(room, Coded(depth, depth).harm(set(hit) - set(bad), bad))
+            coded = Coded(depth, depth, kind=depth % 2)
+            found = compare(room, coded.harm(set(hit) - set(bad), bad))
             need(found == end, "end", found, "at depth", depth, "with", share)
 
 
 def test_faults(room):
     """A volume coded wrongly, at the top and in the base, with and without damage."""
-    for depth in by_hand.DEPTHS:
-        need(compare(room, Coded(depth, 6).wrong_seven()) == by_hand.FAULT, "no fault")
-        compare(room, Coded(depth, 7).wrong_seven().harm(absent=[4], bad=[9, 12]))
-        other = Coded(depth, 8).naming(another_table(depth))
+    for depth, kind in ((depth, kind) for depth in by_hand.DEPTHS for kind in by_hand.KINDS):
+        need(compare(room, Coded(depth, 6, kind=kind).wrong_seven()) == by_hand.FAULT, "no fault")
+        compare(room, Coded(depth, 7, kind=kind).wrong_seven().harm(absent=[4], bad=[9, 12]))
+        other = Coded(depth, 8, kind=kind).naming(another_table(depth))
         need(compare(room, other) == by_hand.FAULT, "no fault by another table")
 
 
@@ -104,7 +109,7 @@ def test_longest_proofs(room):
     for depth in by_hand.DEPTHS:
         k, equations = 2 << depth, by_hand.house_equations(depth)
         equations[-1][-1] = [0, 1, 2] + list(range(4 * k - 5, 4 * k))
-        coded = Coded(depth, 23).naming(by_hand.table_of(equations))
+        coded = Coded(depth, 23, kind=depth % 2).naming(by_hand.table_of(equations))
         need(compare(room, coded) == by_hand.FAULT, "no fault by eight members")
         room.ends(31, "repair", depth, *WHOLE, "made")
         need(len(slurp("made/proof")) == by_hand.lengths(depth)["proof"], "the longest proof")

@@ -183,7 +183,7 @@ def test_started_in_a_closed_folder(room):
         try:
             for name in ("new", "empty"):
                 made = here + "/made/" + name
-                plain.works("code", 1, here + "/table", here + "/volume", made, nobody=True)
+                plain.codes(1, here + "/table", here + "/volume", made, nobody=True)
                 need(contents(made) == coded.files(), "coded into", name)
         finally:
             os.chmod(here + "/closed", 0o755)

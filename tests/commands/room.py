@@ -108,11 +108,23 @@ class Room:
         need(said.status in wanted, "%s, not with %s" % (said, " or ".join(map(str, wanted))))
         return said
 
-    def works(self, *words, **how):
-        """Runs a command that ends with 0 and prints nothing at all."""
+    def works(self, *words, says="", **how):
+        """Runs a command that ends with 0 and prints nothing, or this line, and nothing else."""
         said = self.ends(0, *words, **how)
-        need(said.out == b"" and said.err == b"", "%s, but it should be silent" % said)
+        wanted = (says + "\n" * bool(says)).encode()
+        need((said.out, said.err) == (wanted, b""), "%s, but should say" % said, wanted)
         return said
+
+    def codes(self, *words, kind=by_hand.PLACED, **how):
+        """Runs `code` with these words, which codes a volume of this kind, and says so."""
+        option = ("--plain",) if kind == by_hand.PLAIN else ()
+        return self.works("code", *option, *words, says="coded: " + by_hand.CALLED[kind], **how)
+
+    def recodes(self, kind, *words, **how):
+        """Runs `recode` with these words, which makes of a volume of this kind the same of the
+        other, and says so."""
+        both = by_hand.CALLED[kind], by_hand.CALLED[1 - kind]
+        return self.works("recode", *words, says="recoded: from %s, to %s" % both, **how)
 
     def refused(self, status, *words, **how):
         """Runs a command that ends so, says why, prints nothing, and has not touched a thing."""
@@ -211,11 +223,11 @@ def volume_of(depth, seed=0):
 class Coded:
     """A coded volume, its bytes made by hand; as long as its depth holds, or of this length."""
 
-    def __init__(self, depth, seed=0, table=None, length=None):
-        self.depth = depth
+    def __init__(self, depth, seed=0, table=None, length=None, kind=by_hand.PLACED):
+        self.depth, self.kind = depth, kind
         self.table = table or by_hand.house_table(depth)
         self.volume = volume_of(depth, seed)[:length]
-        self.tree, self.marks, self.record = by_hand.code(depth, self.table, self.volume)
+        self.tree, self.marks, self.record = by_hand.code(depth, self.table, self.volume, kind)
 
     def files(self):
         """What `code` writes."""
@@ -245,13 +257,14 @@ class Coded:
         """The same with another page 7 of the top layer, its hash in the root: coded wrongly."""
         seven, at = b"\1" * 256, by_hand.HEAD + 7 * 32
         self.tree = self.tree[:7 * 256] + seven + self.tree[8 * 256:]
-        self.record = self.record[:at] + by_hand.digest(seven) + self.record[at + 32:]
+        hash_of = by_hand.page_hash(self.kind, 0, 7, seven)
+        self.record = self.record[:at] + hash_of + self.record[at + 32:]
         return self
 
     def naming(self, table):
         """The same with another table, which the record names, but by which it was not coded."""
         self.table = table
-        self.record = by_hand.head_of(self.depth, len(self.volume), table) \
+        self.record = by_hand.head_of(self.depth, len(self.volume), table, self.kind) \
             + self.record[by_hand.HEAD:]
         return self
 
@@ -261,7 +274,7 @@ class Coded:
         filled = bytearray(self.volume.ljust(by_hand.lengths(self.depth)["volume"], b"\0"))
         for place in places:
             filled[place] ^= 1 + place % 255
-        self.tree, root = by_hand.tree_of(self.depth, self.table, filled)
+        self.tree, root = by_hand.tree_of(self.depth, self.table, bytes(filled), self.kind)
         self.record = self.record[:by_hand.HEAD] + root
         return self
 

@@ -4,6 +4,7 @@ import resource
 import subprocess
 import threading
 
+import by_hand
 import disk
 import writers
 from room import Coded, contents, need, put, slurp
@@ -61,15 +62,18 @@ def test_standard_input(room):
 
 def test_standard_input_to_files(room):
     """With an input from standard input, the commands that make folders work alike."""
-    coded = lay()
+    coded, plain = lay(), Coded(1, kind=by_hand.PLAIN)
     for place, name in ((2, "table"), (3, "volume")):
         words = swapped(("code", 1, "table", "volume", "made" + name), place, "-")
-        room.works(*words, given=slurp(name))
+        room.codes(*words[1:], given=slurp(name))
         need(contents("made" + name) == coded.files(), "coded from standard input:", name)
     for place in range(2, 6):
         words = ("repair", 1, *WHOLE, "repaired%d" % place)
         room.ends(0, *swapped(words, place, "-"), given=slurp(words[place]))
         need(contents("repaired%d" % place) == coded.repair().files(), "repaired:", words[place])
+        words = swapped((1, *WHOLE, "recoded%d" % place), place - 1, "-")
+        room.recodes(by_hand.PLACED, *words, given=slurp(WHOLE[place - 2]))
+        need(contents("recoded%d" % place) == plain.files(), "recoded:", WHOLE[place - 2])
 
 
 def test_standard_output(room):
@@ -96,13 +100,14 @@ def test_not_for_folders(room):
     coded = lay()
     room.refused(64, "code", 1, "table", "volume", "-")
     room.refused(64, "repair", 1, *WHOLE, "-")
+    room.refused(64, "recode", 1, *WHOLE, "-")
     for place in (4, 5, 6):
         words = swapped(("repair", 1, *WHOLE, "new"), place, "-")
         room.refused(64, "--in-place", *words)
     room.works("table", 1, "./-")
     need(slurp("-") == coded.table, "the file -")
     room.ends(0, "check-table", 1, "./-", given=b"")
-    room.works("code", 1, "./-", "volume", "./made")
+    room.codes(1, "./-", "volume", "./made")
     need(contents("made") == coded.files(), "coded with the table ./-")
 
 
@@ -117,14 +122,14 @@ def test_pipes(room):
                 file.write(coded.volume[start:start + 100])
     feeder = threading.Thread(target=slowly)
     feeder.start()
-    room.works("code", 1, "table", "fifo", "made")
+    room.codes(1, "table", "fifo", "made")
     feeder.join()
     need(contents("made") == coded.files(), "coded from a FIFO")
     with open("tree", "rb") as file:
         number = file.fileno()
         room.ends(0, "check", 1, "record", "table", "/dev/fd/%d" % number, "marks",
                   pass_fds=[number])
-    room.works("code", 1, "table", "/dev/null", "nothing")
+    room.codes(1, "table", "/dev/null", "nothing")
     need(contents("nothing") == Coded(1, length=0).files(), "coded from /dev/null")
     room.refused(2, "check-sample", 1, 3, "record", "/dev/null")
     folder = os.open(".", os.O_RDONLY)

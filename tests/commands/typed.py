@@ -8,13 +8,14 @@ from room import Coded, another_table, need, put, slurp
 
 DIGITS = "0123456789abcdef"
 WORDS, LINES = 3, 20        # lines in words, and all lines before the check of all
+AFTER = "bytes|words|placed|plain"      # what stands after their numbers
 NAMES = ["depth", "length", "table", "hash T"] + ["hash %d" % i for i in range(16)]
 
 
-def printed():
-    """A record and its printed lines."""
-    record = Coded(2, 21, length=1300).record
-    return record, by_hand.printed(record)
+def printed(kind=by_hand.PLACED, kinds=True):
+    """A record and its printed lines, with the word for the kind or without."""
+    record = Coded(2, 21, length=1300, kind=kind).record
+    return record, by_hand.printed(record, kinds)
 
 
 def typed(room, lines, end="\n"):
@@ -57,7 +58,12 @@ def bare(lines):
 
 def test_print(room):
     """The print is the lines made by hand, after comments, and typing it gives the record."""
-    record, lines = printed()
+    for kind in by_hand.KINDS:
+        is_printed(room, *printed(kind))
+
+
+def is_printed(room, record, lines):
+    """A record is printed in these lines, and typed back from them."""
     put("record", record)
     said = room.ends(0, "record", "record")
     found = said.out.decode().split("\n")
@@ -76,8 +82,11 @@ def test_every_print(room):
     hand, its comments say what is so, in lines of 80, and it is typed back."""
     for depth in by_hand.DEPTHS:
         most = by_hand.lengths(depth)["volume"]
-        for length, table in ((0, None), (most, None), (most - 1, another_table(depth))):
-            record = by_hand.head_of(depth, length, table or by_hand.house_table(depth)) \
+        for kind, length, table in (
+                (by_hand.PLACED, 0, None), (by_hand.PLAIN, 0, None), (by_hand.PLACED, most, None),
+                (by_hand.PLACED, most - 1, another_table(depth)),
+                (by_hand.PLAIN, most - 1, another_table(depth))):
+            record = by_hand.head_of(depth, length, table or by_hand.house_table(depth), kind) \
                 + Coded(1, depth).record[by_hand.HEAD:]
             text = room.ends(0, "record", "-", given=record).out.decode()
             lines = text.splitlines()
@@ -91,7 +100,11 @@ def test_every_print(room):
                 need(words in said, "not said:", words, text)
             house = "is the house table: cedunmi table %d TABLE" % depth
             need((house in said) == (not table), text)
-            need(("pages 7, 11 and 15 are zero" in said) == (not table), text)
+            plain = kind == by_hand.PLAIN
+            need(("pages 7, 11 and 15 are zero" in said) == (plain and not table), text)
+            need(("It is plain, of kind 01: " in said) == plain, text)
+            need(("It is placed, of kind 00: " in said) == (not plain), text)
+            need(("no two are equal" in said) == (not plain), text)
             need(("not the house table" in said) == bool(table), text)
             need(typed(room, text) == (record, b""), "not typed back:", text)
 
@@ -117,7 +130,9 @@ def forms(lines):
     yield "full stops and colons in hashes", plain + [
         "%s. %s" % (w[0], ":".join(w[1:9])) for w in words] + [last]
     yield "no space before what is counted", [
-        re.sub(" (bytes|words)", r"\1", line) for line in head] + lines[WORDS:]
+        re.sub(" (%s)" % AFTER, r"\1", line) for line in head] + lines[WORDS:]
+    yield "no space after it", [
+        re.sub("(%s) +" % AFTER, r"\1", line) for line in head] + lines[WORDS:]
     yield "pairs", head + ["%s  %s  %s" % (w[0], " ".join(re.findall("..", "".join(w[1:9]))), w[9])
                            for w in words] + [last]
     yield "sixteens", head + ["%s  %s  %s" % (
@@ -132,13 +147,51 @@ def forms(lines):
 
 def test_forms(room):
     """Every spacing, with and without numbers, checks, comments; no warning where a check is."""
-    record, lines = printed()
+    for kind in by_hand.KINDS:
+        record, lines = printed(kind)
+        for name, form in forms(lines):
+            for end in ("\n", "\r\n"):
+                made, err = typed(room, form, end)
+                need(made == record, "another record from:", name)
+                need(err == b"", "a warning at", name, err)
+        need(typed(room, "\n".join(lines))[0] == record, "without an end of the last line")
+
+
+def test_old_prints(room):
+    """A plain record as it was printed while there was one kind, which its line did not say, is read
+    as before, in every form, with checks and without."""
+    record, lines = printed(by_hand.PLAIN, kinds=False)
+    need(lines[0].split() == ["depth", "2", "2c7a"], "another line:", lines[0])
     for name, form in forms(lines):
-        for end in ("\n", "\r\n"):
-            made, err = typed(room, form, end)
-            need(made == record, "another record from:", name)
-            need(err == b"", "a warning at", name, err)
-    need(typed(room, "\n".join(lines))[0] == record, "without an end of the last line")
+        need(typed(room, form) == (record, b""), "not as before:", name)
+    for form in (bare(lines), unchecked(lines) + [" ".join(w[:9]) for w in hash_words(lines)]):
+        made, err = typed(room, form)
+        need(made == record and b"no check was typed" in err, "not as before:", form, err)
+        need(b"no kind was typed: it is taken for plain" in err, "not told:", form, err)
+
+
+def test_slips_of_the_kind(room):
+    """The kind's word left out, the other one, or another: a slip of the depth's line; where that
+    has no check, the check of all finds it; where there is none, the word alone says the kind."""
+    for kind in by_hand.KINDS:
+        (_, lines), (_, others) = printed(kind), printed(1 - kind)
+        word, other = by_hand.KIND_WORDS[kind], by_hand.KIND_WORDS[1 - kind]
+        swapped = lines[0].replace(word, other)
+        for line in [swapped] + [re.sub(word + " ", "", lines[0])] * (kind == by_hand.PLACED):
+            said, named = slip(room, [line] + lines[1:], 0)
+            need(named == {0}, "other lines are named:", named)
+            need(b"which is that of 'depth 2 %s'\n" % word.encode() in said.err, str(said))
+            said, named = slip(room, [line[:-6]] + bare(lines)[1:] + lines[LINES:], LINES)
+            need(b": it is that of 'depth 2 %s'\n" % word.encode() in said.err, str(said))
+        made, err = typed(room, [swapped[:-6]] + bare(lines)[1:])
+        need(by_hand.kind_of(made) == 1 - kind and b"no check" in err, "the word says the kind")
+        slip(room, others[:1] + lines[1:], LINES)
+        for wrong in ("palced", "plane", "place", "pla in", "00", "kind 00", "0", "x"):
+            _, named = slip(room, [lines[0].replace(word, wrong)] + lines[1:], 0)
+            need(named == {0}, "other lines are named:", named, wrong)
+        said, _ = slip(room, [lines[0].replace(word, "plyced")] + lines[1:], 0)
+        need(b"depth has 'plyced', which is neither placed nor plain\n" in said.err, str(said))
+        slip(room, ["depth 2 placed plain"] + bare(lines)[1:], 0)
 
 
 def test_no_checks(room):
@@ -148,6 +201,7 @@ def test_no_checks(room):
         made, err = typed(room, form)
         need(made == record, "another record")
         need(err.startswith(b"cedunmi: ") and b"check" in err, "no warning:", err)
+        need(err.count(b"\n") == 1, "more than a warning:", err)
     words = [" ".join(line.split()[:9]) for line in lines[5:7]]
     slip(room, lines[:5] + words + lines[7:], 5, 6)
     slip(room, unchecked(lines)[:2] + lines[2:], 0, 1)
@@ -168,7 +222,7 @@ def test_left_checks(room):
     lines = short_volume()
     plain = bare(lines)
     for at in range(WORDS):
-        for line in (lines[at], re.sub("bytes|words", "", lines[at])):
+        for line in (lines[at], re.sub(AFTER, "", lines[at])):
             said, named = slip(room, plain[:at] + [line] + plain[at + 1:], at)
             need(named == {at} and b"has a check, and other lines have none" in said.err, str(said))
     _, named = slip(room, lines[:WORDS] + plain[WORDS:], *range(WORDS))
@@ -200,7 +254,7 @@ def changed(line, place, kind, digits, chance):
 def places_of(at, line):
     """Where the digits of a line are that stand for something: after its name or number."""
     begin = {LINES: 6}.get(at, 7 if at < WORDS else 3)
-    unit = re.search("bytes|words", line)
+    unit = re.search(AFTER, line)
     return [i for i, c in enumerate(line) if c in DIGITS and i >= begin
             and not (unit and unit.start() <= i < unit.end())]
 
@@ -208,12 +262,12 @@ def places_of(at, line):
 def test_every_slip(room):
     """One wrong digit anywhere, one too many, one too few, two exchanged: refused, its line named;
     in the lines in words too."""
-    _, lines = printed()
     chance = random.Random(65)
     for turn in range(4 * (LINES + 1) * 2):
+        _, lines = printed(turn // (LINES + 1) % 2)
         at = turn % (LINES + 1)
         digits = places_of(at, lines[at])
-        line = changed(lines[at], chance.choice(digits), turn // (LINES + 1) % 4, digits, chance)
+        line = changed(lines[at], chance.choice(digits), turn // (LINES + 1) // 2, digits, chance)
         slip(room, lines[:at] + [line] + lines[at + 1:], at)
 
 
@@ -221,6 +275,7 @@ def test_every_digit_in_words(room):
     """Each digit of the lines in words, number and check, changed into each other one."""
     _, lines = printed()
     for at in range(WORDS):
+        need(len(places_of(at, lines[at])) == 4 + len(lines[at].split()[1]), lines[at])
         for place in places_of(at, lines[at]):
             for other in DIGITS[:10]:
                 if other != lines[at][place]:

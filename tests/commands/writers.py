@@ -112,9 +112,9 @@ def within(folder, files):
 def lay_inputs(depth):
     """Makes the folder `in`; gives a whole, a damaged, a wrongly coded, and a misfilled volume."""
     whole = Coded(depth, 1, length=700)
-    harmed = Coded(depth, 2).harm(absent=[1, 14], bad=[6])
+    harmed = Coded(depth, 2, kind=by_hand.PLAIN).harm(absent=[1, 14], bad=[6])
     wrong = Coded(depth, 3).wrong_seven().harm(bad=[2])
-    misfilled = Coded(depth, 5, length=700).misfilled(701).harm(bad=[4])
+    misfilled = Coded(depth, 5, length=700, kind=by_hand.PLAIN).misfilled(701).harm(bad=[4])
     text = "".join(line + "\n" for line in by_hand.printed(whole.record)).encode()
     files = {"table": whole.table, "volume": whole.volume, "text": text}
     for name, coded in (("whole", whole), ("harmed", harmed), ("wrong", wrong),
@@ -159,7 +159,7 @@ def of_one_file(depth, whole, harmed, misfilled):
 
 def of_folders(depth, whole, harmed, wrong, misfilled):
     """The commands that make a folder."""
-    before = Coded(depth, 4).files()
+    before, plain = Coded(depth, 4).files(), Coded(depth, 1, length=700, kind=by_hand.PLAIN)
     words = (depth, "in/table", "in/volume", "out/made")
     repaired = {name: before[name] for name in ("tree", "marks")}
     return [
@@ -169,6 +169,12 @@ def of_folders(depth, whole, harmed, wrong, misfilled):
         Writer("code --force", ("code", "--force", *words), within("made", before),
                within("made", whole.files()),
                modes={"made": 0o750, "made/tree": 0o600, "made/record": 0o640}),
+        Writer("code --plain", ("code", "--plain", *words), {}, within("made", plain.files())),
+        Writer("recode", ("recode", depth, *of("whole"), "out/made"), {},
+               within("made", plain.files())),
+        Writer("recode --force", ("recode", *of("whole"), "--force", "out/made"),
+               within("made", before), within("made", plain.files()),
+               modes={"made": 0o700, "made/record": 0o604}),
         Writer("repair", ("repair", depth, *of("harmed"), "out/made"), {},
                within("made", harmed.repair().files())),
         Writer("repair of misfilled", ("repair", *of("misfilled"), "out/made"), {},
