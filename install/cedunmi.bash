@@ -10,11 +10,12 @@ _cedunmi_words() {
 _cedunmi_options() {
     local options='-h --help'
     case $1 in
-    '') options+=' --version -q --quiet --force --in-place --unverified --for' ;;
+    '') options+=' --version -q --quiet --force --in-place --unverified --for --plain' ;;
     repair) options+=' -q --quiet --force --in-place' ;;
     read) options+=' -q --quiet --force --unverified' ;;
     table) options+=' -q --quiet --force --for' ;;
-    code | typed | sample) options+=' -q --quiet --force' ;;
+    code) options+=' -q --quiet --force --plain' ;;
+    recode | typed | sample) options+=' -q --quiet --force' ;;
     help | explain) ;;
     *) options+=' -q --quiet' ;;
     esac
@@ -24,10 +25,10 @@ _cedunmi_options() {
 # _cedunmi_argument COMMAND PLACE FOR: an argument of a command, its first at place 0; FOR is 1 after --for. Where a depth may stand or be
 # left out, the names of files are more to the point.
 _cedunmi_argument() {
-    local commands='table check-table code record typed sample check-sample check repair check-proof read explain sha256 help'
+    local commands='table check-table code recode record typed sample check-sample check repair check-proof read explain sha256 help'
     case $1:$2 in
     :* | help:0) _cedunmi_words "$commands" ;;
-    explain:0) _cedunmi_words '0 1 2 3 4 5 6 7 8 9 10 11 12 13 30 31 32 33 43 64 65 66 70 73 74' ;;
+    explain:0) _cedunmi_words '0 1 2 3 4 5 6 7 8 9 10 11 12 13 14 30 31 32 33 43 64 65 66 70 73 74' ;;
     help:* | explain:* | sample:0 | check-sample:0) _cedunmi_words '' ;;
     table:0) [[ $3 ]] || _cedunmi_words '1 2 3 4 5 6 7 8 9' ;;
     esac
