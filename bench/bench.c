@@ -22,10 +22,10 @@ static const char usage[] =
     "bench proof DEPTH RECORD TABLE PROOF       check a fault proof\n"
     "\n"
     "DEPTH 1 to 9; NUMBER a decimal number too; the others are files. RECORD must come from where it can be trusted:\n"
-    "a DEPTH or a TABLE that it doesn't name is turned down. Exit status: 0 accepted; 1 to 8 and 10 to 12 not, and\n"
-    "why not; 64 bad usage; 66 a file cannot be read. At 7 it says the layer of the page that doesn't fit, and of a\n"
-    "proof the position of the member on whose way up it is, the withheld one last. That page, or one above it, is to\n"
-    "be asked for again: cedunmi check-sample and check-proof say which.\n";
+    "a DEPTH or a TABLE that it doesn't name is turned down, and pages are hashed by its kind. Exit status: 0\n"
+    "accepted; 1 to 8 and 10 to 12 not, and why not; 64 bad usage; 66 a file cannot be read. At 7 it says the layer of\n"
+    "the page that doesn't fit, and of a proof the position of the member on whose way up it is, the withheld one last.\n"
+    "That page, or one above it, is to be asked for again: cedunmi check-sample and check-proof say which.\n";
 
 struct file {
     uint8_t *bytes;

@@ -1,4 +1,4 @@
-// Codes a volume of 3,700 bytes, loses a fifth of its pages, repairs it, reads it back, and checks a sample.
+// Codes a volume of 3,700 bytes, loses a fifth of its pages, repairs it, reads it back, checks a sample, and recodes it.
 #include "cedunmi.h"
 
 #include <iostream>
@@ -35,8 +35,8 @@ int main()
     Bytes output(CMT_OUTPUT_BYTES(depth)), sample(CMT_SAMPLE_BYTES(depth));
 
     done(cmt_house_table(depth, table.data(), table.size()));
-    done(cmt_tree_write(depth, table.data(), table.size(), block.data(), block.size(), tree.data(),
-                        tree.size(), marks.data(), marks.size(), record.data(), record.size()));
+    done(cmt_tree_write(depth, CMT_KIND_PLACED, table.data(), table.size(), block.data(), block.size(),
+                        tree.data(), tree.size(), marks.data(), marks.size(), record.data(), record.size()));
 
     for (std::size_t place = 0; place < marks.size(); place += 5) {
         marks[place] = 0;
@@ -60,4 +60,11 @@ int main()
     sample[0] ^= 1;
     const std::uint64_t damaged = check();
     std::cout << ", damaged: " << cmt_number(damaged) << " at layer " << cmt_value(damaged) << "\n";
+
+    Bytes plain_tree(tree.size()), plain_marks(marks.size()), plain_record(record.size());
+    done(cmt_recode(depth, record.data(), record.size(), table.data(), table.size(), tree.data(), tree.size(),
+                    marks.data(), marks.size(), plain_tree.data(), plain_tree.size(), plain_marks.data(),
+                    plain_marks.size(), plain_record.data(), plain_record.size()));
+    std::cout << "recoded: from kind " << cmt_record_kind(record.data()) << " to "
+              << cmt_record_kind(plain_record.data()) << "\n";
 }

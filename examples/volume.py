@@ -1,4 +1,4 @@
-"""Codes a volume of 3,700 bytes, loses a fifth of its pages, repairs it, reads it back, and checks a sample.
+"""Codes a volume of 3,700 bytes, loses a fifth of its pages, repairs it, reads it back, checks a sample, and recodes it.
 
     volume.py LIBRARY    the library as a shared object
 """
@@ -33,6 +33,7 @@ def done(name, *arguments):
     return value
 
 
+PLACED = 0
 depth, number = 3, 50
 pages = 16 * (2**depth - 1)
 block = bytearray((i + i // 256) % 256 for i in range(3700))
@@ -42,7 +43,7 @@ tree, marks, record = bytearray(256 * pages), bytearray(pages), bytearray(556)
 output, sample = bytearray(12 + 256 * (8 * depth - 1)), bytearray(256 * (2 * depth - 1))
 
 done("cmt_house_table", depth, table)
-done("cmt_tree_write", depth, table, block, tree, marks, record)
+done("cmt_tree_write", depth, PLACED, table, block, tree, marks, record)
 
 marks[::5] = bytes(len(marks[::5]))
 repaired = done("cmt_repair", depth, record, table, tree, marks, output)
@@ -57,3 +58,7 @@ right = call("cmt_sample_check", depth, number, record, sample)
 sample[0] ^= 1
 damaged = call("cmt_sample_check", depth, number, record, sample)
 print(f"sample: {right}, damaged: {damaged % 256} at layer {damaged // 256}")
+
+plain_tree, plain_marks, plain_record = bytearray(256 * pages), bytearray(pages), bytearray(556)
+done("cmt_recode", depth, record, table, tree, marks, plain_tree, plain_marks, plain_record)
+print(f"recoded: from kind {record[0] // 64} to {plain_record[0] // 64}")
