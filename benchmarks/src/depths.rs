@@ -16,10 +16,10 @@ pub fn depths() -> RangeInclusive<usize> {
     1..=largest().unwrap_or(9)
 }
 
-/// Whether what has this name is timed at that depth: an earlier revision's program knows the first two.
+/// Whether what has this name is timed at that depth: a program from before there were kinds knows the first two.
 pub fn offered(name: &str, depth: u64) -> bool {
     match name {
-        "cedunmi" | "long" => true,
+        "cedunmi" | "long" | "plain" | "placed" => true,
         "reference" => largest().is_none() && depth <= COMPARED as u64,
         _ => largest().is_none(),
     }

@@ -8,12 +8,14 @@
 //!     benchmarks repair TRIALS          prints NAME, CASE, DEPTH, SYMBOLS and the fewest nanoseconds to repair a tree
 //!     benchmarks searches               prints CASE, DEPTH, SYMBOLS and the equations that a search looks at that goes back
 //!     benchmarks checks TRIALS          prints NAME, proof, long or sample, DEPTH, BYTES and the fewest nanoseconds to check it
+//!     benchmarks kinds TRIALS           prints plain or placed, CALL, DEPTH and the fewest nanoseconds of the call by a volume of that kind
 //!
 //! With BENCHMARKS_DEPTH set to a depth, the library's calls alone are timed, to that depth.
 
 mod checks;
 mod clock;
 mod depths;
+mod kinds;
 mod openssl;
 mod repair;
 mod sha256;
@@ -27,7 +29,7 @@ use linear::worst;
 use std::process::ExitCode;
 
 const USAGE: &str = "usage: check | time TRIALS NAME.. | work NAME LENGTH N | table TRIALS | \
-    tree TRIALS | repair TRIALS | searches | checks TRIALS";
+    tree TRIALS | repair TRIALS | searches | checks TRIALS | kinds TRIALS";
 
 fn main() -> ExitCode {
     let words: Vec<String> = std::env::args().skip(1).collect();
@@ -51,6 +53,7 @@ fn run(words: &[&str]) -> Result<(), String> {
         ["repair", trials] => repair::time(number(trials)?),
         ["searches"] => repair::count(),
         ["checks", trials] => checks::time(number(trials)?),
+        ["kinds", trials] => kinds::time(number(trials)?),
         _ => Err(USAGE.to_string()),
     }
 }

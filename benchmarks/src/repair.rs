@@ -2,7 +2,9 @@
 
 use crate::depths::{calls, depths, offered};
 use crate::turns::{each, shortest, Work};
-use crate::volume::{forget_hash, hash, hash_table, house, with_table, Volume};
+use crate::volume::{
+    code, coded, forget_hash, hash, hash_table, house, of_kind, with_table, Volume, PLAIN,
+};
 use linear::lossy::Lossy;
 use linear::search::looked_at;
 use linear::worst::{self, Chain};
@@ -11,8 +13,8 @@ use reference::repair::{output_len, repair, End, Repaired};
 use reference::tree::place;
 
 /// A tree as it is lent, and the buffers that are.
-struct Lent {
-    volume: Volume,
+pub struct Lent {
+    pub volume: Volume,
     tree: Vec<u8>,
     marks: Vec<u8>,
     output: Vec<u8>,
@@ -30,7 +32,7 @@ impl Lent {
             End::Whole => (0, 0, depth),
             End::Fault(bytes) => (1, bytes, depth),
             End::Unavailable(layer) => (2, layer, layer + 1),
-            End::Twins => (3, 0, depth),
+            End::Twins(_) => (3, 0, depth),
             End::Misfilled => (13, 0, depth),
         };
         let held = volume.marks[..place(layers, 0)].iter().filter(|&&mark| mark == 1).count();
@@ -51,7 +53,7 @@ impl Lent {
         self.marks.copy_from_slice(&self.volume.marks);
     }
 
-    fn cedunmi(&mut self) {
+    pub fn cedunmi(&mut self) {
         let Lent { volume: v, tree, marks, output, .. } = self;
         let result = cedunmi_sys::cmt_repair(v.depth, &v.record, &v.table, tree, marks, output);
         assert_eq!(result, self.result);
@@ -69,7 +71,7 @@ impl Lent {
     }
 
     /// The nanoseconds of a repair, of some, each on what was lent.
-    fn timed(&mut self, run: fn(&mut Lent)) -> f64 {
+    pub fn timed(&mut self, run: fn(&mut Lent)) -> f64 {
         let mut sum = 0.0;
         for _ in 0..self.times() {
             self.put_back();
@@ -111,16 +113,17 @@ const WORST: [Case; 8] = [
     ("down-47", |depth| Lossy::worst(depth, Chain::Down, 470)),
 ];
 
-fn lent(lossy: Lossy) -> Lent {
+/// A tree of a kind, as it is lent.
+pub fn lent(kind: u64, lossy: Lossy) -> Lent {
     let repaired = lossy.repaired();
-    Lent::new(lossy.written(), repaired)
+    Lent::new(of_kind(kind, lossy.written()), repaired)
 }
 
 /// A tree of the house table, with a table that has another member in its last equation, which the record names: by it, the tree has a
 /// fault in its base.
 fn fault(depth: usize) -> Lent {
     let mut layers = house(depth);
-    let coded = Volume::written(&layers);
+    let coded = coded(PLAIN, &layers);
     let last = layers.last_mut().and_then(|equations| equations.last_mut()).expect("an equation");
     last[0] -= 1;
     let end = End::Fault(proof_len(depth - 1, last.len()));
@@ -131,7 +134,7 @@ fn fault(depth: usize) -> Lent {
 fn empty(depth: usize) -> Lent {
     let mut volume = Volume::new(&house(depth));
     volume.block.clear();
-    volume.write();
+    code(PLAIN, &mut volume);
     Lent::new(volume, Repaired { end: End::Whole, stored: 0 })
 }
 
@@ -139,7 +142,7 @@ fn empty(depth: usize) -> Lent {
 pub fn time(trials: usize) -> Result<(), String> {
     for depth in depths() {
         for (case, of_depth) in HOUSE.into_iter().chain(WORST) {
-            print(trials, case, lent(of_depth(depth)));
+            print(trials, case, lent(PLAIN, of_depth(depth)));
         }
         print(trials, "fault", fault(depth));
         if offered("empty", depth as u64) {

@@ -2,7 +2,7 @@
 
 use crate::depths::{calls, depths};
 use crate::turns::{each, shortest, Work};
-use crate::volume::{hash, hash_table, house, long, write_plainly, Volume};
+use crate::volume::{code, hash, hash_table, house, long, write_plainly, Volume, PLAIN};
 
 /// Trees in one trial.
 fn times(v: &Volume) -> usize {
@@ -10,7 +10,7 @@ fn times(v: &Volume) -> usize {
 }
 
 const WORK: [Work<Volume>; 4] = [
-    ("cedunmi", |v| each(times(v), || v.write())),
+    ("cedunmi", |v| each(times(v), || code(PLAIN, v))),
     ("reference", |v| each(times(v), || write_plainly(v))),
     ("hashes", |v| {
         each(times(v), || {
@@ -22,7 +22,7 @@ const WORK: [Work<Volume>; 4] = [
 ];
 
 const LONG: [Work<Volume>; 2] = [
-    ("long", |v| each(times(v), || v.write())),
+    ("long", |v| each(times(v), || code(PLAIN, v))),
     ("long-naming", |v| each(times(v), || hash_table(&v.table))),
 ];
 
