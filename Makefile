@@ -10,7 +10,7 @@ help:
 	@echo 'make uninstall    removes just what it installs'
 	@echo 'make test         every proof from nothing, every edit that must be refused, every test; it empties target/ first'
 	@echo 'make benchmarks   measures, and renews docs/BENCHMARKS.md and its picture'
-	@echo 'make fuzz         fuzzes each of the nine calls for SECONDS (600)'
+	@echo 'make fuzz         fuzzes each of the ten calls for SECONDS (600)'
 	@echo 'make pinned       sees that definitions that are wrong together with their code are refused'
 
 # Where things are installed; DESTDIR goes before each.
@@ -32,7 +32,7 @@ install: all
 uninstall:
 	@install/files uninstall
 
-# How long `make fuzz` fuzzes each of the nine calls.
+# How long `make fuzz` fuzzes each of the ten calls.
 SECONDS = 600
 
 test:
