@@ -77,18 +77,20 @@ fn wrong_at(call: &'static Call, wrong: String) -> Library {
     Library::right().with(call, function)
 }
 
+/// Does this with each of these targets, all at once.
+fn with_each(targets: impl Iterator<Item = &'static Target>, does: fn(&'static Target)) {
+    let threads: Vec<_> = targets.map(|target| thread::spawn(move || does(target))).collect();
+    threads.into_iter().for_each(|thread| thread.join().expect("what it asserts"));
+}
+
 #[test]
 fn every_outcome_is_reached() {
-    let reaches = |target: &'static Target| {
-        move || {
-            for outcome in outcomes(target.call) {
-                let library = wrong_at(target.call, outcome.clone());
-                assert!(differs(target, &library, some(TRIED)), "{}: {outcome}", target.call.name);
-            }
+    with_each(TARGETS.iter().copied(), |target| {
+        for outcome in outcomes(target.call) {
+            let library = wrong_at(target.call, outcome.clone());
+            assert!(differs(target, &library, some(TRIED)), "{}: {outcome}", target.call.name);
         }
-    };
-    let targets: Vec<_> = TARGETS.iter().map(|target| thread::spawn(reaches(target))).collect();
-    targets.into_iter().for_each(|target| target.join().expect("every outcome"));
+    });
 }
 
 /// The recipes to begin with come to these for each call that has them: tables that are not
@@ -189,11 +191,13 @@ fn every_layer_of_deep_depths_is_reached() {
     }
 }
 
+/// The shallow depths, each with a byte that stands for it in a recipe.
+const SHALLOW: [(u8, usize); 5] = [(0, 1), (3, 2), (5, 3), (6, 4), (7, 5)];
+
 /// Recipes for proofs of equations of each size, in each layer of each shallow depth, one symbol
 /// damaged, in a byte of no hash that a path has. Numbers too large begin again at 0.
 fn damaged_proofs() -> impl Iterator<Item = Vec<u8>> {
-    let depths = [0, 3, 5, 6, 7].into_iter();
-    let sizes = depths.flat_map(|depth| (128..135).map(move |size| [depth, size]));
+    let sizes = SHALLOW.into_iter().flat_map(|(byte, _)| (128..135).map(move |size| [byte, size]));
     let layers = sizes.flat_map(|[depth, size]| (0..5).map(move |layer| [depth, size, layer]));
     layers.flat_map(|[depth, size, layer]| {
         let of = [0, depth, size, 0, 0, 0, layer, 0, 0, 3, 0];
@@ -201,13 +205,35 @@ fn damaged_proofs() -> impl Iterator<Item = Vec<u8>> {
     })
 }
 
+/// Recipes of each shallow depth that change the head of a record: its kinds, depth, length, count
+/// and hash. What comes before that in a recipe is zeros, more or fewer for each call.
+fn changed_records() -> impl Iterator<Item = Vec<u8>> {
+    const CHANGES: [&[u8]; 12] = [
+        &[200, 0, 0],
+        &[200, 0, 2],
+        &[200, 0, 3],
+        &[200, 1, 0],
+        &[200, 2, 0],
+        &[200, 3, 0],
+        &[200, 5, 0, 0, 0],
+        &[200, 5, 255, 255, 255],
+        &[232, 0, 2, 1, 0],
+        &[200, 6, 0],
+        &[200, 7, 0],
+        &[200, 8],
+    ];
+    let zeros = SHALLOW.into_iter().flat_map(|(byte, _)| (0..12).map(move |zeros| (byte, zeros)));
+    zeros.flat_map(|(byte, zeros)| {
+        CHANGES.map(|change| [&[0, byte], &[0; 12][..zeros], change].concat())
+    })
+}
+
 /// Recipes for trees to be recoded, of each shallow depth: a symbol of each layer that is absent,
-/// that is a bad copy, or that fails an equation; another filling, and a record of the other kind.
+/// that is a bad copy, or that fails an equation.
 fn flawed_trees() -> impl Iterator<Item = Vec<u8>> {
-    let depths = [(0, 1), (3, 2), (5, 3), (6, 4), (7, 5)].into_iter();
-    depths.flat_map(|(byte, depth)| {
+    SHALLOW.into_iter().flat_map(|(byte, depth)| {
         let of = move |faults: &[u8], rest: &[u8]| [&[0, byte, 0], faults, &[0; 4], rest].concat();
-        let in_layers = (0..depth).flat_map(move |layer| {
+        (0..depth).flat_map(move |layer| {
             let place = (place(layer, 3) as u32).to_be_bytes();
             let at = (256 * u32::from_be_bytes(place)).to_be_bytes();
             let parity = (data_symbols(layer) as u32).to_be_bytes();
@@ -215,24 +241,28 @@ fn flawed_trees() -> impl Iterator<Item = Vec<u8>> {
             let bad = of(&[0], &[0, 2, 2, at[1], at[2], at[3], 1]);
             let replaced = of(&[1, layer as u8, parity[1], parity[2], parity[3]], &[]);
             [absent, bad, replaced]
-        });
-        let records = [of(&[0], &[200, 5, 0, 0, 0]), of(&[0], &[200, 0, 0])];
-        in_layers.chain(records)
+        })
     })
 }
 
-/// Of the shallow depths.
+/// Of the shallow depths: by the recipes to begin with, by those above, and by random ones until
+/// each sort has come.
 #[test]
 fn every_sort_is_reached() {
-    for target in TARGETS.iter().filter(|target| target.call.sorts().count() > 0) {
+    let have_sorts = TARGETS.iter().copied().filter(|target| target.call.sorts().count() > 0);
+    with_each(have_sorts, |target| {
         let shallow = |recipe: &Vec<u8>| recipe.get(1).map_or(true, |&depth| depth < 240);
-        let recipes = some(4 * TRIED).filter(shallow).chain(damaged_proofs());
-        let recipes = recipes.chain(flawed_trees()).chain(seeds(target.call));
-        let sort = |(input, result): (Input, u64)| target.call.sort(&input, result);
-        let met: BTreeSet<String> = called(target, recipes).filter_map(sort).collect();
-        let all: BTreeSet<String> = target.call.sorts_at(&[1, 2, 3, 4, 5]).collect();
-        assert_eq!(all.difference(&met).next(), None, "{}", target.call.name);
-    }
+        let recipes = seeds(target.call).chain(changed_records()).chain(flawed_trees());
+        let recipes = recipes.chain(damaged_proofs()).chain(some(TRIED)).filter(shallow);
+        let mut missing: BTreeSet<String> = target.call.sorts_at(&[1, 2, 3, 4, 5]).collect();
+        for (input, result) in called(target, recipes) {
+            target.call.sort(&input, result).map(|sort| missing.remove(&sort));
+            if missing.is_empty() {
+                break;
+            }
+        }
+        assert_eq!(missing.iter().next(), None, "{}", target.call.name);
+    });
 }
 
 #[test]
