@@ -26,10 +26,10 @@ ghost use Rattle.sample_calls.specs.Taking.{sampleTaken};
 ghost use Rattle.sample_calls.specs.Taking as taking;
 ghost use Rattle.sample_calls.specs.Checking.{sampleChecked};
 ghost use Rattle.fault_calls.specs.Checking.{proofChecked};
-ghost use Rattle.fault_calls.specs.Repairing.{repaired, outcomeOf, Fits, Recorded};
+ghost use Rattle.fault_calls.specs.Repairing.{outcomeOf, Fits, Recorded};
 ghost use Rattle.fault_calls.specs.Repairing as repairing;
 ghost use Rattle.recoding.specs.Recoding.{recoded};
-ghost use Rattle.cedunmi_c.specs.Result.{packed, hashAnswer, callResult, repairResult, treeInC, blockInC, sampleInC, repairInC};
+ghost use Rattle.cedunmi_c.specs.Result.{packed, hashAnswer, callResult, repairResult, treeInC, blockInC, sampleInC, repairedInC};
 
 // The number in the lowest eight bits, the first value in the 24 above them, the second in the upper 32.
 fn pack(n: Numbers) -> u64
@@ -212,7 +212,7 @@ pub extern "C" fn cmt_repair(
 ) -> u64
     ensures { λ r.
         ⌜ repairing.leaves r (now (tree .exit)) (now (marks .exit)) (now (output .exit))
-        ≡ repairInC (kindIn (now (root_record .entry))) (repaired depth (now (root_record .entry)) (now (table .entry)) (now (tree .entry)) (now (marks .entry)) (now (output .entry))) ⌝ }
+        ≡ repairedInC depth (now (root_record .entry)) (now (table .entry)) (now (tree .entry)) (now (marks .entry)) (now (output .entry)) ⌝ }
 {
     let outcome = fault_calls::repair_tree(depth as usize, root_record, table, tree, marks, output);
     repair_result(root_record, outcome)

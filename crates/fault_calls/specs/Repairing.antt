@@ -117,7 +117,7 @@ Fits kind (ended s z) = (s < 2 ^ 16) × (endValue kind z < 2 ^ 16) × (endNumber
 Fits kind (misfilled s) = s < 2 ^ 16
 Fits kind (stopped w) = Small (answer.Stopped w)
 
--- an end is that of a repair by a record, which has n bytes
+-- a repair that ended was lent a record of 556 bytes, so that its kind can be read; this one has n
 abbrev pub Recorded : ℕ → Result → Type 0
 Recorded n (ended s z) = n ≡ 556
 Recorded n (misfilled s) = Unit {0}

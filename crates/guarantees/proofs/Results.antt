@@ -17,7 +17,7 @@ use Rattle.model.specs.Repair.{End, working, whole, fault, unavailable, twins, 
 use Rattle.model.specs.Shape.{tree}
 use Rattle.model.specs.Ends.{EndOk, TwinsEnd}
 use Rattle.model.specs.Writer.{zeroFilled}
-use Rattle.root_record.specs.Records.{kindIn, sizeIn, rootIn}
+use Rattle.root_record.specs.Records.{kindNumber, kindIn, sizeIn, rootIn}
 use Rattle.symbol_hash.specs.SymbolHash.{symbolHash}
 use Rattle.symbol_hash.specs.declared.Kind.{Kind}
 use Rattle.symbol_hash.specs.declared.Kind.the-variants.{Plain, Placed}
@@ -42,11 +42,12 @@ use Rattle.fault_calls.specs.Repairing.{Result, ended, misfilled, endedBy, repa
 use Rattle.fault_calls.proofs.Ends.{deep, repair-fits, four-ways}
 use Rattle.cedunmi_c.specs.Result.{packed, repairResult}
 use Rattle.guarantees.specs.Terms.{equationsOf}
-use Rattle.guarantees.proofs.Records.{either, at-most}
+use Rattle.guarantees.proofs.Records.{either, at-most, head-right}
+use Rattle.guarantees.proofs.Change5.{first-kind}
 use Rattle.guarantees.proofs.Refusals.{done-only}
 use Rattle.guarantees.specs.Layouts.{wordNo, kindNo, valueNo, blockSize, blockRoom}
 use Rattle.guarantees.specs.Refusals.{DepthRight, HeadRight}
-use Rattle.guarantees.specs.Results.{cmtNumber, cmtValue, cmtSecondValue, cmtRepairEnd, cmtRepairStored, cmtRecordWord, cmtRecordKind, cmtRecordLength, cmtRecordTableBytes, cmtRecordDepth, Says, SaysAnswer, SaysEnd, SaysNoEnd, EndedSaid, Results}
+use Rattle.guarantees.specs.Results.{cmtNumber, cmtValue, cmtSecondValue, cmtRepairEnd, cmtRepairStored, cmtRecordWord, cmtRecordKind, cmtRecordLength, cmtRecordTableBytes, cmtRecordDepth, Says, SaysAnswer, SaysEnd, SaysNoEnd, EndedSaid, repairNumber, Results}
 
 -- a number below 256, with a value above it and a second one above that, each in its bits
 says : (n : ℕ) (v : ℕ × ℕ) → n < 256 → v .0 < 2 ^ 24 → v .1 < 2 ^ 32 → Says (packed n v) n v
@@ -126,7 +127,7 @@ module _ (e s v : ℕ) (he : e < 2 ^ 24) (hs : s < 2 ^ 16) (hv : v < 2 ^ 16) whe
 
 -- a result is said: no number, and how the repair came out
 abbrev Said : Kind → Result → Type 0
-Said kind x = (cmtNumber (repairResult kind x) ≡ 0) × EndedSaid kind (repairResult kind x) x
+Said kind x = (cmtNumber (repairResult kind x) ≡ 0) × EndedSaid (kindNumber kind) (repairResult kind x) x
 
 -- the number of twins has room beside their layer
 abbrev TwinsLow : End → Type 0
@@ -279,11 +280,13 @@ results =
       no-end = λ depth r table t m o.
           no-end (kindIn r) (repairTested depth r table t m o) depth (sizeIn r) (repairOf r table t m o) t m o (small-repair depth r table t m o);
       of-repair = λ depth r table t m o e.
-          repair-said depth r table t m o (repairTested depth r table t m o) refl e (sizeIn r) (repair-fits (kindIn r) depth r table t m o);
+          subst (λ (n : ℕ). (cmtNumber (repairNumber depth r table t m o) ≡ 0) × EndedSaid n (repairNumber depth r table t m o) (repaired depth r table t m o .answer))
+          (first-kind depth r (head-right depth r (formed depth r table t m o e .admits .head)))
+          (repair-said depth r table t m o (repairTested depth r table t m o) refl e (sizeIn r) (repair-fits (kindIn r) depth r table t m o));
       tree-in-c = λ w. (refl, refl, refl, refl);
       block-in-c = λ w. (refl, refl);
       sample-in-c = λ w. (refl, refl);
-      repair-in-c = λ kind w. (refl, refl, refl, refl);
+      repair-in-c = λ depth r table t m o. (refl, refl, refl);
       record-depth = λ d r k. (λ e. depth-passes r d (k .0) e .1, passes-depth r d k);
       record-no-depth = λ r. (λ z d k h. omega (arith, passes-depth r d k h, k .0), no-depth r);
       record-kind = λ r. kind-is r 0;

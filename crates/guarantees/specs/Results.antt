@@ -21,16 +21,13 @@ use Rattle.calls.specs.Stops.{numberOf, valuesOf}
 use Rattle.calls.specs.Tests.{readAnswer, admitted}
 use Rattle.fault_calls.specs.declared.Outcome.the-variants as outcome
 use Rattle.fault_calls.specs.Checking.{proofChecked}
-use Rattle.fault_calls.specs.Repairing.{Result, ended, misfilled, stopped, RepairLeft, outcomeOf, repairTested, repaired}
-use Rattle.cedunmi_c.specs.Result.{hashAnswer, callResult, repairResult, treeInC, blockInC, sampleInC, repairInC}
+use Rattle.fault_calls.specs.Repairing.{Result, ended, misfilled, stopped, outcomeOf, repairTested, repaired}
+use Rattle.cedunmi_c.specs.Result.{hashAnswer, callResult, treeInC, blockInC, sampleInC, repairedInC}
 use Rattle.volume_calls.specs.Writing.{TreeLeft, treeWrittenBy}
 use Rattle.volume_calls.specs.Reading.{BlockLeft, blockRead}
 use Rattle.recoding.specs.Recoding.{recoded}
 use Rattle.sample_calls.specs.Taking.{SampleLeft, sampleTaken}
 use Rattle.sample_calls.specs.Checking.{sampleChecked}
-use Rattle.symbol_hash.specs.declared.Kind.{Kind}
-use Rattle.symbol_hash.specs.declared.Kind.the-variants.{Plain, Placed}
-use Rattle.root_record.specs.Records.{kindIn}
 use Rattle.guarantees.specs.Layouts.{kindNo, valueNo, blockSize}
 use Rattle.guarantees.specs.Refusals.{DepthRight, TableLength, HeadRight, NamesTable}
 
@@ -116,19 +113,22 @@ pub record SaysNoEnd (r : ℕ) : Type 0 where
 
 -- "The ends are: whole, fault, unavailable, twins", and 02's 13; "a fault [..] reports the proof's length"; "unavailable" is "with this layer"; of a volume of
 -- kind 00 "its twins also report their layer and number" (02, CR 7)
-abbrev pub EndSaid : Kind → ℕ → End → Type 0
+abbrev pub EndSaid : ℕ → ℕ → End → Type 0
 EndSaid kind r whole = SaysEnd r 0 0 0 (0, 0)
 EndSaid kind r (fault j e x n) = SaysEnd r 1 n 0 (0, 0)
 EndSaid kind r (unavailable j) = SaysEnd r 2 0 j (0, 0)
-EndSaid Placed r (twins j x) = SaysEnd r 3 0 0 (j, x)
-EndSaid Plain r (twins j x) = SaysEnd r 3 0 0 (0, 0)
+EndSaid kind r (twins j x) = SaysEnd r 3 0 0 (pick (eqb kind 0) (j, x) (0, 0))
 EndSaid kind r working = ⊥
 
--- the number r says that a repair came out so, with this many symbols stored
-abbrev pub EndedSaid : Kind → ℕ → Result → Type 0
+-- the number r says that a repair, by a record of this kind, came out so, with this many symbols stored
+abbrev pub EndedSaid : ℕ → ℕ → Result → Type 0
 EndedSaid kind r (ended s z) = (cmtRepairStored r ≡ s) × EndSaid kind r z
 EndedSaid kind r (misfilled s) = (cmtRepairStored r ≡ s) × SaysEnd r 13 0 0 (0, 0)
 EndedSaid kind r (stopped w) = ⊥
+
+-- what `cmt_repair` returns
+abbrev pub repairNumber : (depth : ℕ) (r table t m o : List ℕ) → ℕ
+repairNumber depth r table t m o = repairedInC depth r table t m o .answer
 
 -- of every call; the contract of each says that it returns this number
 pub record Results : Type 0 where
@@ -151,20 +151,19 @@ pub record Results : Type 0 where
   pub of-recoder : (depth : ℕ) (r table t m t′ m′ r′ : List ℕ) → SaysAnswer (recoded depth r table t m t′ m′ r′ .answer)
   -- a repair that is refused, and one that came to its end
   pub of-refusal : (depth : ℕ) (r table t m o : List ℕ) → repairTested depth r table t m o ≢ Done
-      → Says (repairResult (kindIn r) (repaired depth r table t m o .answer)) (numberOf (repairTested depth r table t m o))
-      (valuesOf (repairTested depth r table t m o))
-  pub no-end : (depth : ℕ) (r table t m o : List ℕ) → repairTested depth r table t m o ≢ Done → SaysNoEnd (repairResult (kindIn r) (repaired depth r table t m o .answer))
+      → Says (repairNumber depth r table t m o) (numberOf (repairTested depth r table t m o)) (valuesOf (repairTested depth r table t m o))
+  pub no-end : (depth : ℕ) (r table t m o : List ℕ) → repairTested depth r table t m o ≢ Done → SaysNoEnd (repairNumber depth r table t m o)
   pub of-repair : (depth : ℕ) (r table t m o : List ℕ) → repairTested depth r table t m o ≡ Done
-      → (cmtNumber (repairResult (kindIn r) (repaired depth r table t m o .answer)) ≡ 0)
-      × EndedSaid (kindIn r) (repairResult (kindIn r) (repaired depth r table t m o .answer)) (repaired depth r table t m o .answer)
+      → (cmtNumber (repairNumber depth r table t m o) ≡ 0)
+      × EndedSaid (kindNo r 0) (repairNumber depth r table t m o) (repaired depth r table t m o .answer)
   -- to C a call leaves the buffers that it leaves, and its answer is that number
   pub tree-in-c : (w : TreeLeft Answer)
       → (treeInC w .answer ≡ callResult (w .answer)) × (treeInC w .tree ≡ w .tree) × (treeInC w .marks ≡ w .marks) × (treeInC w .root-record ≡ w .root-record)
   pub block-in-c : (w : BlockLeft Answer) → (blockInC w .answer ≡ callResult (w .answer)) × (blockInC w .block ≡ w .block)
   pub sample-in-c : (w : SampleLeft Answer) → (sampleInC w .answer ≡ callResult (w .answer)) × (sampleInC w .sample ≡ w .sample)
-  pub repair-in-c : (kind : Kind) (w : RepairLeft Result)
-      → (repairInC kind w .answer ≡ repairResult kind (w .answer)) × (repairInC kind w .tree ≡ w .tree) × (repairInC kind w .marks ≡ w .marks)
-      × (repairInC kind w .out ≡ w .out)
+  pub repair-in-c : (depth : ℕ) (r table t m o : List ℕ)
+      → (repairedInC depth r table t m o .tree ≡ repaired depth r table t m o .tree) × (repairedInC depth r table t m o .marks ≡ repaired depth r table t m o .marks)
+      × (repairedInC depth r table t m o .out ≡ repaired depth r table t m o .out)
   -- of a record C reads what the calls do: the depth at which 11 lets it pass, and 0 where there is none
   pub record-depth : (d : ℕ) (r : List ℕ) → DepthRight d → (cmtRecordDepth r ≡ d) ↔ HeadRight d r
   pub record-no-depth : (r : List ℕ) → (cmtRecordDepth r ≡ 0) ↔ ((d : ℕ) → DepthRight d → HeadRight d r → ⊥)
