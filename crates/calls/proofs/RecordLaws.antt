@@ -1,19 +1,18 @@
 -- Tests 11 and 12, and the admission of a table by a record.
-use mathlib.Core.Path.{_≡_, refl, sym, ap, ap₂, _∙_, subst}
+use mathlib.Core.Path.{_≡_, refl, sym, ap, _∙_, subst}
 use mathlib.Core.Bool.{Bool, true, false, _&&_}
 use mathlib.Core.List.{List}
 use Prim.Native.Nat.{ℕ, _-_, _≤_}
 use native.Mathlib.Omega.{arith}
 use lib.ListN.{length, take, drop, length-drop}
 use lib.Seq.{take-all}
-use Rattle.octets.proofs.Choice.{by-test, and-yes, yes-and, pick-yes, pick-no, pick-ind}
+use Rattle.octets.proofs.Choice.{by-test, yes-and, pick-yes, pick-no, pick-ind}
 use Rattle.sha256.specs.Call.{longest}
 use Rattle.parity_table.specs.Shape.{depthFits}
 use Rattle.table_bytes.specs.Bytes.{wordsOf, lengthFits}
 use Rattle.table_bytes.proofs.ByteForm.{quarter-most}
 use Rattle.root_record.specs.Records.{rootIn, headRight, namesTable}
 use Rattle.parity_table.proofs.Shape.{depth-low}
-use Rattle.calls.specs.declared.Stop.{Stop}
 use Rattle.calls.specs.declared.Stop.the-variants.{Depth, Record, OtherTable}
 use Rattle.calls.specs.declared.Answer.{Answer}
 use Rattle.calls.specs.declared.Answer.the-variants.{Done, Stopped}

@@ -2,7 +2,7 @@
 use mathlib.Core.Path.{_≡_, refl, sym, ap, ap₂, _∙_, subst}
 use mathlib.Core.Logic.{_⊎_, inl, inr, ⊎-elim}
 use mathlib.Core.Bool.{Bool, true, false, not}
-use mathlib.Core.List.{List, []}
+use mathlib.Core.List.{List}
 use Prim.Native.Nat.{ℕ, suc, _+_, _*_, _≤_}
 use native.Mathlib.Omega.{arith}
 use lib.ListN.{length, getD, drop}
@@ -14,8 +14,6 @@ use Rattle.octets.proofs.Choice.{by-test, pick-no, pick-ind, yes-and, both, not
 use Rattle.parity_table.specs.Shape.{depthFits}
 use Rattle.parity_table.specs.Table.{layerOf, equationOf, TableOk, WellFormed}
 use Rattle.table_bytes.specs.Bytes.{wordsOf}
-use Rattle.parity_table.specs.Reader.{readOf}
-use Rattle.parity_table.specs.declared.Answer.the-variants.{Whole}
 use Rattle.parity_table.proofs.Shape.{depth-is}
 use Rattle.parity_table.proofs.Accepts.{accepted-formed, accepted-table}
 use Rattle.coverage.proofs.Right.{found-covered}
@@ -45,7 +43,7 @@ use Rattle.guarantees.specs.Terms.{equationsOf}
 use Rattle.guarantees.specs.FaultProofs.{givenSymbol, Named, given, Exact, path, AllLead, ProofBreaks, Fits, ProofLengths, ProofRight, AcceptsProofJustWhen, proofTests, ProofCheckerAnswers, Holds, HoldsExactly, HoldsItsSymbols, FaultProofs}
 use Rattle.guarantees.proofs.Answers.{all-done, stops-unless, stops-two, passes-unless, passes-two}
 use Rattle.guarantees.specs.Tables.{AllInTwo}
-use Rattle.guarantees.proofs.Tables.{rules-ok, right-formed, formed-right, covered-all, all-covered}
+use Rattle.guarantees.proofs.Tables.{rules-ok, right-formed, formed-right, covered-all}
 use Rattle.guarantees.proofs.Refusals.{depth-fits, table-long, taken-so, by-admitted-by}
 use Rattle.guarantees.proofs.Trees.{hash-in}
 use Rattle.guarantees.proofs.Records.{head-right, right-head, names-table, table-named}

@@ -2,13 +2,13 @@
 use mathlib.Core.Path.{_≡_, refl, sym, ap, ap₂, _∙_, subst}
 use mathlib.Core.Logic.{_↔_, _≢_}
 use mathlib.Core.Bool.{Bool, true, false}
-use mathlib.Core.List.{List}
+use mathlib.Core.List.{List, _++_}
 use Prim.Native.Nat.{ℕ, _+_, _-_, _*_, _≤_, _<_}
 use native.Mathlib.Omega.{arith}
-use lib.ListN.{length, getD, take, replicate, length-replicate}
+use lib.ListN.{length, getD, take, drop, replicate, length-replicate}
 use lib.Seq.{ext-getD, length-take-le}
 use borrow.Author.Tests.{eq-eqb}
-use Rattle.octets.proofs.Choice.{by-test, yes-and, pick-yes, pick-no, both}
+use Rattle.octets.proofs.Choice.{by-test, yes-and, pick-yes, pick-no}
 use Rattle.parity_table.specs.Shape.{kOf, nOf}
 use Rattle.parity_table.specs.Table.{TableOk}
 use Rattle.parity_table.proofs.Shape.{depth-is}
@@ -21,43 +21,45 @@ use Rattle.root_record.proofs.RecordLaws.{head-parts, record-read-of}
 use Rattle.model.specs.Shape.{tree, place, places}
 use Rattle.model.specs.Symbols.{symAt}
 use Rattle.model.specs.Coded.{Agrees}
-use Rattle.model.specs.Writer.{blockOf, filled, zeroFilled, writtenMarks, writtenRoot}
-use Rattle.model.specs.Repair.{whole, absentAt}
+use Rattle.model.specs.Writer.{blockOf, zeroFilled, writtenMarks, writtenRoot}
+use Rattle.model.specs.Repair.{whole}
 use Rattle.model.specs.Ends.{Intact, EndOk, WholeEnd}
 use Rattle.model.proofs.Shapes.{tree-ok, place-of, place-lt}
 use Rattle.model.proofs.Flat.{tree-same}
 use Rattle.model.proofs.Binding.{hashes}
 use Rattle.model.proofs.Writer.{block-symbol, marks-one, marks-length}
-use Rattle.model.proofs.Filling.{length-block, zero-filled, back-filled}
+use Rattle.model.proofs.Filling.{length-block, zero-filled, back-filled, zero-is}
 use Rattle.calls.specs.declared.Answer.{Answer}
 use Rattle.calls.specs.declared.Answer.the-variants.{Done, Stopped}
 use Rattle.calls.specs.declared.Stop.the-variants.{NotWhole}
 use Rattle.calls.specs.Stops.{numberOf}
 use Rattle.calls.specs.Tests.{_then_, admittedBy, testMarks}
 use Rattle.calls.proofs.TestLaws.{stopped-not, then-done}
-use Rattle.calls.proofs.AdmissionLaws.{TableTaken}
 use Rattle.calls.proofs.RecordLaws.{AdmittedBy, admission-by, admits-by}
-use Rattle.volume_calls.specs.Writing.{TreeLeft, leaves, writtenTree, writtenRecord, writtenBy, writeTested, treeWritten}
+use Rattle.volume_calls.specs.Writing.{TreeLeft, leaves, writtenTree, writtenRecord, treeWritten}
 use Rattle.volume_calls.specs.Reading.{blockRead}
-use Rattle.volume_calls.proofs.WritingLaws.{tests-passed, when-done}
+use Rattle.volume_calls.specs.Reading as reading
+use Rattle.volume_calls.proofs.ReadingLaws.{when-done as read-left}
+use Rattle.volume_calls.proofs.WritingLaws.{when-done}
 use Rattle.fault_calls.specs.Repairing.{ended, repairSized, repairTested, repairOf, repaired}
 use Rattle.fault_calls.proofs.RepairingLaws.{formed}
 use Rattle.fault_calls.proofs.Ends.{four-ways}
+use Rattle.recoding.proofs.RecodingLaws.{as-writer as as-the-writer}
 use Rattle.recoding.specs.Recoding.{otherKind, recodeSized, nothingToDo, calledWhole, testWhole, recodeTested, recoded}
-use Rattle.guarantees.specs.Layouts.{dataSymbols, allSymbols, treeSymbols, symbolAt, kindNo, blockSize, filledUp}
+use Rattle.guarantees.specs.Layouts.{treeSymbols, symbolAt, kindNo, blockSize, filledUp}
 use Rattle.guarantees.specs.Trees.{kindBits, hashBy, CorrectlyCoded, HasBlock}
-use Rattle.guarantees.specs.Refusals.{DepthRight, TreeLengths, RecordLength, BlockLength, OutputLength, RecodeLengths}
+use Rattle.guarantees.specs.Refusals.{TreeLengths, RecordLength, BlockLength, OutputLength, RecodeLengths}
 use Rattle.guarantees.specs.Demand2.{treeAfter, marksAfter, recordAfter, CompleteTree, blockAfter}
 use Rattle.guarantees.specs.Cases.{AreBytes}
 use Rattle.guarantees.specs.Terms.{equationsOf}
-use Rattle.guarantees.specs.Change7.{RecodeInput, newTree, newMarks, newRecord, Recoder}
+use Rattle.guarantees.specs.Change7.{RecodeInput, CompleteSource, newTree, newMarks, newRecord, Recoder}
 use Rattle.guarantees.proofs.Layouts.{tree-symbols, symbol-at, mark-at}
 use Rattle.guarantees.proofs.Records.{block-size, root-in, head-right}
 use Rattle.guarantees.proofs.Marks.{held-marked}
-use Rattle.guarantees.proofs.Trees.{hash-of, symbols-are, agrees-with, with-agrees, base-block}
+use Rattle.guarantees.proofs.Trees.{hash-of, hash-in, symbols-are, agrees-with, with-agrees, base-block}
 use Rattle.guarantees.proofs.Whole.{WholeLent, result-whole, stays, lent-called, called-lent}
 use Rattle.guarantees.proofs.Refusals.{size-tests, table-long, recode-own}
-use Rattle.guarantees.proofs.Demand2.{WriterInput, written-when, rules, filled-up, after-block, after-size, after-kind, after-bits, first-bytes, demand-2}
+use Rattle.guarantees.proofs.Demand2.{coding, rules, filled-up, base-byte, after-block, after-size, after-kind, after-bits, first-bytes, demand-2}
 use Rattle.guarantees.proofs.Demand3.{is-held}
 use Rattle.guarantees.proofs.Change5.{first-kind, change-5}
 
@@ -211,23 +213,11 @@ module _ (d : ℕ) (r table t m t′ m′ r′ : List ℕ) (e : recoded d r tabl
   block-length =
       length-take-le (sizeIn r) (blockOf tree d t) (omega (arith, size-fits, length-block tree d tree-ok t (depth-is d (a .taken .deep) .0) tree-full))
 
-  -- the writer takes the block
-  input : WriterInput d table block t′ m′ r′
-  input =
-      record {
-        taken = a .taken;
-        block-fits = omega (arith, block-length, size-fits);
-        tree-full = k .new-tree-lengths .tree-bytes ∙ ap (λ (n : ℕ). 256 * n) (tree-symbols d);
-        marks-full = k .new-tree-lengths .mark-bytes ∙ tree-symbols d;
-        record-full = k .new-record-length;
-      }
+  as-writer : recoded d r table t m t′ m′ r′ ≡ treeWritten d other table block t′ m′ r′
+  as-writer = as-the-writer d r table t m t′ m′ r′ e
 
   written : treeWritten d other table block t′ m′ r′ .answer ≡ Done
-  written = written-when d other table block t′ m′ r′ input
-
-  as-writer : recoded d r table t m t′ m′ r′ ≡ treeWritten d other table block t′ m′ r′
-  unfolding recoded treeWritten
-  as-writer = ap (λ (x : Answer). writtenBy x d other table block t′ m′ r′) (tests ∙ sym (tests-passed d other table block t′ m′ r′ written))
+  written = sym (ap (λ (w : TreeLeft Answer). w .answer) as-writer) ∙ e
 
   -- every symbol is held
   held : (p : ℕ) → p < places tree d → getD m p 0 ≡ 1
@@ -239,11 +229,26 @@ module _ (d : ℕ) (r table t m t′ m′ r′ : List ℕ) (e : recoded d r tabl
   complete =
       record { depth-right = depth-is d (a .taken .deep); lengths = k .tree-lengths; all-held = λ p h. held p (omega (arith, tree-symbols d)) }
 
+  read : (b : List ℕ) → BlockLength d b → blockRead d r t m b .answer ≡ Done
+  read b h = demand-2 .reads-complete d r t m b complete (k .record-length) (head-right d r (a .head)) h
+
   as-written : (b : List ℕ) → BlockLength d b
       → (blockRead d r t m b .answer ≡ Done) × (recoded d r table t m t′ m′ r′ ≡ treeWritten d other table (take (blockSize r) (blockAfter d r t m b)) t′ m′ r′)
-  as-written b h =
-      let read = demand-2 .reads-complete d r t m b complete (k .record-length) (head-right d r (a .head)) h in
-      (read, as-writer ∙ ap (λ (x : List ℕ). treeWritten d other table x t′ m′ r′) (sym (first-bytes d r t m b read)))
+  as-written b h = (read b h, as-writer ∙ ap (λ (x : List ℕ). treeWritten d other table x t′ m′ r′) (sym (first-bytes d r t m b (read b h))))
+
+  block-unchanged : (b : List ℕ) → BlockLength d b
+      → blockRead d (newRecord d r table t m t′ m′ r′) (newTree d r table t m t′ m′ r′) (newMarks d r table t m t′ m′ r′) b ≡ blockRead d r t m b
+  block-unchanged b h =
+      let r₁ = recordAfter d other table block t′ m′ r′ in
+      let t₁ = treeAfter d other table block t′ m′ r′ in
+      let m₁ = marksAfter d other table block t′ m′ r′ in
+      let n : sizeIn r₁ ≡ sizeIn r = after-size d other table block t′ m′ r′ written ∙ block-length in
+      let same : take (sizeIn r₁) (blockOf tree d t₁) ≡ block =
+      ap (λ (x : ℕ). take x (blockOf tree d t₁)) (after-size d other table block t′ m′ r′ written) ∙ back-filled tree d block t₁ (after-block d other table block t′ m′ r′ written) .1 in
+      ap (λ (w : TreeLeft Answer). blockRead d (w .root-record) (w .tree) (w .marks) b) as-writer
+      ∙ read-left d r₁ t₁ m₁ b (demand-2 .reads-written d other table block t′ m′ r′ b written h .0)
+      ∙ ap₂ (λ (x : List ℕ) (q : ℕ). reading.leaves Done (x ++ drop q b)) same n
+      ∙ sym (read-left d r t m b (read b h))
 
   new-record : newRecord d r table t m t′ m′ r′ ≡ recordAfter d other table block t′ m′ r′
   new-record = ap (λ (w : TreeLeft Answer). w .root-record) as-writer
@@ -302,77 +307,114 @@ module _ (d : ℕ) (r table t m t′ m′ r′ : List ℕ) (e : recoded d r tabl
         ∙ sym (record-read-of d r bytes (k .record-length) (a .head) table (a .named)) in
         q ∙ ap₂ (λ (x y : List ℕ). leaves Done x y (writtenRecord d (kindIn r) table block u)) tree-is same-marks ∙ ap (λ (x : List ℕ). leaves Done t m x) record-is
 
-  -- ---- back again
+  source : CompleteSource d r table t m
+  unfolding kOf nOf
+  source =
+      record {
+        complete = complete;
+        agrees = rw (hash-in r, symbols-are t, root-in r) (agrees-with (kindIn r) d (equationsOf table) ok (rootIn r) (symAt tree t) agreed);
+        filling-zero = λ p from below.
+            sym (base-byte d p t below) ∙ zero-is tree d (sizeIn r) t .0 (lent .blank) p (omega (arith, block-size r)) below;
+      }
 
+-- ---- a tree that is complete and agrees
+
+held-intact : (kind : Kind) (d : ℕ) (tbl : List (List (List ℕ))) → TableOk d tbl → (root t m : List ℕ) → Agrees tree (symbolHash kind) tbl root (symAt tree t)
+    → ((p : ℕ) → p < treeSymbols d → getD m p 0 ≡ 1) → Intact tree (symbolHash kind) root tbl t m
+unfolding kOf nOf
+held-intact kind d tbl ok root t m agr marked l hl =
+    let hd : l < d = omega (arith, ok .depth) in
+    record {
+      full = λ i hi. is-held m l i (mark-at m l i ∙ marked (place tree l i) (omega (arith, tree-symbols d, place-lt tree d l i hd hi)));
+      hashed = λ i hi. hashes tree (tree-ok .shape) (symbolHash kind) (length-symbolHash kind) tbl root (symAt tree t) agr l i (hl, hi);
+      holds = λ q hq. agr .coded .holds l q hl hq;
+    }
+
+complete-just-when : (d : ℕ) (r table t m t′ m′ r′ o : List ℕ) → RecodeInput d r table t m t′ m′ r′ o
+    → (recoded d r table t m t′ m′ r′ .answer ≡ Done) ↔ CompleteSource d r table t m
+unfolding kOf nOf
+complete-just-when d r table t m t′ m′ r′ o i = (
+  source d r table t m t′ m′ r′,
+  λ s.
+      let ok = rules d table (formed d r table t m o (i .well-formed) .admits .taken) in
+      done-just-when d r table t m t′ m′ r′ o i .1
+      (lent-called d r table t m o (i .well-formed)
+      (record {
+        complete = held-intact (kindIn r) d (equationsOf table) ok (rootIn r) t m
+            (with-agrees (kindIn r) d (equationsOf table) ok (rootIn r) (symAt tree t) (rw (hash-in r, symbols-are t, root-in r) at (s .agrees))) (s .complete .all-held);
+        blank = zero-is tree d (sizeIn r) t .1 (λ p from below. base-byte d p t below ∙ s .filling-zero p (omega (arith, block-size r)) below);
+      })),
+)
+
+-- ---- a volume that was written
+
+module _ (d : ℕ) (kind : Kind) (table block t m r : List ℕ) (e : treeWritten d kind table block t m r .answer ≡ Done) where
   abbrev t₁ : List ℕ
-  t₁ = treeAfter d other table block t′ m′ r′
+  t₁ = treeAfter d kind table block t m r
 
   abbrev m₁ : List ℕ
-  m₁ = marksAfter d other table block t′ m′ r′
+  m₁ = marksAfter d kind table block t m r
 
   abbrev r₁ : List ℕ
-  r₁ = recordAfter d other table block t′ m′ r′
+  r₁ = recordAfter d kind table block t m r
 
-  -- a repair calls what was written whole
-  new-lent : WholeLent d r₁ table t₁ m₁
-  unfolding kOf nOf
-  new-lent =
-      let x = demand-2 .writes-exactly d other table block t′ m′ r′ written in
-      let is : kindIn r₁ ≡ other = after-kind d other table block t′ m′ r′ written in
-      let agr : Agrees tree (symbolHash other) (equationsOf table) (rootIn r₁) (symAt tree t₁) =
-      with-agrees other d (equationsOf table) ok (rootIn r₁) (symAt tree t₁) (rw (hash-of other, symbols-are t₁, root-in r₁) at (x .agrees)) in
+  -- a repair calls it whole
+  written-lent : WholeLent d r₁ table t₁ m₁
+  written-lent =
+      let x = demand-2 .writes-exactly d kind table block t m r e in
+      let ok = rules d table (coding d kind table block t m r e .taken) in
+      let agr : Agrees tree (symbolHash kind) (equationsOf table) (rootIn r₁) (symAt tree t₁) =
+      with-agrees kind d (equationsOf table) ok (rootIn r₁) (symAt tree t₁) (rw (hash-of kind, symbols-are t₁, root-in r₁) at (x .agrees)) in
       record {
-        complete = subst (λ (q : Kind). Intact tree (symbolHash q) (rootIn r₁) (equationsOf table) t₁ m₁) (sym is)
-            (λ l hl.
-            let hd : l < d = omega (arith, ok .depth) in
-            record {
-              full = λ i hi. is-held m₁ l i (mark-at m₁ l i ∙ x .marked (place tree l i) (omega (arith, tree-symbols d, place-lt tree d l i hd hi)));
-              hashed = λ i hi. hashes tree (tree-ok .shape) (symbolHash other) (length-symbolHash other) (equationsOf table) (rootIn r₁) (symAt tree t₁) agr l i (hl, hi);
-              holds = λ q hq. agr .coded .holds l q hl hq;
-            });
-        blank = ap (λ (n : ℕ). zeroFilled tree d n t₁) (after-size d other table block t′ m′ r′ written)
-            ∙ back-filled tree d block t₁ (after-block d other table block t′ m′ r′ written) .0;
+        complete = subst (λ (q : Kind). Intact tree (symbolHash q) (rootIn r₁) (equationsOf table) t₁ m₁) (sym (after-kind d kind table block t m r e))
+            (held-intact kind d (equationsOf table) ok (rootIn r₁) t₁ m₁ agr (x .marked));
+        blank = ap (λ (n : ℕ). zeroFilled tree d n t₁) (after-size d kind table block t m r e)
+            ∙ back-filled tree d block t₁ (after-block d kind table block t m r e) .0;
       }
 
   module _ (u v w : List ℕ) (lu : TreeLengths d u v) (lw : RecordLength w) where
-    back-input : RecodeInput d r₁ table t₁ m₁ u v w (blank d r table t m)
-    back-input =
+    written-input : RecodeInput d r₁ table t₁ m₁ u v w (blank d r table t m)
+    written-input =
         record {
-          well-formed = change-5 .writer-passes d other table block t′ m′ r′ written .2 (blank d r table t m) (blank-length d);
+          well-formed = change-5 .writer-passes d kind table block t m r e .2 (blank d r table t m) (blank-length d);
           new-tree-lengths = lu;
           new-record-length = lw;
         }
 
-    back-done : recoded d r₁ table t₁ m₁ u v w .answer ≡ Done
-    back-done =
-        done-just-when d r₁ table t₁ m₁ u v w (blank d r table t m) back-input .1
-        (lent-called d r₁ table t₁ m₁ (blank d r table t m) (back-input .well-formed) new-lent)
+    written-done : recoded d r₁ table t₁ m₁ u v w .answer ≡ Done
+    written-done =
+        done-just-when d r₁ table t₁ m₁ u v w (blank d r table t m) written-input .1
+        (lent-called d r₁ table t₁ m₁ (blank d r table t m) (written-input .well-formed) written-lent)
 
--- the other kind's other kind, and the same block
-recoded-back : (d : ℕ) (r table t m t′ m′ r′ : List ℕ) (e : recoded d r table t m t′ m′ r′ .answer ≡ Done) (u v w : List ℕ) (lu : TreeLengths d u v) (lw : RecordLength w)
-    → AreBytes r
-    → recoded d (r₁ d r table t m t′ m′ r′ e) table (t₁ d r table t m t′ m′ r′ e) (m₁ d r table t m t′ m′ r′ e) u v w ≡ leaves Done t m r
-recoded-back d r table t m t′ m′ r′ e u v w lu lw bytes =
+    of-written : recoded d r₁ table t₁ m₁ u v w ≡ treeWritten d (otherKind kind) table block u v w
+    of-written =
+        as-writer d r₁ table t₁ m₁ u v w written-done
+        ∙ ap₂ (λ (q : Kind) (l : List ℕ). treeWritten d q table l u v w) (ap otherKind (after-kind d kind table block t m r e))
+        (ap (λ (n : ℕ). take n (blockOf tree d t₁)) (after-size d kind table block t m r e) ∙ back-filled tree d block t₁ (after-block d kind table block t m r e) .1)
+
+-- ---- back again: the other kind's other kind, and the same block
+
+back-again : (d : ℕ) (r table t m t′ m′ r′ u v w : List ℕ) → AreBytes r → recoded d r table t m t′ m′ r′ .answer ≡ Done → TreeLengths d u v → RecordLength w
+    → recoded d (newRecord d r table t m t′ m′ r′) table (newTree d r table t m t′ m′ r′) (newMarks d r table t m t′ m′ r′) u v w ≡ leaves Done t m r
+back-again d r table t m t′ m′ r′ u v w bytes e lu lw =
     let b = block d r table t m t′ m′ r′ e in
     let o = other d r table t m t′ m′ r′ e in
     let x = written d r table t m t′ m′ r′ e in
-    let done = back-done d r table t m t′ m′ r′ e u v w lu lw in
     let is : recoded d (recordAfter d o table b t′ m′ r′) table (treeAfter d o table b t′ m′ r′) (marksAfter d o table b t′ m′ r′) u v w
     ≡ treeWritten d (kindIn r) table b u v w =
-    as-writer d (recordAfter d o table b t′ m′ r′) table (treeAfter d o table b t′ m′ r′) (marksAfter d o table b t′ m′ r′) u v w done
-    ∙ ap₂ (λ (q : Kind) (l : List ℕ). treeWritten d q table l u v w) (ap otherKind (after-kind d o table b t′ m′ r′ x) ∙ other-other (kindIn r))
-    (ap (λ (n : ℕ). take n (blockOf tree d (treeAfter d o table b t′ m′ r′))) (after-size d o table b t′ m′ r′ x)
-    ∙ back-filled tree d b (treeAfter d o table b t′ m′ r′) (after-block d o table b t′ m′ r′ x) .1) in
-    is ∙ as-it-was d r table t m t′ m′ r′ e u v w (sym (ap (λ (z : TreeLeft Answer). z .answer) is) ∙ done) bytes
+    of-written d o table b t′ m′ r′ x u v w lu lw ∙ ap (λ (q : Kind). treeWritten d q table b u v w) (other-other (kindIn r)) in
+    ap (λ (z : TreeLeft Answer). recoded d (z .root-record) table (z .tree) (z .marks) u v w) (as-writer d r table t m t′ m′ r′ e)
+    ∙ is ∙ as-it-was d r table t m t′ m′ r′ e u v w (sym (ap (λ (z : TreeLeft Answer). z .answer) is) ∙ written-done d o table b t′ m′ r′ x u v w lu lw) bytes
 
 pub recoder : Recoder
 recoder =
     record {
       stops-with-14 = stops-with-14;
       done-just-when = done-just-when;
+      complete-just-when = complete-just-when;
       as-written = as-written;
       other-kind = other-kind;
-      back-again = λ d r table t m t′ m′ r′ u v w bytes e lu lw.
-          ap (λ (z : TreeLeft Answer). recoded d (z .root-record) table (z .tree) (z .marks) u v w) (as-writer d r table t m t′ m′ r′ e)
-          ∙ recoded-back d r table t m t′ m′ r′ e u v w lu lw bytes;
+      block-unchanged = λ d r table t m t′ m′ r′ b e. block-unchanged d r table t m t′ m′ r′ e b;
+      of-written = λ d kind table block t m r u v w e. of-written d kind table block t m r e u v w;
+      back-again = back-again;
     }

@@ -5,8 +5,8 @@ use mathlib.Core.List.{List, [], _∷_, _++_}
 use Prim.Native.Nat.{ℕ, zero, suc, _+_, _*_, _/_, _%_, _^_, _≤_, _<_}
 use native.Mathlib.Nat.{div-div-eq-div-mul, mod-eq-of-lt, div-add-mod'}
 use native.Mathlib.Omega.{arith}
-use lib.ListN.{length, getD, take, drop, length-drop}
-use lib.Seq.{sets, sets-eq, drop-cons, drop-drop, take-at}
+use lib.ListN.{length, getD, drop, length-drop}
+use lib.Seq.{sets, sets-eq, drop-cons, drop-drop}
 use lib.Dec.{ltb, eqb}
 use borrow.Author.Tests.{eq-eqb, ne-eqb, ltb-true}
 use Rattle.octets.specs.BigEndian.{be, wordAt}
@@ -141,6 +141,3 @@ module _ (r : List ℕ) (bytes : every (λ x. ltb x 256) r ≡ true) where
         ∙ ap₂ (λ (w : ℕ) (l : List ℕ). be 4 w ++ l) (word-read r 0 k first) (word-bytes 4 (omega arith)
         ∙ ap₂ (λ (w : ℕ) (l : List ℕ). be 4 w ++ l) (word-read r 1 2 second) (word-bytes 8 (omega arith)
         ∙ ap (λ (w : ℕ). be 4 w ++ drop 12 r) (word-read r 2 3 third)))
-
-    pub head-read : take 12 r ≡ head k (valueAt r 0) (valueAt r 1) (valueAt r 2)
-    head-read = ap (take 12) head-apart ∙ take-at (head k (valueAt r 0) (valueAt r 1) (valueAt r 2)) (drop 12 r) 12 (length-head k (valueAt r 0) (valueAt r 1) (valueAt r 2))

@@ -8,7 +8,6 @@ use lib.ListN.{length, replicate}
 use lib.Dec.{eqb}
 use borrow.Author.Tests.{eq-eqb, ne-eqb, le-leb}
 use Rattle.octets.specs.BigEndian.{bytesOf}
-use Rattle.octets.specs.Choice.{pick}
 use Rattle.octets.proofs.Choice.{pick-yes, pick-no, yes-and}
 use Rattle.parity_table.specs.Shape.{depthFits, kOf, nOf}
 use Rattle.house_table.specs.House.{houseTable, houseWords, houseAnswer, houseOut}

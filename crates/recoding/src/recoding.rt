@@ -235,7 +235,7 @@ fn recode_deep(
 }
 
 // Writes the source's block as a volume of the other kind, by the source's record and a table that comes as bytes: tests 1, 2, 11, 3, 10, 12, 4, 14.
-// The source is read alone.
+// The source is only read.
 pub fn recode(
     depth: usize,
     root_record: &[u8],

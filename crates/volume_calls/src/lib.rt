@@ -1,4 +1,5 @@
-// Writing a tree, and reading its block back: every numbered test in its order, then the core. No call has a `requires`.
+// Writing a tree, and reading its block back: every numbered test in its order, then the core. No call has a `requires`;
+// `write_with`, the core that the recoder shares, has one.
 mod reading;
 mod writing;
 

@@ -1,5 +1,5 @@
 -- `ended` meets its contract: whole is looked at once more.
-use mathlib.Core.Path.{sym, ap, _∙_}
+use mathlib.Core.Path.{sym, _∙_}
 use borrow.Author.Needs.{needs}
 use Rattle.octets.proofs.Choice.{not-yes, not-no}
 use Rattle.repair.specs.Reports.{endOf}

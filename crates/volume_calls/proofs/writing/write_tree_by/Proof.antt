@@ -1,5 +1,5 @@
 -- `write_tree_by` meets its contract: the kind of this number, or 11 after tests 1 and 2.
-use mathlib.Core.Path.{refl, sym, ap, _∙_}
+use mathlib.Core.Path.{sym, ap, _∙_}
 use native.Mathlib.Omega.{arith}
 use borrow.Author.Needs.{needs}
 use Rattle.symbol_hash.specs.declared.Kind.{Kind}
