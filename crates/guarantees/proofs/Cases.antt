@@ -105,15 +105,15 @@ longer : (n j d : ℕ) → j ≤ n → d ≤ 8 → proofLength j d ≤ proofLeng
 unfolding proofLength
 longer n j d h k = omega (arith, mul-le-mul-right {m = d - 1} {n = 7} (suc j) (omega arith))
 
--- at every depth from 3 on
-pub longest : (a : ℕ) → 1 ≤ a → a ≤ 7 → Longest (suc (suc a)) (proofLength (suc a) 8)
+-- at every depth from 2 on
+pub longest : (kind : Kind) (a : ℕ) → a ≤ 7 → Longest kind (suc (suc a)) (proofLength (suc a) 8)
 unfolding proofMembers
-longest a some few =
+longest kind a few =
     let n : ℕ = suc (suc a) in
     record {
       reached = let same : n - 1 ≡ suc a = omega arith in ap (λ (j : ℕ). proofLength j 8) same;
       none-longer = λ j m h k. longer (suc a) j m (omega arith) k;
-      some-accepted = longest-accepted a some few;
+      some-accepted = longest-accepted kind a few;
       none-accepted = λ r table b e.
           let p = passed n r table b e in
           let tbl : List (List (List ℕ)) = equationsOf table in
@@ -147,4 +147,4 @@ cases-hold kind =
     refl also refl also refl also table-size also symbol kind 5 also symbol kind 7 also symbol kind 9
     also two-turns kind also two-absent kind also eight-absent kind also all-absent kind also two-misfilled kind
     also stops 0 (λ h. omega (arith, h .0)) also stops 10 (λ h. omega (arith, h .1)) also depths also has 5 _ refl refl also has 9 _ refl refl
-    also longest 3 (omega arith) (omega arith) also longest 7 (omega arith) (omega arith) also stands also none
+    also longest kind 3 (omega arith) also longest kind 7 (omega arith) also stands also none

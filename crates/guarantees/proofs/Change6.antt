@@ -55,7 +55,7 @@ depth-nine =
     record {
       base = refl;
       symbols = refl;
-      proof = longest-proof 7 (omega arith) (omega arith);
+      proof = λ kind. longest-proof kind 7 (omega arith);
       block = λ b. (λ e. e, λ e. e);
       block-read = λ b. (λ e. e, λ e. e);
       tree = λ t m. (λ r. (r .tree-bytes, r .mark-bytes), λ (p, q). record { tree-bytes = p; mark-bytes = q });

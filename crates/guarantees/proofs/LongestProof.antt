@@ -1,27 +1,28 @@
--- Case 9 of 01, at every depth from 3 on: a fault proof of the greatest length is accepted. No hash is computed: all symbols of a layer are the same, and
--- each holds the hash of those of the layer below, whatever it is; above the base a wrong one stands beside it, for the withheld member.
+-- Case 9 of 01, for volumes of either kind, at every depth from 2 on: a fault proof of the greatest length is accepted. No hash is computed: the symbols of
+-- the base are zeros, and those of each layer above hold the hashes of the layer below, whatever these are. But the hashes that stand for the base's parity
+-- symbols, of which one is withheld, are wrong.
 use mathlib.Core.Path.{_≡_, refl, sym, ap, ap₂, _∙_, subst}
 use mathlib.Core.Logic.{_≢_}
 use mathlib.Core.Bool.{true}
 use mathlib.Core.List.{List, [], _∷_, _++_}
 use Prim.Native.Nat.{ℕ, zero, suc, _+_, _-_, _*_, _/_, _%_, _^_, _≤_, _<_}
-use native.Mathlib.Nat.{zero-add, add-zero, sub-zero, mod-lt, div-eq-of-lt, mul-div-cancel}
+use native.Mathlib.Nat.{zero-add, add-zero, mod-lt, div-add-mod'}
 use native.Mathlib.Omega.{arith}
 use native.Mathlib.Decide.{ℕ-discrete}
-use lib.ListN.{length, getD, set, replicate, length-set, length-replicate}
+use lib.ListN.{length, getD, set, replicate, length-set}
 use lib.Seq.{getD-set-same, getD-set-other}
 use lib.Dec.{ltb}
-use borrow.Author.Tests.{eq-eqb, le-leb, lt-ltb, ltb-true}
+use borrow.Author.Tests.{eq-eqb, le-leb, le-ltb, lt-ltb, ltb-true}
 use Rattle.octets.specs.BigEndian.{be, bytesOf}
 use Rattle.octets.specs.ByteLists.{xors}
-use Rattle.octets.proofs.Choice.{yes-and}
+use Rattle.octets.specs.Choice.{pick}
+use Rattle.octets.proofs.Choice.{yes-and, pick-yes, pick-no, pick-ind}
 use Rattle.sha256.specs.Hash.{sha256}
-use Rattle.sha256.proofs.DigestLaws.{length-sha256}
 use Rattle.parity_table.specs.Shape.{depthFits, kOf, nOf}
 use Rattle.parity_table.specs.Members.{every, IsMember}
 use Rattle.parity_table.specs.Table.{word, layerOf, equationOf, EquationOk, TableOk, tableWords}
 use Rattle.parity_table.specs.Coverage.{Mentions, Covered}
-use Rattle.parity_table.proofs.Shape.{k-zero, k-pos, k-grows, k-double}
+use Rattle.parity_table.proofs.Shape.{k-pos, k-double}
 use Rattle.parity_table.proofs.Chain.{Chain, chain-within, chain-equation}
 use Rattle.parity_table.proofs.Longest.{none-longer, longest-grows, longest-nine}
 use Rattle.table_bytes.specs.Bytes.{maxBytes}
@@ -31,13 +32,16 @@ use Rattle.house_table.proofs.HouseCovered.{house-mentions}
 use Rattle.table_bytes.proofs.RoundTrip.{every-append, table-bytes-say}
 use Rattle.symbol_hash.specs.SymbolHash.{symbolHash}
 use Rattle.symbol_hash.specs.declared.Kind.{Kind}
-use Rattle.symbol_hash.specs.declared.Kind.the-variants.{Plain}
+use Rattle.symbol_hash.specs.declared.Kind.the-variants.{Plain, Placed}
+use Rattle.symbol_hash.proofs.Laws.{length-symbolHash}
 use Rattle.heads.specs.Heads.{head}
 use Rattle.model.specs.Shape.{tree}
 use Rattle.model.specs.Symbols.{joined, zeros, xorOf, others, slot, committed}
+use Rattle.model.specs.Coded.{rootOf}
 use Rattle.model.specs.Fault.{reached, wayBytes, givenBytes, pathBytes, proofBytes, proofLength, proofMembers, verdict}
 use Rattle.model.proofs.Bytes.{joined-length, joined-piece, length-zeros, sym-zeros}
-use Rattle.model.proofs.Shapes.{tree-ok}
+use Rattle.model.proofs.Binding.{root-slot, root-length}
+use Rattle.model.proofs.Shapes.{tree-ok, tree-root}
 use Rattle.model.proofs.Hashes.{column-lt}
 use Rattle.model.proofs.Tables.{table-laws}
 use Rattle.model.proofs.FaultWriter.{GoodProof, proof-good}
@@ -50,8 +54,11 @@ use Rattle.calls.proofs.AdmissionLaws.{TableTaken}
 use Rattle.calls.proofs.RecordLaws.{admits-by}
 use Rattle.calls.proofs.Taken.{taken-table}
 use Rattle.fault_calls.proofs.CheckingLaws.{judged-so}
+use Rattle.guarantees.specs.Layouts.{kindNo}
+use Rattle.guarantees.specs.Trees.{kindBits}
 use Rattle.guarantees.specs.Terms.{equationsOf}
 use Rattle.guarantees.specs.Cases.{AreBytes, AcceptedOf}
+use Rattle.guarantees.proofs.Records.{bits-are, record-number}
 use Rattle.guarantees.proofs.Refusals.{depth-fits, table-long}
 use Rattle.guarantees.proofs.ProofHeads.{Fitting, fitting}
 
@@ -128,32 +135,6 @@ other (suc x) = 0
 wrong : List ℕ → List ℕ
 wrong h = replicate 32 (other (getD h 0 0))
 
--- hash c in every symbol of the layer n + 1 above the base
-hashIn : ℕ → ℕ → List ℕ
-hashIn zero zero = sha256 zeros
-hashIn zero (suc c) = wrong (sha256 zeros)
-hashIn (suc n) c = sha256 (joined (hashIn n) 0 8)
-
--- every symbol of the layer n above the base
-above : ℕ → List ℕ
-above zero = zeros
-above (suc n) = joined (hashIn n) 0 8
-
-hash-length : (n c : ℕ) → length (hashIn n c) ≡ 32
-unfolding hashIn wrong
-hash-length zero zero = length-sha256 zeros
-hash-length zero (suc c) = length-replicate 32 (other (getD (sha256 zeros) 0 0))
-hash-length (suc n) c = length-sha256 (joined (hashIn n) 0 8)
-
-above-length : (n : ℕ) → length (above n) ≡ 256
-unfolding above
-above-length zero = length-zeros
-above-length (suc n) = joined-length (hashIn n) 32 8 0 (λ q h. hash-length n (0 + q))
-
-slot-above : (n c : ℕ) → c < 8 → slot (above (suc n)) c ≡ hashIn n c
-unfolding slot above
-slot-above n c h = joined-piece (hashIn n) 32 8 0 c h (λ p k. hash-length n (0 + p)) ∙ ap (hashIn n) (zero-add c)
-
 other-differs : (x : ℕ) → x ≢ other x
 unfolding other
 other-differs zero e = omega arith
@@ -162,6 +143,35 @@ other-differs (suc x) e = omega arith
 wrong-differs : (h : List ℕ) → h ≢ wrong h
 unfolding wrong
 wrong-differs h e = other-differs (getD h 0 0) (ap (λ (l : List ℕ). getD l 0 0) e)
+
+module _ (kind : Kind) where
+  -- the hash that stands for symbol i of layer j, whose symbols are f and which has n layers below it: its own, but a wrong one for a parity symbol of the
+  -- base
+  standing : ℕ → ℕ → (ℕ → List ℕ) → ℕ → List ℕ
+  standing zero j f i = pick (ltb i (kOf j)) (symbolHash kind j i (f i)) (wrong (symbolHash kind j i (f i)))
+  standing (suc n) j f i = symbolHash kind j i (f i)
+
+  -- symbol m of layer l, which has n layers below it: zeros where that is the base, else the hashes of symbols m, k+m, .., 7k+m of the layer below
+  symbolOf : ℕ → ℕ → ℕ → List ℕ
+  symbolOf zero l m = zeros
+  symbolOf (suc n) l m = joined (λ c. standing n (suc l) (symbolOf n (suc l)) (c * kOf l + m)) 0 8
+
+  standing-length : (n j : ℕ) (f : ℕ → List ℕ) (i : ℕ) → length (standing n j f i) ≡ 32
+  unfolding standing wrong
+  standing-length zero j f i =
+      pick-ind (λ (h : List ℕ). length h ≡ 32) (ltb i (kOf j)) (λ t. length-symbolHash kind j i (f i)) (λ t. refl)
+  standing-length (suc n) j f i = length-symbolHash kind j i (f i)
+
+  symbol-length : (n l m : ℕ) → length (symbolOf n l m) ≡ 256
+  unfolding symbolOf
+  symbol-length zero l m = length-zeros
+  symbol-length (suc n) l m = joined-length _ 32 8 0 (λ q h. standing-length n (suc l) (symbolOf n (suc l)) _)
+
+  slot-is : (n l m c : ℕ) → c < 8 → slot (symbolOf (suc n) l m) c ≡ standing n (suc l) (symbolOf n (suc l)) (c * kOf l + m)
+  unfolding slot symbolOf
+  slot-is n l m c h =
+      joined-piece _ 32 8 0 c h (λ p k. standing-length n (suc l) (symbolOf n (suc l)) _)
+      ∙ ap (λ (x : ℕ). standing n (suc l) (symbolOf n (suc l)) (x * kOf l + m)) (zero-add c)
 
 -- ---- all of these are bytes
 
@@ -197,43 +207,43 @@ unfolding other
 other-small zero = omega arith
 other-small (suc x) = omega arith
 
-bytes-hash : (n c : ℕ) → AreBytes (hashIn n c)
-unfolding hashIn wrong
-bytes-hash zero zero = bytes-digest zeros
-bytes-hash zero (suc c) = bytes-same 32 (other (getD (sha256 zeros) 0 0)) (other-small (getD (sha256 zeros) 0 0))
-bytes-hash (suc n) c = bytes-digest (joined (hashIn n) 0 8)
+bytes-hash : (kind : Kind) (j i : ℕ) (s : List ℕ) → AreBytes (symbolHash kind j i s)
+unfolding symbolHash
+bytes-hash Plain j i s = bytes-digest _
+bytes-hash Placed j i s = bytes-digest _
 
-bytes-above : (n : ℕ) → AreBytes (above n)
-unfolding above zeros
-bytes-above zero = bytes-same 256 0 (omega arith)
-bytes-above (suc n) = bytes-joined (hashIn n) (bytes-hash n) 8 0
+module _ (kind : Kind) where
+  bytes-standing : (n j : ℕ) (f : ℕ → List ℕ) (i : ℕ) → AreBytes (standing kind n j f i)
+  unfolding standing wrong
+  bytes-standing zero j f i =
+      pick-ind AreBytes (ltb i (kOf j)) (λ t. bytes-hash kind j i (f i)) (λ t. bytes-same 32 _ (other-small _))
+  bytes-standing (suc n) j f i = bytes-hash kind j i (f i)
+
+  bytes-symbol : (n l m : ℕ) → AreBytes (symbolOf kind n l m)
+  unfolding symbolOf zeros
+  bytes-symbol zero l m = bytes-same 256 0 (omega arith)
+  bytes-symbol (suc n) l m = bytes-joined _ (λ c. bytes-standing n (suc l) (symbolOf kind n (suc l)) _) 8 0
 
 -- ---- a tree whose base is layer a + 1
 
-module _ (a : ℕ) (some : 1 ≤ a) (few : a ≤ 7) where
+module _ (kind : Kind) (a : ℕ) (few : a ≤ 7) where
   abbrev base : ℕ
   base = suc a
 
   abbrev depth : ℕ
   depth = suc base
 
-  -- the k of the base, and that of the layer above it, which is s
+  -- the k of the base
   abbrev last : ℕ
   last = kOf base
 
-  twice : last ≡ 2 * kOf a
-  twice = k-double a
-
-  eight-there : 8 ≤ kOf a
-  eight-there =
-      let same : kOf (1 + (a - 1)) ≡ kOf a = ap kOf (omega arith) in
-      omega (arith, k-grows 1 (a - 1), k-double 0, k-zero)
+  eight-there : 8 ≤ last
+  eight-there = omega (arith, k-double a, k-pos a)
 
   deep : depthFits depth ≡ true
   deep = depth-fits depth (omega arith, omega arith)
 
-  -- the table of the proof: the house table, but with eight members in equation 0 of the base. The hashes of the first seven stand in slot 0 of their data
-  -- symbols above, that of the last, k, in slot 2 of data symbol 0.
+  -- the table of the proof: the house table, but with eight members in equation 0 of the base: seven data symbols and the parity symbol k
   abbrev front : List ℕ
   front = 0 ∷ 1 ∷ 2 ∷ 3 ∷ 4 ∷ 5 ∷ 6 ∷ []
 
@@ -246,7 +256,7 @@ module _ (a : ℕ) (some : 1 ≤ a) (few : a ≤ 7) where
 
   eight-ok : EquationOk base 0 eight
   eight-ok =
-      chain-equation base 0 eight (rw add-zero (seven last (omega (arith, twice, eight-there)))) (omega arith) (omega arith)
+      chain-equation base 0 eight (rw add-zero (seven last (omega (arith, eight-there)))) (omega arith) (omega arith)
 
   wide : List (List (List ℕ))
   wide = changed (houseTable depth) base 0 eight
@@ -299,45 +309,47 @@ module _ (a : ℕ) (some : 1 ≤ a) (few : a ≤ 7) where
   unfolding table
   says = table-bytes-say depth wide wide-rules deep wide-short
 
-  -- symbol m of layer l, and the root
+  -- the symbols of layer l, and the root
   symbol : ℕ → ℕ → List ℕ
-  symbol l m = above (base - l)
+  symbol l = symbolOf kind (base - l) l
 
   root : List ℕ
-  root = joined (hashIn base) 0 16
+  root = rootOf tree (symbolHash kind) symbol
 
-  root-length : length root ≡ 512
-  unfolding root
-  root-length = joined-length (hashIn base) 32 16 0 (λ q h. hash-length base (0 + q))
-
-  slot-root : (c : ℕ) → c < 16 → slot root c ≡ hashIn base c
-  unfolding slot root
-  slot-root c h = joined-piece (hashIn base) 32 16 0 c h (λ p k. hash-length base (0 + p)) ∙ ap (hashIn base) (zero-add c)
+  -- no layer is below the base
+  none : base - base ≡ 0
+  none = omega arith
 
   at-base : (m : ℕ) → symbol base m ≡ zeros
-  unfolding symbol above
-  at-base m = let none : base - base ≡ 0 = omega arith in ap above none
+  unfolding symbol symbolOf
+  at-base m = ap (λ (n : ℕ). symbolOf kind n base m) none
 
-  slot-next : (m c : ℕ) → c < 8 → slot (symbol a m) c ≡ hashIn 0 c
-  unfolding symbol
-  slot-next m c h = let one : base - a ≡ 1 = omega arith in ap (λ (n : ℕ). slot (above n) c) one ∙ slot-above 0 c h
+  -- the committed hash is the one that stands there
+  stands : (l i : ℕ) → l < base → i < tree .n (suc l) → committed tree root symbol (suc l) i ≡ standing kind (base - suc l) (suc l) (symbol (suc l)) i
+  unfolding committed symbol
+  stands l i h k =
+      let up : base - l ≡ suc (base - suc l) = omega arith in
+      ap (λ (n : ℕ). slot (symbolOf kind n l (i % kOf l)) (i / kOf l)) up
+      ∙ slot-is kind (base - suc l) l (i % kOf l) (i / kOf l) (column-lt tree tree-ok l i k)
+      ∙ ap (standing kind (base - suc l) (suc l) (symbolOf kind (base - suc l) (suc l))) (div-add-mod' i (kOf l))
+
+  stands-base : (i : ℕ) → i < tree .n base → committed tree root symbol base i ≡ standing kind 0 base (λ m. zeros) i
+  unfolding symbol symbolOf
+  stands-base i h = stands a i (omega arith) h ∙ ap (λ (n : ℕ). standing kind n base (symbolOf kind n base) i) none
 
   -- above the base every symbol has the committed hash
-  right : (l i : ℕ) → l < base → i < tree .n l → (symbolHash Plain) l i (symbol l i) ≡ committed tree root symbol l i
-  unfolding symbolHash symbol committed hashIn above kOf nOf
-  right zero i h k = ap (λ (n : ℕ). sha256 (above n)) (sub-zero base) ∙ sym (slot-root i k)
+  right : (l i : ℕ) → l < base → i < tree .n l → symbolHash kind l i (symbol l i) ≡ committed tree root symbol l i
+  unfolding committed root standing
+  right zero i h k = sym (root-slot tree (symbolHash kind) (length-symbolHash kind) symbol i k)
   right (suc l) i h k =
-      let here : base - suc l ≡ suc (a - suc l) = omega arith in
-      let up : base - l ≡ suc (suc (a - suc l)) = omega arith in
-      ap (λ (n : ℕ). sha256 (above n)) here
-      ∙ sym (ap (λ (n : ℕ). slot (above n) (i / kOf l)) up ∙ slot-above (suc (a - suc l)) (i / kOf l) (column-lt tree tree-ok l i k))
+      let some : base - suc l ≡ suc (a - suc l) = omega arith in
+      sym (stands l i (omega arith) k ∙ ap (λ (n : ℕ). standing kind n (suc l) (symbol (suc l)) i) some)
 
-  -- and so have the first s of the base
-  right-base : (y : ℕ) → ltb y (kOf a) ≡ true → (symbolHash Plain) base y (symbol base y) ≡ committed tree root symbol base y
-  unfolding symbolHash committed hashIn
+  -- and so has every data symbol of the base
+  right-base : (y : ℕ) → ltb y last ≡ true → symbolHash kind base y (symbol base y) ≡ committed tree root symbol base y
+  unfolding standing nOf
   right-base y t =
-      let low : y / kOf a ≡ 0 = div-eq-of-lt (ltb-true y (kOf a) t) in
-      ap sha256 (at-base y) ∙ sym (ap (slot (symbol a (y % kOf a))) low ∙ slot-next (y % kOf a) 0 (omega arith))
+      ap (symbolHash kind base y) (at-base y) ∙ sym (stands-base y (omega (arith, ltb-true y last t)) ∙ pick-yes _ _ _ t)
 
   -- the given members' exclusive-or is zeros, whose hash isn't the withheld member's
   xor-zeros : (ys : List ℕ) → xorOf (symbol base) ys ≡ zeros
@@ -345,12 +357,11 @@ module _ (a : ℕ) (some : 1 ≤ a) (few : a ≤ 7) where
   xor-zeros [] = refl
   xor-zeros (y ∷ ys) = ap₂ xors (at-base y) (xor-zeros ys) ∙ sym-zeros zeros length-zeros
 
-  unfit : (ys : List ℕ) → (symbolHash Plain) base last (xorOf (symbol base) ys) ≢ committed tree root symbol base last
-  unfolding symbolHash committed hashIn
+  unfit : (ys : List ℕ) → symbolHash kind base last (xorOf (symbol base) ys) ≢ committed tree root symbol base last
+  unfolding standing nOf
   unfit ys e =
-      let second : last / kOf a ≡ 2 = ap (λ (n : ℕ). n / kOf a) twice ∙ mul-div-cancel 2 (omega (arith, k-pos a)) in
-      wrong-differs (sha256 zeros)
-      (sym (ap sha256 (xor-zeros ys)) ∙ e ∙ ap (slot (symbol a (last % kOf a))) second ∙ slot-next (last % kOf a) 2 (omega arith))
+      wrong-differs (symbolHash kind base last zeros)
+      (sym (ap (symbolHash kind base last) (xor-zeros ys)) ∙ e ∙ stands-base last (omega (arith, k-pos base)) ∙ pick-no _ _ _ (le-ltb last last (omega arith)))
 
   -- ---- the proof
 
@@ -361,18 +372,18 @@ module _ (a : ℕ) (some : 1 ≤ a) (few : a ≤ 7) where
   unfolding kOf
   fits = fitting wide base 0 last front [] depth (omega arith) wide-rules (omega arith) has-first wide-eight
 
-  given-low : every (λ y. ltb y (kOf a)) front ≡ true
+  given-low : every (λ y. ltb y last) front ≡ true
   given-low =
-      chain-within 0 6 (kOf a) front (omega (arith, eight-there))
+      chain-within 0 6 last front (omega (arith, eight-there))
       (omega arith, (omega arith, (omega arith, (omega arith, (omega arith, (omega arith, (omega arith, refl)))))))
 
-  good : GoodProof tree (symbolHash Plain) root wide base 0 last proof
+  good : GoodProof tree (symbolHash kind) root wide base 0 last proof
   unfolding proof symbol nOf
   good =
-      proof-good tree (tree-ok .shape) symbol base (λ l i h k. above-length (base - l)) (symbolHash Plain) root right
+      proof-good tree (tree-ok .shape) symbol base (λ l i h k. symbol-length kind (base - l) l i) (symbolHash kind) root right
       wide (table-laws depth wide (omega arith) (omega arith) wide-rules) (fits .in-table) 0 last (fits .in-layer) (fits .member)
-      (λ y. ltb y (kOf a)) (rw (fits .given-are) given-low)
-      (λ y t. omega (arith, ltb-true y (kOf a) t, twice)) right-base
+      (λ y. ltb y last) (rw (fits .given-are) given-low)
+      (λ y t. omega (arith, ltb-true y last t)) right-base
       (unfit (others last (equationOf wide base 0)))
 
   proof-length : length proof ≡ proofLength base 8
@@ -380,34 +391,38 @@ module _ (a : ℕ) (some : 1 ≤ a) (few : a ≤ 7) where
   proof-length =
       let g = good in
       let ms : proofMembers wide proof ≡ eight = ap₂ (equationOf wide) (g .layer-is) (g .equation-is) ∙ wide-eight in
-      accepted-is tree (symbolHash Plain) root wide proof (g .accepts) .exact ∙ ap₂ (λ (j : ℕ) (l : List ℕ). proofLength j (length l)) (g .layer-is) ms
+      accepted-is tree (symbolHash kind) root wide proof (g .accepts) .exact ∙ ap₂ (λ (j : ℕ) (l : List ℕ). proofLength j (length l)) (g .layer-is) ms
 
-  -- the record of this root and table, of the plain kind; the length of the block doesn't matter
+  -- the record of this kind, root and table; the length of the block doesn't matter
   root-record : List ℕ
-  root-record = recordOf Plain depth 0 table root
+  root-record = recordOf kind depth 0 table root
 
   record-full : length root-record ≡ 556
-  unfolding root-record
-  record-full = record-length Plain depth 0 table root root-length
+  unfolding root-record root
+  record-full = record-length kind depth 0 table root (root-length tree (symbolHash kind) (length-symbolHash kind) symbol ∙ tree-root)
 
   root-is : rootIn root-record ≡ root
   unfolding root-record
-  root-is = record-root Plain depth 0 table root
+  root-is = record-root kind depth 0 table root
 
   count-small : length table / 4 < 2 ^ 30
   count-small = omega (arith, table-long table (taken .length-fits) .not-over)
 
-  kind-is : kindIn root-record ≡ Plain
+  kind-is : kindIn root-record ≡ kind
   unfolding root-record
-  kind-is = record-kind Plain depth 0 table root deep (omega arith) count-small
+  kind-is = record-kind kind depth 0 table root deep (omega arith) count-small
+
+  bits-is : kindNo root-record 0 ≡ kindBits kind
+  unfolding root-record
+  bits-is = record-number kind depth 0 table root deep (omega arith) count-small ∙ sym (bits-are kind)
 
   head-so : headRight depth root-record ≡ true
   unfolding root-record
-  head-so = record-right Plain depth 0 table root deep (omega arith) count-small
+  head-so = record-right kind depth 0 table root deep (omega arith) count-small
 
   named-so : namesTable root-record table ≡ true
   unfolding root-record
-  named-so = record-names Plain depth 0 table root deep (omega arith) count-small
+  named-so = record-names kind depth 0 table root deep (omega arith) count-small
 
   checked : proofChecked depth root-record table proof ≡ Done
   unfolding proofLength
@@ -421,12 +436,12 @@ module _ (a : ℕ) (some : 1 ≤ a) (few : a ≤ 7) where
         named = named-so;
       })))
       ∙ ap (λ (k : Kind). judged (verdict tree (symbolHash k) (rootIn root-record) (equationsOf table) proof)) kind-is
-      ∙ ap₂ (λ (x : List ℕ) (tbl : List (List (List ℕ))). judged (verdict tree (symbolHash Plain) x tbl proof)) root-is says
+      ∙ ap₂ (λ (x : List ℕ) (tbl : List (List (List ℕ))). judged (verdict tree (symbolHash kind) x tbl proof)) root-is says
       ∙ ap judged (good .accepts)
 
   bytes-way : (j i : ℕ) → AreBytes (wayBytes tree symbol j i)
   unfolding wayBytes symbol
-  bytes-way j i = bytes-joined (λ x. symbol (j - x) (reached tree j i x)) (λ x. bytes-above (base - (j - x))) (suc j) 0
+  bytes-way j i = bytes-joined (λ x. symbol (j - x) (reached tree j i x)) (λ x. bytes-symbol kind (base - (j - x)) (j - x) (reached tree j i x)) (suc j) 0
 
   bytes-given : (ys : List ℕ) → AreBytes (givenBytes tree symbol base ys)
   unfolding every givenBytes
@@ -442,18 +457,19 @@ module _ (a : ℕ) (some : 1 ≤ a) (few : a ≤ 7) where
   -- ---- the case
 
   bytes-record : AreBytes root-record
-  unfolding root-record recordOf head root
+  unfolding root-record recordOf head root rootOf
   bytes-record =
-      bytes-append _ _ (bytes-append _ _ (bytes-be 4 (word 1 depth)) (bytes-append _ _ (bytes-be 4 (word 2 0)) (bytes-be 4 (word 3 (length table / 4)))))
-      (bytes-append _ _ (bytes-digest table) (bytes-joined (hashIn base) (bytes-hash base) 16 0))
+      bytes-append _ _ (bytes-append _ _ (bytes-be 4 _) (bytes-append _ _ (bytes-be 4 (word 2 0)) (bytes-be 4 (word 3 (length table / 4)))))
+      (bytes-append _ _ (bytes-digest table) (bytes-joined _ (λ i. bytes-hash kind 0 i (symbol 0 i)) (tree .n 0) 0))
 
-  pub longest-accepted : AcceptedOf depth (proofLength base 8)
+  pub longest-accepted : AcceptedOf kind depth (proofLength base 8)
   unfolding table
   longest-accepted =
       record {
         root-record = root-record;
         table = table;
         proof = proof;
+        kind-is = bits-is;
         are-bytes = (bytes-record, bytes-words (tableWords wide), bytes-proof);
         accepts = checked;
         sized = proof-length;

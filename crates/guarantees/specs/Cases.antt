@@ -24,7 +24,7 @@ use Rattle.calls.specs.Tests.{readAnswer}
 use Rattle.volume_calls.specs.Writing.{treeWritten}
 use Rattle.fault_calls.specs.Checking.{proofChecked}
 use Rattle.fault_calls.specs.Repairing.{Result, ended, misfilled, RepairLeft, repaired}
-use Rattle.guarantees.specs.Layouts.{dataSymbols, symbolAt, kindValue, recordBytes, rootPart}
+use Rattle.guarantees.specs.Layouts.{dataSymbols, symbolAt, kindValue, kindNo, recordBytes, rootPart}
 use Rattle.guarantees.specs.Trees.{Hasher, kindBits, CorrectlyCoded}
 use Rattle.guarantees.specs.Terms.{equationsOf}
 use Rattle.guarantees.specs.Demand2.{treeAfter, recordAfter}
@@ -134,21 +134,22 @@ pub record Has (depth symbols : ℕ) : Type 0 where
 abbrev pub AreBytes : List ℕ → Type 0
 AreBytes b = every (λ x. ltb x 256) b ≡ true
 
--- a proof of this many bytes that is accepted, of a record and a table
-pub record AcceptedOf (depth bytes : ℕ) : Type 0 where
+-- a proof of this many bytes that is accepted, with a record of this kind and a table
+pub record AcceptedOf (kind : Kind) (depth bytes : ℕ) : Type 0 where
   pub root-record : List ℕ
   pub table : List ℕ
   pub proof : List ℕ
+  pub kind-is : kindNo root-record 0 ≡ kindBits kind
   pub are-bytes : AreBytes root-record × AreBytes table × AreBytes proof
   pub accepts : proofChecked depth root-record table proof ≡ Done
   pub sized : length proof ≡ bytes
 
--- the longest proof: of an equation of the base with 8 members; none of any layer and of at most 8 members is longer; one of that length is
--- accepted, and no longer one is
-pub record Longest (depth bytes : ℕ) : Type 0 where
+-- the longest proof: of an equation of the base with 8 members; none of any layer and of at most 8 members is longer; one of that length, of a volume of
+-- this kind, is accepted, and no longer one is, of either kind
+pub record Longest (kind : Kind) (depth bytes : ℕ) : Type 0 where
   pub reached : proofLength (depth - 1) 8 ≡ bytes
   pub none-longer : (j d : ℕ) → j < depth → d ≤ 8 → proofLength j d ≤ bytes
-  pub some-accepted : AcceptedOf depth bytes
+  pub some-accepted : AcceptedOf kind depth bytes
   pub none-accepted : (r table b : List ℕ) → proofChecked depth r table b ≡ Done → length b ≤ bytes
 
 -- In every correctly coded tree of this depth the hash of base symbol i stands in data symbol s of the layer above, in these bytes.
@@ -184,7 +185,7 @@ Holds kind (repairMisfills absent size n) = (o : List ℕ) → length o ≡ 12 +
 Holds kind (depthStops d) = EveryCall now d (λ number. number ≡ 1)
 Holds kind (depthsAre a b) = Depths a b
 Holds kind (depthHas d n) = Has d n
-Holds kind (longestProof d n) = Longest d n
+Holds kind (longestProof d n) = Longest kind d n
 Holds kind (hashStands d i s a b) = Stands d i s a b
 
 abbrev pub cases : List Case

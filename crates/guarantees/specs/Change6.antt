@@ -32,7 +32,7 @@ use Rattle.guarantees.specs.Before.{now, callsBy, before}
 pub record DepthNine : Type 0 where
   pub base : dataSymbols (9 - 1) ≡ 1024
   pub symbols : treeSymbols 9 ≡ 8176
-  pub proof : Longest 9 18188
+  pub proof : (kind : Kind) → Longest kind 9 18188
   -- so a block has at most so many bytes, and the buffer that it is read back into, a tree with its marks, and repair's output have these lengths
   pub block : (b : List ℕ) → BlockFits 9 b ↔ (length b ≤ 262144)
   pub block-read : (b : List ℕ) → BlockLength 9 b ↔ (length b ≡ 262144)
