@@ -28,7 +28,7 @@ use Rattle.guarantees.specs.Terms.{equationsOf}
 use Rattle.guarantees.specs.Before.{now}
 use Rattle.guarantees.specs.Cases.{coded, EveryCall, Depths, Has, Longest, Stands, none, _also_, CasesHold}
 use Rattle.guarantees.specs.Layouts.{bytesFrom, symbolAt, hashFor, kindValue}
-use Rattle.guarantees.specs.Answers.{test, fails, holds, unless, JustWhen}
+use Rattle.guarantees.specs.Answers.{done, test, fails, holds, unless, JustWhen}
 use Rattle.guarantees.proofs.Answers.{never, done-never}
 use Rattle.guarantees.proofs.Layouts.{symbol-at}
 use Rattle.guarantees.proofs.Demand1.{demand-1}
@@ -48,20 +48,29 @@ at-test {k} {number} {values} {right} {later} j l =
     found v (fails e x) = x .is-not
     found v (holds x y) = absurd (l v y)
 
+-- no later test gives 1
+not-1 : {k : ℕ} {wrong : ℕ × ℕ → Type 0} {later : ℕ → ℕ × ℕ → Type 0} → ((v : ℕ × ℕ) → later 1 v → ⊥) → (v : ℕ × ℕ) → test (suc (suc k)) wrong later 1 v → ⊥
+not-1 = never (λ e. omega arith)
+
+none-1 : (v : ℕ × ℕ) → done 1 v → ⊥
+none-1 = done-never (λ e. omega arith)
+
 depths : Depths 1 9
 depths d =
     let k = demand-1 .refusals in
     record {
-      table-words = λ ws. at-test (k .table-words d ws) (never (λ e. omega arith) (never (λ e. omega arith) (done-never (λ e. omega arith))));
-      table-bytes = λ b. at-test (k .table-bytes d b) (never (λ e. omega arith) (never (λ e. omega arith) (never (λ e. omega arith) (done-never (λ e. omega arith)))));
-      house-words = λ n. at-test (k .house-words d n) (never (λ e. omega arith) (done-never (λ e. omega arith)));
-      house-bytes = λ n. at-test (k .house-bytes d n) (never (λ e. omega arith) (done-never (λ e. omega arith)));
-      tree-writer = λ kind table b t m r. at-test (k .tree-writer d kind table b t m r) (never (λ e. omega arith) (never (λ e. omega arith) (never (λ e. omega arith) (done-never (λ e. omega arith)))));
-      block-reader = λ r t m b. at-test (k .block-reader d r t m b) (never (λ e. omega arith) (never (λ e. omega arith) (never (λ e. omega arith) (never (λ e. omega arith) (done-never (λ e. omega arith))))));
-      sampler = λ i t m s. at-test (k .sampler d i t m s) (never (λ e. omega arith) (never (λ e. omega arith) (never (λ e. omega arith) (never (λ e. omega arith) (done-never (λ e. omega arith))))));
-      sample-checker = λ i r s. at-test (k .sample-checker d i r s) (never (λ e. omega arith) (never (λ e. omega arith) (never (λ e. omega arith) (never (λ e. omega arith) (done-never (λ e. omega arith))))));
-      proof-checker = λ r table b. at-test (demand-1 .proof-checker d r table b) (never (λ e. omega arith) (never (λ e. omega arith) (never (λ e. omega arith) (never (λ e. omega arith) (never (λ e. omega arith) (never (λ e. omega arith) (never (λ e. omega arith) (never (λ e. omega arith) (never (λ e. omega arith) (done-never (λ e. omega arith)))))))))));
-      repairer = λ r table t m o. at-test (k .repairer d r table t m o) (never (λ e. omega arith) (never (λ e. omega arith) (never (λ e. omega arith) (never (λ e. omega arith) (never (λ e. omega arith) (never (λ e. omega arith) (done-never (λ e. omega arith))))))));
+      table-words = λ ws. at-test (k .table-words d ws) (not-1 (not-1 none-1));
+      table-bytes = λ b. at-test (k .table-bytes d b) (not-1 (not-1 (not-1 none-1)));
+      house-words = λ n. at-test (k .house-words d n) (not-1 none-1);
+      house-bytes = λ n. at-test (k .house-bytes d n) (not-1 none-1);
+      tree-writer = λ kind table b t m r. at-test (k .tree-writer d kind table b t m r) (not-1 (not-1 (not-1 none-1)));
+      tree-writer-by = λ number table b t m r. at-test (k .tree-writer-by d number table b t m r) (not-1 (not-1 (not-1 (not-1 none-1))));
+      block-reader = λ r t m b. at-test (k .block-reader d r t m b) (not-1 (not-1 (not-1 (not-1 none-1))));
+      sampler = λ i t m s. at-test (k .sampler d i t m s) (not-1 (not-1 (not-1 (not-1 none-1))));
+      sample-checker = λ i r s. at-test (k .sample-checker d i r s) (not-1 (not-1 (not-1 (not-1 none-1))));
+      proof-checker = λ r table b. at-test (demand-1 .proof-checker d r table b) (not-1 (not-1 (not-1 (not-1 (not-1 (not-1 (not-1 (not-1 (not-1 none-1)))))))));
+      repairer = λ r table t m o. at-test (k .repairer d r table t m o) (not-1 (not-1 (not-1 (not-1 (not-1 (not-1 none-1))))));
+      recoder = λ r table t m t′ m′ r′. at-test (k .recoder d r table t m t′ m′ r′) (not-1 (not-1 (not-1 (not-1 (not-1 (not-1 (not-1 none-1)))))));
     }
 
 -- so every call stops at a depth that is none of these
@@ -74,11 +83,13 @@ stops d n =
       house-words = λ m. k .house-words m .1 n;
       house-bytes = λ m. k .house-bytes m .1 n;
       tree-writer = λ kind table b t m r. k .tree-writer kind table b t m r .1 n;
+      tree-writer-by = λ number table b t m r. k .tree-writer-by number table b t m r .1 n;
       block-reader = λ r t m b. k .block-reader r t m b .1 n;
       sampler = λ i t m s. k .sampler i t m s .1 n;
       sample-checker = λ i r s. k .sample-checker i r s .1 n;
       proof-checker = λ r table b. k .proof-checker r table b .1 n;
       repairer = λ r table t m o. k .repairer r table t m o .1 n;
+      recoder = λ r table t m t′ m′ r′. k .recoder r table t m t′ m′ r′ .1 n;
     }
 
 pub has : (d n : ℕ) → depthFits d ≡ true → places tree d ≡ n → Has d n

@@ -4,7 +4,6 @@ use mathlib.Core.Bool.{true}
 use mathlib.Core.List.{List}
 use Prim.Native.Nat.{ℕ}
 use native.Mathlib.Omega.{arith}
-use lib.ListN.{length}
 use Rattle.octets.specs.BigEndian.{bytesOf}
 use Rattle.parity_table.specs.Shape.{depthFits}
 use Rattle.parity_table.specs.Parse.{tableOf}
@@ -16,19 +15,15 @@ use Rattle.calls.specs.declared.Answer.the-variants.{Done}
 use Rattle.calls.specs.Stops.{numberOf, valuesOf}
 use Rattle.calls.proofs.AdmissionLaws.{admits}
 use Rattle.calls.proofs.Taken.{house-taken}
-use Rattle.volume_calls.specs.Writing.{writeSized}
-use Rattle.fault_calls.specs.Checking.{proofSized}
-use Rattle.fault_calls.specs.Repairing.{repairSized}
-use Rattle.recoding.specs.Recoding.{recodeSized}
 use Rattle.guarantees.specs.Answers.{done, fails, holds, Just}
 use Rattle.guarantees.specs.Tables.{TableRight, FirstWrongWord, AllInTwo, FirstNotInTwo}
 use Rattle.guarantees.specs.Refusals.{takesWords}
 use Rattle.guarantees.specs.Change1.{Table, Change1}
 use Rattle.guarantees.proofs.Answers.{never, done-never}
-use Rattle.guarantees.proofs.Passing.{right-so, past-words, past-words-so, Front, depth-front, lengths-front, head-front, table-stable, both-stable}
+use Rattle.guarantees.proofs.Passing.{right-so, past-words, past-words-so, Front, depth-front, head-stable, kind-stable, lengths-front, head-front, table-stable, writer-stable, proof-stable, repair-stable, recode-stable}
 use Rattle.guarantees.proofs.Tables.{formed-right, covered-all}
-use Rattle.guarantees.proofs.Refusals.{depth-fits, done-only, lengths-own, own-lengths, repair-own, own-repair, recode-own, own-recode, refusals}
-use Rattle.guarantees.proofs.FaultProofs.{fault-proofs, lengths-own as proof-own, own-lengths as own-proof}
+use Rattle.guarantees.proofs.Refusals.{depth-fits, done-only, refusals}
+use Rattle.guarantees.proofs.FaultProofs.{fault-proofs}
 
 -- ---- tests 3 and 10, at a depth that there is
 
@@ -88,27 +83,21 @@ change-1 =
       words-check = λ d ws. alone (depth-front d) (refusals .table-words d ws);
       table-check = λ d table. alone (lengths-front d (table-stable table)) (refusals .table-bytes d table);
       tree-writer = λ d kind table b t m r.
-          alone
-          (lengths-front d
-          (both-stable (writeSized d (length b) (length t) (length m) (length r)) table (lengths-own d table b t m r) (own-lengths d table b t m r)))
-          (refusals .tree-writer d kind table b t m r);
+          alone (lengths-front d (writer-stable d table b t m r)) (refusals .tree-writer d kind table b t m r);
+      tree-writer-by = λ d number table b t m r.
+          alone (head-front d (writer-stable d table b t m r) (kind-stable number)) (refusals .tree-writer-by d number table b t m r);
       proof-checker = λ d r table b.
           by-tests
-          (head-front d r (both-stable (proofSized (length r) (length b)) table (proof-own d r table b) (own-proof d r table b)))
-          (fault-proofs .checker-answers d r table b)
+          (head-front d (proof-stable r table b) (head-stable d r)) (fault-proofs .checker-answers d r table b)
           (never (λ e. omega arith) (never (λ e. omega arith) (never (λ e. omega arith) (never (λ e. omega arith) (never (λ e. omega arith) (done-never (λ e. omega arith)))))))
           (never (λ e. omega arith) (never (λ e. omega arith) (never (λ e. omega arith) (never (λ e. omega arith) (never (λ e. omega arith) (done-never (λ e. omega arith)))))));
       repairer = λ d r table t m o.
           by-tests
-          (head-front d r
-          (both-stable (repairSized d (length r) (length t) (length m) (length o)) table (repair-own d r table t m o) (own-repair d r table t m o)))
-          (refusals .repairer d r table t m o)
+          (head-front d (repair-stable d r table t m o) (head-stable d r)) (refusals .repairer d r table t m o)
           (never (λ e. omega arith) (never (λ e. omega arith) (done-never (λ e. omega arith)))) (never (λ e. omega arith) (never (λ e. omega arith) (done-never (λ e. omega arith))));
       recoder = λ d r table t m t′ m′ r′.
           by-tests
-          (head-front d r
-          (both-stable (recodeSized d (length r) (length t) (length m) (length t′) (length m′) (length r′)) table (recode-own d r table t m t′ m′ r′) (own-recode d r table t m t′ m′ r′)))
-          (refusals .recoder d r table t m t′ m′ r′)
+          (head-front d (recode-stable d r table t m t′ m′ r′) (head-stable d r)) (refusals .recoder d r table t m t′ m′ r′)
           (never (λ e. omega arith) (never (λ e. omega arith) (never (λ e. omega arith) (done-never (λ e. omega arith)))))
           (never (λ e. omega arith) (never (λ e. omega arith) (never (λ e. omega arith) (done-never (λ e. omega arith)))));
       words-taken = λ d ws. (

@@ -23,7 +23,7 @@ use Rattle.calls.specs.declared.Answer.{Answer}
 use Rattle.calls.specs.Stops.{numberOf, valuesOf}
 use Rattle.sample_calls.specs.Checking.{checkSized}
 use Rattle.sample_calls.proofs.CheckingLaws.{sizes as check-sizes}
-use Rattle.fault_calls.specs.Checking.{proofSized, proofChecked}
+use Rattle.fault_calls.specs.Checking.{proofChecked}
 use Rattle.guarantees.specs.Layouts.{bytesFrom, allSymbols, upFrom, kindNo, rootPart}
 use Rattle.guarantees.specs.Answers.{Answered, Answers, done, test, fails, holds, unless, one}
 use Rattle.guarantees.specs.Tables.{TableRight}
@@ -37,10 +37,10 @@ use Rattle.guarantees.specs.Change4.{WayPage, Change4}
 use Rattle.guarantees.proofs.Answers.{never, done-never, past, past-so, left}
 use Rattle.guarantees.proofs.Tables.{right-formed}
 use Rattle.guarantees.proofs.ProofHeads.{Fitting, named-fitting, length-named, named-ok, ok-named}
-use Rattle.guarantees.proofs.Passing.{decided, Stable, past-words, past-words-so, left-words, Front, head-stable, names-stable, past-lengths, past-lengths-so, head-front, both-stable}
+use Rattle.guarantees.proofs.Passing.{decided, Stable, past-words, past-words-so, left-words, Front, head-stable, names-stable, past-lengths, past-lengths-so, head-front, proof-stable}
 use Rattle.guarantees.proofs.Refusals.{depth-fits, refusals}
 use Rattle.guarantees.proofs.Pages.{up-low, sample-fits, sample-alone, way-page}
-use Rattle.guarantees.proofs.FaultProofs.{from8, from7, leads-or-breaks, breaks-as, never-both, fault-proofs, lengths-own, own-lengths}
+use Rattle.guarantees.proofs.FaultProofs.{from8, from7, leads-or-breaks, breaks-as, never-both, fault-proofs}
 
 -- ---- samples
 
@@ -116,7 +116,7 @@ module _ (d : ℕ) (r table b : List ℕ) where
   front : {later : Answered}
       → Front d (DepthRight d × ProofLengths r table b × HeadRight d r)
       (test 1 (unless (DepthRight d)) (test 2 (unless (ProofLengths r table b)) (test 11 (unless (HeadRight d r)) later))) later
-  front = head-front d r (both-stable (proofSized (length r) (length b)) table (lengths-own d r table b) (own-lengths d r table b))
+  front = head-front d (proof-stable r table b) (head-stable d r)
 
   -- ---- an answer that comes from 7 on
 

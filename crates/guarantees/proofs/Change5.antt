@@ -34,27 +34,26 @@ use Rattle.calls.proofs.RecordLaws.{admits-by}
 use Rattle.volume_calls.specs.Reading.{blockRead}
 use Rattle.volume_calls.specs.Writing.{treeWritten}
 use Rattle.sample_calls.specs.Checking.{sampleChecked}
-use Rattle.fault_calls.specs.Checking.{proofSized, proofChecked}
+use Rattle.fault_calls.specs.Checking.{proofChecked}
 use Rattle.fault_calls.specs.Repairing.{misfilled, repairSized, repairTested, repairOf, repairedBy, repaired}
 use Rattle.fault_calls.proofs.CheckingLaws.{passed}
 use Rattle.fault_calls.proofs.RepairingLaws.{ends-so, formed}
-use Rattle.recoding.specs.Recoding.{recodeSized, recoded}
+use Rattle.recoding.specs.Recoding.{recoded}
 use Rattle.guarantees.specs.Layouts.{bytesFrom, symbolAt, kindNo, valueNo, recordBytes, blockSize, rootPart, blockRoom, blockStart}
 use Rattle.guarantees.specs.Answers.{test, fails, holds, unless, Just}
-use Rattle.guarantees.specs.Refusals.{DepthRight, TableLength, TreeLengths, BlockLength, RecordLength, HeadRight, NamesTable, SampleLength, OutputLength, RepairLengths, RecodeLengths, takesTable, takesNamed}
-use Rattle.guarantees.specs.FaultProofs.{ProofLengths}
+use Rattle.guarantees.specs.Refusals.{DepthRight, TableLength, TreeLengths, BlockLength, RecordLength, HeadRight, NamesTable, SampleLength, OutputLength, takesTable, takesNamed}
 use Rattle.guarantees.specs.Demand2.{treeAfter, marksAfter, recordAfter, TreesCollide}
 use Rattle.guarantees.specs.Trees.{kindBits, hashBy, AgreesWith}
 use Rattle.guarantees.specs.Terms.{equationsOf}
 use Rattle.guarantees.specs.Cases.{AreBytes}
-use Rattle.guarantees.specs.Change5.{StopsWith11, StopsWith12, recordFor, ReadsAs, Takes, TablesCollide, Change5}
+use Rattle.guarantees.specs.Change5.{StopsWith11, StopsWith12, recordFor, ReadsAs, Takes, by-proof, by-repair, by-recoder, TablesCollide, Change5}
 use Rattle.guarantees.proofs.Answers.{never, done-never}
 use Rattle.guarantees.proofs.Layouts.{tree-symbols}
 use Rattle.guarantees.proofs.Records.{kind-no, at-most, record-number, block-size, word-count, table-hash, root-in, block-room, head-right, right-head, names-table, table-named, head-bytes, record-bytes}
 use Rattle.guarantees.proofs.Marks.{none-bad}
-use Rattle.guarantees.proofs.Refusals.{depth-fits, size-tests, repair-own, own-repair, recode-own, own-recode, refusals}
-use Rattle.guarantees.proofs.Passing.{decided, Stable, past-words, past-words-so, past-lengths, past-lengths-so, head-front, both-stable}
-use Rattle.guarantees.proofs.FaultProofs.{fault-proofs, lengths-own as proof-own, own-lengths as own-proof}
+use Rattle.guarantees.proofs.Refusals.{depth-fits, size-tests, recode-passed, refusals}
+use Rattle.guarantees.proofs.Passing.{decided, Stable, past-words, past-words-so, past-lengths, past-lengths-so, head-stable, head-front, proof-stable, repair-stable, recode-stable}
+use Rattle.guarantees.proofs.FaultProofs.{fault-proofs}
 use Rattle.guarantees.proofs.Demand2.{coding, after-full, after-bits, after-right, after-names, after-size, base-byte, reading, after-block, after-one, demand-2}
 use Rattle.guarantees.proofs.Demand3.{wayOf, passed-13, is-13, demand-3}
 
@@ -81,7 +80,7 @@ module _ (d : ℕ) (r : List ℕ) {R : Type 0} (so : Stable R) {later : ℕ → 
   stops-12 : (table : List ℕ) → Just a (test 1 (unless (DepthRight d)) (test 2 (unless R) (takesNamed d r table later))) → ((v : ℕ × ℕ) → later 12 v → ⊥)
       → StopsWith12 d r table (DepthRight d × R) a
   stops-12 table j none =
-      let f = head-front d r {later = takesTable d table (test 12 (unless (NamesTable r table)) later)} so in (
+      let f = head-front d {later = takesTable d table (test 12 (unless (NamesTable r table)) later)} so (head-stable d r) in (
         λ e.
             let (b, t) = f .into (λ q. omega arith) (λ q. omega arith) (λ q. omega arith) (j .answers 12 (valuesOf a) .0 (e, refl)) in
             let (w, c, u) = past-words d (wordsOf table) (f .deep b) (λ q. omega arith) (λ q. omega arith) t in
@@ -108,17 +107,6 @@ block-stable d r t m b x = (
 
 sample-stable : (d : ℕ) (r s : List ℕ) → Stable (RecordLength r × SampleLength d s)
 sample-stable d r s x = (length-stable _ _ (λ n. x (λ k. n (k .0))), length-stable _ _ (λ n. x (λ k. n (k .1))))
-
-proof-stable : (r table b : List ℕ) → Stable (ProofLengths r table b)
-proof-stable r table b = both-stable (proofSized (length r) (length b)) table (proof-own 0 r table b) (own-proof 0 r table b)
-
-repair-stable : (d : ℕ) (r table t m o : List ℕ) → Stable (RepairLengths d r table t m o)
-repair-stable d r table t m o =
-    both-stable (repairSized d (length r) (length t) (length m) (length o)) table (repair-own d r table t m o) (own-repair d r table t m o)
-
-recode-stable : (d : ℕ) (r table t m t′ m′ r′ : List ℕ) → Stable (RecodeLengths d r table t m t′ m′ r′)
-recode-stable d r table t m t′ m′ r′ =
-    both-stable (recodeSized d (length r) (length t) (length m) (length t′) (length m′) (length r′)) table (recode-own d r table t m t′ m′ r′) (own-recode d r table t m t′ m′ r′)
 
 -- ---- reading and writing a record
 
@@ -234,8 +222,9 @@ module _ (d : ℕ) (kind : Kind) (table block t m r : List ℕ) (e : treeWritten
 -- ---- what a record binds
 
 named-by : (d : ℕ) (r table : List ℕ) → Takes d r table → (headRight d r ≡ true) × (namesTable r table ≡ true)
-named-by d r table (inl (b, e)) = let k = passed d r table b e .admits in (k .head, k .named)
-named-by d r table (inr (t, m, o, e)) = let k = formed d r table t m o e .admits in (k .head, k .named)
+named-by d r table (by-proof b e) = let k = passed d r table b e .admits in (k .head, k .named)
+named-by d r table (by-repair t m o e) = let k = formed d r table t m o e .admits in (k .head, k .named)
+named-by d r table (by-recoder t m t′ m′ r′ e) = let k = recode-passed d r table t m t′ m′ r′ e .0 in (k .head, k .named)
 
 one-table : (d : ℕ) (r table other : List ℕ) → Takes d r table → Takes d r other → (wordsOf table ≡ wordsOf other) ⊎ TablesCollide table other
 one-table d r table other p q =

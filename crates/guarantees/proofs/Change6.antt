@@ -28,11 +28,12 @@ use Rattle.calls.specs.Stops.{numberOf}
 use Rattle.calls.specs.Tests.{testDepth, testLengths, wordsTested, admitted}
 use Rattle.calls.proofs.Taken.{bytes-tested}
 use Rattle.volume_calls.specs.Reading.{blockRead}
-use Rattle.volume_calls.specs.Writing.{writeSized, treeWritten}
+use Rattle.volume_calls.specs.Writing.{writeSized, treeWritten, treeWrittenBy}
 use Rattle.sample_calls.specs.Checking.{sampleChecked}
 use Rattle.sample_calls.specs.Taking.{sampleTaken}
 use Rattle.fault_calls.specs.Checking.{proofSized, proofChecked}
 use Rattle.fault_calls.specs.Repairing.{repairSized, repairTested, repaired}
+use Rattle.recoding.specs.Recoding.{recodeSized, recoded}
 use Rattle.guarantees.specs.Layouts.{treeSymbols}
 use Rattle.guarantees.specs.Tables.{FirstWrongWord}
 use Rattle.guarantees.specs.Answers.{test, holds, unless, JustWhen}
@@ -102,7 +103,7 @@ accepts d r =
 -- ---- as before
 
 two-numbers : now ≡ callsBy 9 220792
-unfolding depthFits lengthFits readOf testDepth houseAnswer treeWritten blockRead sampleTaken sampleChecked proofChecked repairTested repaired
+unfolding depthFits lengthFits readOf testDepth houseAnswer treeWritten treeWrittenBy blockRead sampleTaken sampleChecked proofChecked repairTested repaired recoded
 two-numbers = refl
 
 -- such a length is right now just where it was
@@ -129,18 +130,20 @@ length-same table h =
     alike false false = refl
 
 as-before : (d : ℕ) → d ≤ 5 → AsBefore d
-unfolding depthFits lengthFits readOf testDepth houseAnswer treeWritten blockRead sampleTaken sampleChecked proofChecked repairTested repaired pick
+unfolding depthFits lengthFits readOf testDepth houseAnswer treeWritten treeWrittenBy blockRead sampleTaken sampleChecked proofChecked repairTested repaired recoded pick
 as-before zero h =
     record {
       table-words = λ ws. refl;
       table-bytes = λ table l. refl;
       house = λ n m. refl;
       tree-writer = λ kind table b t m r l. refl;
+      tree-writer-by = λ number table b t m r l. refl;
       block-reader = λ r t m b. refl;
       sampler = λ i t m s. refl;
       sample-checker = λ i r s. refl;
       proof-checker = λ r table b l. refl;
       repairer = λ r table t m o l. refl;
+      recoder = λ r table t m t′ m′ r′ l. refl;
     }
 as-before (suc d) h =
     let five = le-leb (suc d) 5 h in
@@ -152,11 +155,13 @@ as-before (suc d) h =
       table-bytes = λ table l. rw (five, nine, same table l);
       house = λ n m. rw (five, nine);
       tree-writer = λ kind table b t m r l. rw (five, nine, same table l);
+      tree-writer-by = λ number table b t m r l. rw (five, nine, same table l);
       block-reader = λ r t m b. rw (five, nine);
       sampler = λ i t m s. rw (five, nine);
       sample-checker = λ i r s. rw (five, nine);
       proof-checker = λ r table b l. rw (five, nine, same table l);
       repairer = λ r table t m o l. rw (five, nine, same table l);
+      recoder = λ r table t m t′ m′ r′ l. rw (five, nine, same table l);
     }
 
 deeper-before : (d : ℕ) → 5 < d → EveryCall before d (λ number. number ≡ 1)
@@ -170,11 +175,13 @@ deeper-before d h =
       house-words = λ n. rw (some, deep);
       house-bytes = λ n. rw (some, deep);
       tree-writer = λ kind table b t m r. rw (some, deep);
+      tree-writer-by = λ number table b t m r. rw (some, deep);
       block-reader = λ r t m b. rw (some, deep);
       sampler = λ i t m s. rw (some, deep);
       sample-checker = λ i r s. rw (some, deep);
       proof-checker = λ r table b. rw (some, deep);
       repairer = λ r table t m o. rw (some, deep);
+      recoder = λ r table t m t′ m′ r′. rw (some, deep);
     }
 
 -- ---- a longer table
@@ -203,10 +210,14 @@ module _ (d : ℕ) (table : List ℕ) (some : 1 ≤ d) (few : d ≤ 5) (l : Tabl
         check-now = change-1 .table-check d table .stops-with-3 i .1 ((dr, l), w) .0;
         writer-before = λ kind b t m r. rw (long-before (writeSized d (length b) (length t) (length m) (length r)));
         writer-now = λ kind b t m r k. change-1 .tree-writer d kind table b t m r .stops-with-3 i .1 ((dr, k), w) .0;
+        writer-by-before = λ number b t m r. rw (long-before (writeSized d (length b) (length t) (length m) (length r)));
+        writer-by-now = λ number b t m r k n. change-1 .tree-writer-by d number table b t m r .stops-with-3 i .1 ((dr, k, n), w) .0;
         proof-before = λ r b. rw (long-before (proofSized (length r) (length b)));
         proof-now = λ r b k hr. change-1 .proof-checker d r table b .stops-with-3 i .1 ((dr, k, hr), w) .0;
         repair-before = λ r t m o. rw (long-before (repairSized d (length r) (length t) (length m) (length o)));
         repair-now = λ r t m o k hr. change-1 .repairer d r table t m o .stops-with-3 i .1 ((dr, k, hr), w) .0;
+        recode-before = λ r t m t′ m′ r′. rw (long-before (recodeSized d (length r) (length t) (length m) (length t′) (length m′) (length r′)));
+        recode-now = λ r t m t′ m′ r′ k hr. change-1 .recoder d r table t m t′ m′ r′ .stops-with-3 i .1 ((dr, k, hr), w) .0;
       }
 
 -- ---- all of it

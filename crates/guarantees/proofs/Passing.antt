@@ -4,19 +4,27 @@ use mathlib.Core.Bool.{Bool, true, true≢false, _&&_}
 use mathlib.Core.List.{List}
 use Prim.Native.Nat.{ℕ}
 use lib.ListN.{length}
+use lib.Dec.{leb}
+use borrow.Author.Tests.{le-leb, leb-true}
 use Rattle.octets.proofs.Choice.{by-test, and-yes, yes-and}
 use Rattle.parity_table.specs.Shape.{depthFits}
 use Rattle.parity_table.specs.Parse.{tableOf}
 use Rattle.parity_table.proofs.Parse.{formed-rules}
 use Rattle.table_bytes.specs.Bytes.{lengthFits}
 use Rattle.root_record.specs.Records.{headRight, namesTable}
+use Rattle.volume_calls.specs.Writing.{writeSized}
+use Rattle.fault_calls.specs.Checking.{proofSized}
+use Rattle.fault_calls.specs.Repairing.{repairSized}
+use Rattle.recoding.specs.Recoding.{recodeSized}
 use Rattle.guarantees.specs.Answers.{test, fails, holds, unless}
 use Rattle.guarantees.specs.Tables.{TableRight, FirstWrongWord, AllInTwo, FirstNotInTwo}
-use Rattle.guarantees.specs.Refusals.{DepthRight, TableLength, HeadRight, NamesTable, takesWords}
+use Rattle.guarantees.specs.Refusals.{DepthRight, TableLength, KindRight, HeadRight, NamesTable, WriterLengths, RepairLengths, RecodeLengths, takesWords}
+use Rattle.guarantees.specs.FaultProofs.{ProofLengths}
 use Rattle.guarantees.proofs.Answers.{past, past-so}
-use Rattle.guarantees.proofs.Records.{head-right, right-head, names-table, table-named}
+use Rattle.guarantees.proofs.Records.{either, at-most, head-right, right-head, names-table, table-named}
 use Rattle.guarantees.proofs.Tables.{right-formed}
-use Rattle.guarantees.proofs.Refusals.{depth-right, depth-fits, words-cases, cover-cases, table-long, long-table}
+use Rattle.guarantees.proofs.Refusals.{depth-right, depth-fits, words-cases, cover-cases, table-long, long-table, lengths-own, own-lengths, repair-own, own-repair, recode-own, own-recode}
+use Rattle.guarantees.proofs.FaultProofs.{lengths-own as proof-own, own-lengths as own-proof}
 
 -- what a test decides holds where its opposite doesn't
 pub decided : {R : Type 0} (b : Bool) → (b ≡ true → R) → (R → b ≡ true) → ((R → ⊥) → ⊥) → R
@@ -65,6 +73,9 @@ depth-stable d = decided (depthFits d) (depth-right d) (depth-fits d)
 pub head-stable : (d : ℕ) (r : List ℕ) → Stable (HeadRight d r)
 head-stable d r = decided (headRight d r) (head-right d r) (right-head d r)
 
+pub kind-stable : (number : ℕ) → Stable (KindRight number)
+kind-stable number = decided (leb number 1) (λ t. either number (leb-true number 1 t)) (λ k. le-leb number 1 (at-most number k))
+
 module _ (d : ℕ) {R : Type 0} {later : ℕ → ℕ × ℕ → Type 0} {n : ℕ} {v : ℕ × ℕ} (o : 1 ≡ n → ⊥) (q : 2 ≡ n → ⊥) where
   pub past-lengths : Stable R → test 1 (unless (DepthRight d)) (test 2 (unless R) later) n v → DepthRight d × R × later n v
   past-lengths so t = let (r, l) = past o (depth-stable d) t in let (s, m) = past q so l in (r, s, m)
@@ -77,7 +88,7 @@ pub record Front (d : ℕ) (before : Type 0) (tests later : ℕ → ℕ × ℕ �
   pub into : {n : ℕ} {v : ℕ × ℕ} → (1 ≡ n → ⊥) → (2 ≡ n → ⊥) → (11 ≡ n → ⊥) → tests n v → before × later n v
   pub back : {n : ℕ} {v : ℕ × ℕ} → (1 ≡ n → ⊥) → (2 ≡ n → ⊥) → (11 ≡ n → ⊥) → before → later n v → tests n v
 
--- 1 alone; 1 and 2; 1, 2 and 11
+-- 1 alone; 1 and 2; 1, 2 and 11, of a record's head or of a kind's number
 pub depth-front : (d : ℕ) {later : ℕ → ℕ × ℕ → Type 0} → Front d (DepthRight d) (test 1 (unless (DepthRight d)) later) later
 depth-front d = record { deep = depth-fits d; into = λ o q z t. past o (depth-stable d) t; back = λ o q z r l. past-so o r l }
 
@@ -90,12 +101,12 @@ lengths-front d so =
       back = λ o q z b l. past-lengths-so d o q (b .0) (b .1) l;
     }
 
-pub head-front : (d : ℕ) (r : List ℕ) {R : Type 0} {later : ℕ → ℕ × ℕ → Type 0} → Stable R
-    → Front d (DepthRight d × R × HeadRight d r) (test 1 (unless (DepthRight d)) (test 2 (unless R) (test 11 (unless (HeadRight d r)) later))) later
-head-front d r so =
+pub head-front : (d : ℕ) {R K : Type 0} {later : ℕ → ℕ × ℕ → Type 0} → Stable R → Stable K
+    → Front d (DepthRight d × R × K) (test 1 (unless (DepthRight d)) (test 2 (unless R) (test 11 (unless K) later))) later
+head-front d so right =
     record {
       deep = λ b. depth-fits d (b .0);
-      into = λ o q z t. let (k, s, l) = past-lengths d o q so t in let (h, m) = past z (head-stable d r) l in ((k, s, h), m);
+      into = λ o q z t. let (k, s, l) = past-lengths d o q so t in let (h, m) = past z right l in ((k, s, h), m);
       back = λ o q z b l. past-lengths-so d o q (b .0) (b .1) (past-so z (b .2) l);
     }
 
@@ -103,11 +114,27 @@ pub table-stable : (table : List ℕ) → Stable (TableLength table)
 table-stable table = decided (lengthFits (length table)) (table-long table) (long-table table)
 
 -- lengths of a call's own buffers and of its table
-pub both-stable : {R : Type 0} (sized : Bool) (table : List ℕ) → (sized ≡ true → TableLength table → R) → (R → (sized ≡ true) × TableLength table) → Stable R
+both-stable : {R : Type 0} (sized : Bool) (table : List ℕ) → (sized ≡ true → TableLength table → R) → (R → (sized ≡ true) × TableLength table) → Stable R
 both-stable sized table said seen =
     decided (sized && lengthFits (length table))
     (λ t. let (p, q) = and-yes sized (lengthFits (length table)) t in said p (table-long table q))
     (λ r. let (p, q) = seen r in yes-and p (long-table table q))
+
+pub writer-stable : (d : ℕ) (table b t m r : List ℕ) → Stable (WriterLengths d table b t m r)
+writer-stable d table b t m r =
+    both-stable (writeSized d (length b) (length t) (length m) (length r)) table (lengths-own d table b t m r) (own-lengths d table b t m r)
+
+pub proof-stable : (r table b : List ℕ) → Stable (ProofLengths r table b)
+proof-stable r table b = both-stable (proofSized (length r) (length b)) table (proof-own 0 r table b) (own-proof 0 r table b)
+
+pub repair-stable : (d : ℕ) (r table t m o : List ℕ) → Stable (RepairLengths d r table t m o)
+repair-stable d r table t m o =
+    both-stable (repairSized d (length r) (length t) (length m) (length o)) table (repair-own d r table t m o) (own-repair d r table t m o)
+
+pub recode-stable : (d : ℕ) (r table t m t′ m′ r′ : List ℕ) → Stable (RecodeLengths d r table t m t′ m′ r′)
+recode-stable d r table t m t′ m′ r′ =
+    both-stable (recodeSized d (length r) (length t) (length m) (length t′) (length m′) (length r′)) table
+    (recode-own d r table t m t′ m′ r′) (own-recode d r table t m t′ m′ r′)
 
 -- ---- test 12
 

@@ -35,7 +35,7 @@ use Rattle.calls.specs.declared.Stop.the-variants.{NotWhole}
 use Rattle.calls.specs.Stops.{numberOf}
 use Rattle.calls.specs.Tests.{_then_, admittedBy, testMarks}
 use Rattle.calls.proofs.TestLaws.{stopped-not, then-done}
-use Rattle.calls.proofs.RecordLaws.{AdmittedBy, admission-by, admits-by}
+use Rattle.calls.proofs.RecordLaws.{AdmittedBy, admits-by}
 use Rattle.volume_calls.specs.Writing.{TreeLeft, leaves, writtenTree, writtenRecord, treeWritten}
 use Rattle.volume_calls.specs.Reading.{blockRead}
 use Rattle.volume_calls.specs.Reading as reading
@@ -45,7 +45,7 @@ use Rattle.fault_calls.specs.Repairing.{ended, repairSized, repairTested, repai
 use Rattle.fault_calls.proofs.RepairingLaws.{formed}
 use Rattle.fault_calls.proofs.Ends.{four-ways}
 use Rattle.recoding.proofs.RecodingLaws.{as-writer as as-the-writer}
-use Rattle.recoding.specs.Recoding.{otherKind, recodeSized, nothingToDo, calledWhole, testWhole, recodeTested, recoded}
+use Rattle.recoding.specs.Recoding.{otherKind, recodeSized, nothingToDo, calledWhole, testWhole, recoded}
 use Rattle.guarantees.specs.Layouts.{treeSymbols, symbolAt, kindNo, blockSize, filledUp}
 use Rattle.guarantees.specs.Trees.{kindBits, hashBy, CorrectlyCoded, HasBlock}
 use Rattle.guarantees.specs.Refusals.{TreeLengths, RecordLength, BlockLength, OutputLength, RecodeLengths}
@@ -58,7 +58,7 @@ use Rattle.guarantees.proofs.Records.{block-size, root-in, head-right}
 use Rattle.guarantees.proofs.Marks.{held-marked}
 use Rattle.guarantees.proofs.Trees.{hash-of, hash-in, symbols-are, agrees-with, with-agrees, base-block}
 use Rattle.guarantees.proofs.Whole.{WholeLent, result-whole, stays, lent-called, called-lent}
-use Rattle.guarantees.proofs.Refusals.{size-tests, table-long, recode-own}
+use Rattle.guarantees.proofs.Refusals.{size-tests, table-long, recode-own, recode-passed}
 use Rattle.guarantees.proofs.Demand2.{coding, rules, filled-up, base-byte, after-block, after-size, after-kind, after-bits, first-bytes, demand-2}
 use Rattle.guarantees.proofs.Demand3.{is-held}
 use Rattle.guarantees.proofs.Change5.{first-kind, change-5}
@@ -163,15 +163,11 @@ module _ (d : ℕ) (r table t m t′ m′ r′ : List ℕ) (e : recoded d r tabl
   abbrev block : List ℕ
   block = take (sizeIn r) (blockOf tree d t)
 
-  tests : recodeTested d r table t m (length t′) (length m′) (length r′) ≡ Done
-  unfolding recoded
-  tests = e
-
-  split : (admittedBy d sized r table ≡ Done) × ((testMarks m then testWhole (calledWhole d r table t m)) ≡ Done)
-  split = then-done (admittedBy d sized r table) (testMarks m then testWhole (calledWhole d r table t m)) tests
+  split : AdmittedBy d sized r table × ((testMarks m then testWhole (calledWhole d r table t m)) ≡ Done)
+  split = recode-passed d r table t m t′ m′ r′ e
 
   a : AdmittedBy d sized r table
-  a = admission-by d sized r table (split .0)
+  a = split .0
 
   k : RecodeLengths d r table t m t′ m′ r′
   k = recode-own d r table t m t′ m′ r′ (a .lengths) (table-long table (a .taken .length-fits))

@@ -1,6 +1,6 @@
 -- Every call answers as its tests say: with which number and values, and just when.
 use mathlib.Core.Path.{_≡_, refl, sym, ap, ap₂, _∙_, subst}
-use mathlib.Core.Logic.{_⊎_, _≢_}
+use mathlib.Core.Logic.{_≢_}
 use mathlib.Core.Bool.{Bool, true, false, not, _&&_, true≢false}
 use mathlib.Core.List.{List}
 use Prim.Native.Nat.{ℕ, zero, suc, _+_, _-_, _*_, _%_, _^_, _≤_, _<_}
@@ -61,9 +61,9 @@ use Rattle.sample_calls.specs.Checking.{checkSized, led, sampleChecked}
 use Rattle.sample_calls.specs.Taking.{takeSized, needed, sampleTaken}
 use Rattle.fault_calls.specs.Repairing.{repairSized, repairTested, repaired}
 use Rattle.recoding.specs.Recoding.{recodeSized, nothingToDo, calledWhole, testWhole, recoded}
-use Rattle.calls.proofs.TestLaws.{marks-right}
+use Rattle.calls.proofs.TestLaws.{then-done, marks-right}
 use Rattle.calls.proofs.AdmissionLaws.{TableTaken}
-use Rattle.calls.proofs.RecordLaws.{admits-by}
+use Rattle.calls.proofs.RecordLaws.{AdmittedBy, admission-by, admits-by}
 use Rattle.volume_calls.proofs.WritingLaws.{answer-is as written-answer}
 use Rattle.volume_calls.proofs.ReadingLaws.{answer-is as block-answer}
 use Rattle.sample_calls.proofs.CheckingLaws.{sizes as check-sizes}
@@ -74,7 +74,7 @@ use Rattle.guarantees.specs.Trees.{Hasher, hashBy}
 use Rattle.guarantees.specs.Tables.{TableRight, FirstWrongWord, AllInTwo, FirstNotInTwo}
 use Rattle.guarantees.specs.Answers.{done, test, unless, one, two, Just}
 use Rattle.guarantees.specs.Terms.{equationsOf}
-use Rattle.guarantees.specs.Refusals.{LowestOf, DepthRight, TableLength, TreeLengths, BlockLength, RecordLength, SampleLength, HeadRight, NamesTable, BadMark, AbsentSampled, InBase, dataOfSample, AllHashesLead, SampleFits, SampleBreaks, hashTests, takesWords, takesTable, takesNamed, wordsTests, tableTests, houseTests, WriterLengths, writerTests, numberedTests, blockTests, samplerTests, sampleTests, RepairLengths, repairTests, OutputLength, CalledWhole, RecodeLengths, recodeTests, Refusals}
+use Rattle.guarantees.specs.Refusals.{LowestOf, DepthRight, TableLength, TreeLengths, BlockLength, RecordLength, SampleLength, KindRight, HeadRight, NamesTable, BadMark, AbsentSampled, InBase, dataOfSample, AllHashesLead, SampleFits, SampleBreaks, hashTests, takesWords, takesTable, takesNamed, wordsTests, tableTests, houseTests, WriterLengths, writerTests, numberedTests, blockTests, samplerTests, sampleTests, RepairLengths, repairTests, OutputLength, CalledWhole, RecodeLengths, recodeTests, Refusals}
 use Rattle.guarantees.proofs.Answers.{all-done, stops-unless, stops-one, stops-two, passes-unless, passes-one, passes-two}
 use Rattle.guarantees.proofs.Layouts.{tree-symbols, mark-at, hash-for}
 use Rattle.guarantees.proofs.Marks.{all-right, none-bad}
@@ -404,7 +404,7 @@ module _ (d : ℕ) (table b t m r : List ℕ) where
       (λ l. let (p, q) = and-yes own (lengthFits (length table)) l in lengths-own p (table-long table q))
       (λ k. let (p, q) = own-lengths k in yes-and p (long-table table q))
       (λ f k.
-      by-right 11 ((number ≡ 0) ⊎ (number ≡ 1)) (leb number 1) Record (wordsTested d (wordsOf table)) refl refl
+      by-right 11 (KindRight number) (leb number 1) Record (wordsTested d (wordsOf table)) refl refl
       (λ h. either number (leb-true number 1 h)) (λ e. le-leb number 1 (at-most number e))
       (λ e.
       subst (λ (z : Answer). Just z (takesTable d table done)) (then-none (wordsTested d (wordsOf table)))
@@ -631,6 +631,14 @@ module _ (d : ℕ) (r table t m t′ m′ r′ : List ℕ) where
         (yes-and (size-tests d t′ m′ (k .new-tree-lengths)) (yes-and (eq-eqb (length r) 556 (k .record-length)) (eq-eqb (length r′) 556 (k .new-record-length)))),
     k .table-length,
   )
+
+  -- a call that is done has passed the tests before 4, and those from 4 on
+  pub recode-passed : recoded d r table t m t′ m′ r′ .answer ≡ Done
+      → AdmittedBy d lent-both r table × ((testMarks m then testWhole (calledWhole d r table t m)) ≡ Done)
+  unfolding recoded
+  recode-passed e =
+      let (a, l) = then-done (admittedBy d lent-both r table) (testMarks m then testWhole (calledWhole d r table t m)) e in
+      (admission-by d lent-both r table a, l)
 
   -- a repair of the source is then of well-formed input
   module _ (f : depthFits d ≡ true) (k : RecodeLengths d r table t m t′ m′ r′) (hr : HeadRight d r) (taken : TableTaken d table) (n : NamesTable r table)

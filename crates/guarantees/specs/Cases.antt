@@ -114,11 +114,13 @@ pub record EveryCall (calls : Calls) (depth : ℕ) (P : ℕ → Type 0) : Type 0
   pub house-words : (n : ℕ) → P (numberOf (readAnswer (calls .house depth n (length (houseWords depth)))))
   pub house-bytes : (n : ℕ) → P (numberOf (readAnswer (calls .house depth n (length (houseWords depth) * 4))))
   pub tree-writer : (kind : Kind) (table b t m r : List ℕ) → P (numberOf (calls .tree-writer depth kind table b t m r .answer))
+  pub tree-writer-by : (number : ℕ) (table b t m r : List ℕ) → P (numberOf (calls .tree-writer-by depth number table b t m r .answer))
   pub block-reader : (r t m b : List ℕ) → P (numberOf (calls .block-reader depth r t m b .answer))
   pub sampler : (i : ℕ) (t m s : List ℕ) → P (numberOf (calls .sampler depth i t m s .answer))
   pub sample-checker : (i : ℕ) (r s : List ℕ) → P (numberOf (calls .sample-checker depth i r s))
   pub proof-checker : (r table b : List ℕ) → P (numberOf (calls .proof-checker depth r table b))
   pub repairer : (r table t m o : List ℕ) → P (numberOf (calls .repair-tests depth r table t m o))
+  pub recoder : (r table t m t′ m′ r′ : List ℕ) → P (numberOf (calls .recoder depth r table t m t′ m′ r′ .answer))
 
 -- it is 1 just when the depth isn't `least` to `most`
 abbrev pub Depths : ℕ → ℕ → Type 0

@@ -1,7 +1,8 @@
 -- 02, CR 1: "Pages that no equation mentions." Statements only.
 --
--- A table is lent as bytes to the check of a table, the writer, the check of a fault proof and the repairer, and as words to the check of words: these are
--- all the calls that take one. What each answers in every other case is in `Refusals` and `ProofCheckerAnswers`, with the same test 10.
+-- A table is lent as bytes to the check of a table, the writer (in either form), the check of a fault proof, the repairer and the recoder, and as words to
+-- the check of words: these are all the calls that take one. What each answers in every other case is in `Refusals` and `ProofCheckerAnswers`, with the same
+-- test 10.
 use mathlib.Core.Path.{_≡_}
 use mathlib.Core.Logic.{_↔_}
 use mathlib.Core.Bool.{true}
@@ -15,13 +16,13 @@ use Rattle.symbol_hash.specs.declared.Kind.{Kind}
 use Rattle.calls.specs.declared.Answer.{Answer}
 use Rattle.calls.specs.declared.Answer.the-variants.{Done}
 use Rattle.calls.specs.Tests.{wordsTested, admitted}
-use Rattle.volume_calls.specs.Writing.{treeWritten}
+use Rattle.volume_calls.specs.Writing.{treeWritten, treeWrittenBy}
 use Rattle.fault_calls.specs.Checking.{proofChecked}
 use Rattle.fault_calls.specs.Repairing.{repairTested}
 use Rattle.recoding.specs.Recoding.{recoded}
 use Rattle.guarantees.specs.Answers.{Answers}
 use Rattle.guarantees.specs.Tables.{TableRight, FirstWrongWord, AllInTwo, FirstNotInTwo}
-use Rattle.guarantees.specs.Refusals.{DepthRight, TableLength, HeadRight, WriterLengths, RepairLengths, RecodeLengths}
+use Rattle.guarantees.specs.Refusals.{DepthRight, TableLength, KindRight, HeadRight, WriterLengths, RepairLengths, RecodeLengths}
 use Rattle.guarantees.specs.FaultProofs.{ProofLengths}
 use Rattle.guarantees.specs.Terms.{equationsOf}
 
@@ -52,6 +53,8 @@ pub record Change1 : Type 0 where
   pub table-check : (d : ℕ) (table : List ℕ) → Table d (wordsOf table) (DepthRight d × TableLength table) (admitted d true table)
   pub tree-writer : (d : ℕ) (kind : Kind) (table b t m r : List ℕ)
       → Table d (wordsOf table) (DepthRight d × WriterLengths d table b t m r) (treeWritten d kind table b t m r .answer)
+  pub tree-writer-by : (d number : ℕ) (table b t m r : List ℕ)
+      → Table d (wordsOf table) (DepthRight d × WriterLengths d table b t m r × KindRight number) (treeWrittenBy d number table b t m r .answer)
   pub proof-checker : (d : ℕ) (r table b : List ℕ)
       → Table d (wordsOf table) (DepthRight d × ProofLengths r table b × HeadRight d r) (proofChecked d r table b)
   pub repairer : (d : ℕ) (r table t m o : List ℕ)

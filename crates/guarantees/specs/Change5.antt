@@ -57,10 +57,11 @@ pub record ReadsAs (kind d n : ℕ) (table root r : List ℕ) : Type 0 where
 
 -- ---- what a record binds
 
--- a call takes this table by this record: the check of a proof accepts, or a repair is not turned away
-abbrev pub Takes : ℕ → List ℕ → List ℕ → Type 0
-Takes d r table =
-    ((b : List ℕ) × (proofChecked d r table b ≡ Done)) ⊎ ((t : List ℕ) × (m : List ℕ) × (o : List ℕ) × (repairTested d r table t m o ≡ Done))
+-- a call takes this table by this record: the check of a proof accepts, a repair is not turned away, or the recoder is done
+pub data Takes (d : ℕ) (r table : List ℕ) : Type 0 where
+  by-proof : (b : List ℕ) → proofChecked d r table b ≡ Done → Takes d r table
+  by-repair : (t m o : List ℕ) → repairTested d r table t m o ≡ Done → Takes d r table
+  by-recoder : (t m t′ m′ r′ : List ℕ) → recoded d r table t m t′ m′ r′ .answer ≡ Done → Takes d r table
 
 -- two different lists of words have, as big-endian bytes, equal SHA-256
 pub record TablesCollide (table other : List ℕ) : Type 0 where

@@ -15,14 +15,15 @@ use Rattle.calls.specs.declared.Answer.the-variants.{Done}
 use Rattle.calls.specs.Stops.{numberOf}
 use Rattle.calls.specs.Tests.{wordsTested, admitted}
 use Rattle.volume_calls.specs.Reading.{blockRead}
-use Rattle.volume_calls.specs.Writing.{treeWritten}
+use Rattle.volume_calls.specs.Writing.{treeWritten, treeWrittenBy}
 use Rattle.sample_calls.specs.Checking.{sampleChecked}
 use Rattle.sample_calls.specs.Taking.{sampleTaken}
 use Rattle.fault_calls.specs.Checking.{proofChecked}
 use Rattle.fault_calls.specs.Repairing.{repairTested, repaired}
+use Rattle.recoding.specs.Recoding.{recoded}
 use Rattle.guarantees.specs.Layouts.{dataSymbols, treeSymbols}
 use Rattle.guarantees.specs.Tables.{TableRight}
-use Rattle.guarantees.specs.Refusals.{DepthRight, TableLength, TreeLengths, BlockFits, BlockLength, HeadRight, OutputLength, WriterLengths, RepairLengths}
+use Rattle.guarantees.specs.Refusals.{DepthRight, TableLength, TreeLengths, BlockFits, BlockLength, KindRight, HeadRight, OutputLength, WriterLengths, RepairLengths, RecodeLengths}
 use Rattle.guarantees.specs.FaultProofs.{ProofLengths}
 use Rattle.guarantees.specs.Cases.{EveryCall, Has, Longest}
 use Rattle.guarantees.specs.Before.{now, callsBy, before}
@@ -71,23 +72,33 @@ pub record AsBefore (d : ℕ) : Type 0 where
   pub table-bytes : (table : List ℕ) → LengthAsBefore d table → admitted d true table ≡ before .table-bytes d table
   pub house : (n m : ℕ) → houseAnswer d n m ≡ before .house d n m
   pub tree-writer : (kind : Kind) (table b t m r : List ℕ) → LengthAsBefore d table → treeWritten d kind table b t m r ≡ before .tree-writer d kind table b t m r
+  pub tree-writer-by : (number : ℕ) (table b t m r : List ℕ) → LengthAsBefore d table
+      → treeWrittenBy d number table b t m r ≡ before .tree-writer-by d number table b t m r
   pub block-reader : (r t m b : List ℕ) → blockRead d r t m b ≡ before .block-reader d r t m b
   pub sampler : (i : ℕ) (t m s : List ℕ) → sampleTaken d i t m s ≡ before .sampler d i t m s
   pub sample-checker : (i : ℕ) (r s : List ℕ) → sampleChecked d i r s ≡ before .sample-checker d i r s
   pub proof-checker : (r table b : List ℕ) → LengthAsBefore d table → proofChecked d r table b ≡ before .proof-checker d r table b
   pub repairer : (r table t m o : List ℕ) → LengthAsBefore d table → repaired d r table t m o ≡ before .repairer d r table t m o
+  pub recoder : (r table t m t′ m′ r′ : List ℕ) → LengthAsBefore d table
+      → recoded d r table t m t′ m′ r′ ≡ before .recoder d r table t m t′ m′ r′
 
--- a table of more: every call that is lent it stopped with 2; now it passes 2 and 11, where the other lengths and the record's head are right, and stops
--- with 3
+-- a table of more: every call that is lent it stopped with 2; now it passes 2 and 11, where the other lengths and the record's head, or the number of the
+-- kind, are right, and stops with 3
 pub record LongerTable (d : ℕ) (table : List ℕ) : Type 0 where
   pub check-before : numberOf (before .table-bytes d table) ≡ 2
   pub check-now : numberOf (admitted d true table) ≡ 3
   pub writer-before : (kind : Kind) (b t m r : List ℕ) → numberOf (before .tree-writer d kind table b t m r .answer) ≡ 2
   pub writer-now : (kind : Kind) (b t m r : List ℕ) → WriterLengths d table b t m r → numberOf (treeWritten d kind table b t m r .answer) ≡ 3
+  pub writer-by-before : (number : ℕ) (b t m r : List ℕ) → numberOf (before .tree-writer-by d number table b t m r .answer) ≡ 2
+  pub writer-by-now : (number : ℕ) (b t m r : List ℕ) → WriterLengths d table b t m r → KindRight number
+      → numberOf (treeWrittenBy d number table b t m r .answer) ≡ 3
   pub proof-before : (r b : List ℕ) → numberOf (before .proof-checker d r table b) ≡ 2
   pub proof-now : (r b : List ℕ) → ProofLengths r table b → HeadRight d r → numberOf (proofChecked d r table b) ≡ 3
   pub repair-before : (r t m o : List ℕ) → numberOf (before .repair-tests d r table t m o) ≡ 2
   pub repair-now : (r t m o : List ℕ) → RepairLengths d r table t m o → HeadRight d r → numberOf (repairTested d r table t m o) ≡ 3
+  pub recode-before : (r t m t′ m′ r′ : List ℕ) → numberOf (before .recoder d r table t m t′ m′ r′ .answer) ≡ 2
+  pub recode-now : (r t m t′ m′ r′ : List ℕ) → RecodeLengths d r table t m t′ m′ r′ → HeadRight d r
+      → numberOf (recoded d r table t m t′ m′ r′ .answer) ≡ 3
 
 -- ---- the request
 

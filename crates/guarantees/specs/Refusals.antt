@@ -72,10 +72,14 @@ SampleLength d s = length s ≡ 256 * (2 * d - 1)
 abbrev pub OutputLength : ℕ → List ℕ → Type 0
 OutputLength d o = length o ≡ 12 + 256 * (8 * d - 1)
 
+-- 11, of the kind that a record's first word has, or that the writer is told by its number from C: 00 or 01
+abbrev pub KindRight : ℕ → Type 0
+KindRight number = (number ≡ 0) ⊎ (number ≡ 1)
+
 -- 11: "A head with a wrong kind, a length over 256·k or another depth than the call's stops with 11 after 2"; of the first word, CR 7: "In a new record the
 -- first word's kind is 00. [..] Kind 01 records remain readable"
 pub record HeadRight (d : ℕ) (r : List ℕ) : Type 0 where
-  pub first-kind : (kindNo r 0 ≡ 0) ⊎ (kindNo r 0 ≡ 1)
+  pub first-kind : KindRight (kindNo r 0)
   pub kinds : (kindNo r 1 ≡ 2) × (kindNo r 2 ≡ 3)
   pub depth-is : valueNo r 0 ≡ d
   pub size-fits : blockSize r ≤ blockRoom d
@@ -167,7 +171,7 @@ module _ (d : ℕ) (table b t m r : List ℕ) where
   -- .. its kind as a number, from C: 11, after 2, for another than 0 or 1
   abbrev pub numberedTests : ℕ → Answered
   numberedTests number =
-      test 1 (unless (DepthRight d)) (test 2 (unless WriterLengths) (test 11 (unless ((number ≡ 0) ⊎ (number ≡ 1))) (takesTable d table done)))
+      test 1 (unless (DepthRight d)) (test 2 (unless WriterLengths) (test 11 (unless (KindRight number)) (takesTable d table done)))
 
 abbrev pub blockTests : ℕ → List ℕ → List ℕ → List ℕ → List ℕ → Answered
 blockTests d r t m b =
