@@ -2,7 +2,7 @@
 
 use crate::failure::{DAMAGED, ENDS};
 use crate::report::{layers, Layer, Pages};
-use crate::volume;
+use crate::volume::{self, What};
 use cedunmi::{Depth, End, Place, Repaired};
 
 /// Where what a repair shows goes.
@@ -52,7 +52,7 @@ const HALF: usize = 8;
 fn doubt(compared: &Compared) -> String {
     let Compared { depth, record, before, .. } = compared;
     let other = volume::of_tree(*depth, record, *before);
-    match other.and_then(|other| other.line(record, "tree")) {
+    match other.and_then(|other| other.line(record, What::Tree)) {
         Some(line) => format!("; most of them were held: {line}"),
         None => {
             "; most of them were held, and don't fit this record: is it the volume's?".to_string()
@@ -241,7 +241,7 @@ mod tests {
         let flipped = volume::of_other_kind(&placed.record);
         let root = ": this record says kind 01, plain, but its root fits as one of kind 00, with places: compare it with the manual";
         assert_eq!(last(&placed.tree, vec![1; 48], &flipped), root);
-        let tree = ": this tree is of kind 01, plain, and the record of kind 00, with places: take the record that was made with it";
+        let tree = ": this tree agrees with itself as one of kind 01, plain, and the record is of kind 00, with places: if it was recoded, recode it by the record that came with it, and compare the record that this gives with the manual's";
         assert_eq!(last(&plain.tree, vec![1; 48], &placed.record), tree);
         let neither = ", and don't fit this record: is it the volume's?";
         let top = [vec![1; 16], vec![0; 32]].concat();

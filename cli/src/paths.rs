@@ -3,7 +3,7 @@
 
 use crate::failure::Failure;
 use crate::members::{members, words};
-use crate::volume;
+use crate::volume::{self, What};
 use cedunmi::{
     Depth, Kind, Place, Record, Stop, DIGEST_BYTES, PROOF_HEAD_BYTES, ROOT_BYTES, SYMBOL_BYTES,
 };
@@ -50,7 +50,7 @@ pub fn of_sample(stop: Stop, number: u64, record: &[u8], sample: File) -> Option
     let layers = depth.layers() as u64;
     let by_other =
         cedunmi::check_sample(layers, number, &volume::of_other_kind(record), sample.bytes);
-    let kinds = volume::of_stop(stop, by_other).and_then(|other| other.line(record, "sample"));
+    let kinds = volume::of_stop(stop, by_other).and_then(|other| other.line(record, What::Sample));
     Way { depth, kind, root, pages, file: sample.name, right, kinds }.failure(stop, layer, "")
 }
 
@@ -75,7 +75,7 @@ pub fn of_proof(stop: Stop, record: &[u8], table: &[u8], proof: File) -> Option<
     let right = "this record is the volume's".to_string();
     let layers = depth.layers() as u64;
     let by_other = cedunmi::check_proof(layers, &volume::of_other_kind(record), table, proof.bytes);
-    let kinds = volume::of_stop(stop, by_other).and_then(|other| other.line(record, "proof"));
+    let kinds = volume::of_stop(stop, by_other).and_then(|other| other.line(record, What::Proof));
     Way { depth, kind, root, pages, file: proof.name, right, kinds }.failure(stop, layer, &whose)
 }
 
@@ -246,10 +246,16 @@ mod tests {
         let mixed = said(2, &plain, &record);
         assert_eq!(
             mixed,
-            "this sample is of kind 01, plain, and the record of kind 00, with places: \
-             take the record that was made with it"
+            "this sample agrees with itself as one of kind 01, plain, and the record is of kind 00, with places: \
+             ask for one of a tree of kind 00, with places, or for the manual's record of kind 01, plain"
         );
-        assert!(said(2, &placed, &plain_record).contains("of kind 00, with places, and the"));
+        let mixed = said(2, &placed, &plain_record);
+        assert!(
+            mixed.starts_with("this sample agrees with itself as one of kind 00, with places, ")
+        );
+        assert!(mixed.ends_with(
+            "tree of kind 01, plain, or for the manual's record of kind 00, with places"
+        ));
     }
 
     /// What is to be asked for of the sample, after why.
@@ -336,7 +342,11 @@ mod tests {
         let ((_, placed, record), (_, plain, _)) = (coded(), coded_as(Kind::Plain));
         let flipped = said(&placed, &volume::of_other_kind(&record));
         assert!(flipped.starts_with("this record says kind 01, plain, but its root fits"));
-        assert!(said(&plain, &record).starts_with("this proof is of kind 01, plain, and the"));
+        assert_eq!(
+            said(&plain, &record),
+            "this proof agrees with itself as one of kind 01, plain, and the record is of kind 00, with places: \
+             it is not against the volume of this record: turn it down"
+        );
     }
 
     #[test]

@@ -26,23 +26,54 @@ pub fn of_other_kind(record: &[u8]) -> Vec<u8> {
     other
 }
 
+/// What is checked by a record.
+#[derive(Clone, Copy, Debug, PartialEq, Eq)]
+pub enum What {
+    Tree,
+    Sample,
+    Proof,
+}
+
+impl What {
+    fn name(self) -> &'static str {
+        match self {
+            What::Tree => "tree",
+            What::Sample => "sample",
+            What::Proof => "proof",
+        }
+    }
+
+    /// What to do with one that agrees with itself by the other kind than the record's. A forged one does so too, so that
+    /// no record is to be taken but the manual's; and only whole volumes are recoded, so that a proof is of no recoded one.
+    fn to_do(self, said: &str, other: &str) -> String {
+        match self {
+            What::Tree => "if it was recoded, recode it by the record that came with it, and compare the record that this gives with the manual's".to_string(),
+            What::Sample => format!("ask for one of a tree of {said}, or for the manual's record of {other}"),
+            What::Proof => "it is not against the volume of this record: turn it down".to_string(),
+        }
+    }
+}
+
 /// What is of another kind than the record says.
 #[derive(Clone, Copy, Debug, PartialEq, Eq)]
 pub enum Other {
     /// The root in the record itself.
     Root,
-    /// What is checked by it, up to the root.
+    /// What is checked by it, up to the root: it agrees with itself.
     Checked,
 }
 
 impl Other {
-    /// That it is so, where WHAT is checked by a record.
-    pub fn line(self, record: &[u8], what: &str) -> Option<String> {
+    /// That it is so, where WHAT is checked by a record, and what to do.
+    pub fn line(self, record: &[u8], what: What) -> Option<String> {
         let kind = Record::read(record).ok()?.kind;
         let (said, other) = (called(kind), called(kind.other()));
         Some(match self {
             Other::Root => format!("this record says {said}, but its root fits as one of {other}: compare it with the manual"),
-            Other::Checked => format!("this {what} is of {other}, and the record of {said}: take the record that was made with it"),
+            Other::Checked => {
+                let (name, to_do) = (what.name(), what.to_do(said, other));
+                format!("this {name} agrees with itself as one of {other}, and the record is of {said}: {to_do}")
+            }
         })
     }
 }

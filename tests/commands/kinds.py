@@ -169,9 +169,15 @@ def root_said(kind):
 
 
 def rest_said(kind, what):
-    """What is said where a record is of this kind, and what is checked by it of the other."""
-    return "this %s is of %s, and the record of %s: take the record that was made with it\n" % (
-        what, CALLED[1 - kind], CALLED[kind])
+    """What is said where a record is of this kind, and what is checked by it agrees with itself by
+    the other: never that another record is to be taken than the manual's."""
+    to_do = {"tree": "if it was recoded, recode it by the record that came with it, and compare the "
+                     "record that this gives with the manual's",
+             "sample": "ask for one of a tree of %s, or for the manual's record of %s" % (
+                 CALLED[kind], CALLED[1 - kind]),
+             "proof": "it is not against the volume of this record: turn it down"}
+    return "this %s agrees with itself as one of %s, and the record is of %s: %s\n" % (
+        what, CALLED[1 - kind], CALLED[kind], to_do[what])
 
 
 def doubted(room, words, doubt):
@@ -213,7 +219,8 @@ def test_changed_kinds(room):
 
 def test_mixed_kinds(room):
     """A volume and the same recoded, the one's record with the other's tree, sample or proof: at
-    depth 1 the trees are the same; else it is said that they are of two kinds."""
+    depth 1 the trees are the same; else it is said that they are of two kinds. Recoded by the record
+    that came with it, the tree gives the manual's record, and one that is forged another."""
     for depth, kind in both():
         coded, other = Coded(depth, 60, kind=kind).lay(), Coded(depth, 60, kind=1 - kind)
         put("record", other.record)
@@ -227,6 +234,17 @@ def test_mixed_kinds(room):
         put("proof", coded.repair().prove(base, 5, members[-1], members[:-1]))
         room.refused(7, "check-proof", "record", "table", "proof").says(
             rest_said(1 - kind, "proof"))
+        put("came", coded.record)
+        room.recodes(kind, "came", "table", "tree", "marks", "made")
+        need(contents("made") == other.files(), "recoded by the record that came")
+        shutil.rmtree("made")
+        forged = Coded(depth, 61, kind=kind).lay()
+        put("came", forged.record)
+        put("record", other.record)
+        doubted(room, WHOLE, rest_said(1 - kind, "tree"))
+        room.recodes(kind, "came", "table", "tree", "marks", "made")
+        need(slurp("made/record") != other.record, "a forged tree gives the manual's record")
+        shutil.rmtree("made")
 
 
 def test_other_records(room):

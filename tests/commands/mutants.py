@@ -222,9 +222,11 @@ SCRIPTS = [
     ("doubtless", "kinds.changed_kinds", telling("s/: this record says kind .*/./")),
     ("record-blaming", "kinds.mixed_kinds",
      '[ "$command" = check-sample ] && { %s; }'
-     % saying("s/this sample is of kind \\(.*\\), and .*/this record says kind \\1/")),
+     % saying("s/this sample agrees .* kind \\(.*\\), and .*/this record says kind \\1/")),
     ("tree-trusting", "kinds.mixed_kinds",
-     telling("s/this tree is of kind .*, and the/this tree is damaged; the/")),
+     telling("s/this tree agrees with itself as one of .*, and the/this tree is damaged; the/")),
+    ("record-taking", "kinds.mixed_kinds",
+     telling("s/if it was recoded, .*/take the record that came with it/")),
     ("one-hashing", "kinds.blank_pages",
      '[ "$command" != code ] || exec "$real" --plain "$@"'),
     ("wordless", "typed.print", telling("s/ placed/       /; s/ plain/      /")),
