@@ -2,7 +2,7 @@
 
 use crate::failure::{DAMAGED, ENDS};
 use crate::report::{layers, Layer, Pages};
-use crate::volume::{self, What};
+use crate::volume::{self, Other, What};
 use cedunmi::{Depth, End, Place, Repaired};
 
 /// Where what a repair shows goes.
@@ -48,15 +48,30 @@ pub fn report(repaired: &Repaired, compared: &Compared, shown: &Shown) -> String
 /// Half of the top layer: where so many of its pages are bad copies, the record may be another volume's.
 const HALF: usize = 8;
 
-/// Why pages of the top layer, most of which were held, don't fit the record.
-fn doubt(compared: &Compared) -> String {
-    let Compared { depth, record, before, .. } = compared;
-    let other = volume::of_tree(*depth, record, *before);
-    match other.and_then(|other| other.line(record, What::Tree)) {
-        Some(line) => format!("; most of them were held: {line}"),
-        None => {
-            "; most of them were held, and don't fit this record: is it the volume's?".to_string()
+impl Compared<'_> {
+    fn layer(&self, layer: usize) -> Layer {
+        Layer::compare(self.depth, layer, self.before, self.after)
+    }
+
+    /// Where it is for the record's kind that the top layer is lost: that it is, and what to do. A page by which the root
+    /// fits shows it for sure; a tree that agrees with itself only where half of the layer are bad copies.
+    pub fn by_kind(&self, end: &End) -> Option<String> {
+        if *end != (End::Unavailable { layer: 0 }) {
+            return None;
         }
+        let other = volume::of_tree(self.depth, self.record, self.before)?;
+        let shown = other == Other::Root || self.layer(0).bad.len() >= HALF;
+        other.line(self.record, What::Tree).filter(|_| shown)
+    }
+
+    /// What to do where no equation gives another page of a layer.
+    fn to_bring(&self, layer: usize) -> String {
+        let Layer { bad, missing, .. } = self.layer(layer);
+        let doubt = match layer == 0 && bad.len() >= HALF {
+            true => "; most of them were held, and don't fit this record: is it the volume's?",
+            false => "",
+        };
+        format!("bring some of its {} missing pages, and repair again{doubt}", missing.len())
     }
 }
 
@@ -70,14 +85,8 @@ pub fn ended(end: &End, compared: &Compared, shown: &Shown) -> String {
             format!("{}; the proof would have {} bytes", end.meaning(), proof.len())
         }
         (End::Unavailable { layer }, _) => {
-            let Compared { depth, before, after, .. } = compared;
-            let Layer { bad, missing, .. } = Layer::compare(*depth, *layer, *before, *after);
-            let count = missing.len();
-            let hint = match *layer == 0 && bad.len() >= HALF {
-                true => doubt(compared),
-                false => String::new(),
-            };
-            format!("unavailable: no equation gives another page of layer {layer}; bring some of its {count} missing pages, and repair again{hint}")
+            let to_do = compared.by_kind(end).unwrap_or_else(|| compared.to_bring(*layer));
+            format!("unavailable: no equation gives another page of layer {layer}; {to_do}")
         }
         (End::Twins { place, .. }, _) => {
             let at = place.map_or(String::new(), |place| twins_at(compared.depth, place));
@@ -223,7 +232,8 @@ mod tests {
         assert_eq!((now.0.lines().last(), now.1), (Some(last), 32));
     }
 
-    /// So they are where the record's kind was changed, and where tree and record are of two kinds: that is said.
+    /// So they are where the record's kind was changed, and where tree and record are of two kinds: that is said, and no page
+    /// is to be brought.
     #[test]
     fn another_kind() {
         let table = cedunmi::house_table(2).expect("the house table");
@@ -235,15 +245,23 @@ mod tests {
             let repaired = Repaired { stored: 0, end: End::Unavailable { layer: 0 } };
             let (text, ..) = told_by(record, repaired, &before, &after, &Shown::Nowhere);
             let line = text.lines().last().expect("an end");
-            line.split("; most of them were held").nth(1).expect("a doubt").to_string()
+            let end = "unavailable: no equation gives another page of layer 0; ";
+            line.strip_prefix(end).expect("this end").to_string()
         };
         let (placed, plain) = (code(Kind::Placed), code(Kind::Plain));
         let flipped = volume::of_other_kind(&placed.record);
-        let root = ": this record says kind 01, plain, but its root fits as one of kind 00, with places: compare it with the manual";
+        let root = "this record says kind 01, plain, but its root fits as one of kind 00, with places: compare it with the manual";
         assert_eq!(last(&placed.tree, vec![1; 48], &flipped), root);
-        let tree = ": this tree agrees with itself as one of kind 01, plain, and the record is of kind 00, with places: if it was recoded, recode it by the record that came with it, and compare the record that this gives with the manual's";
+        let tree = "this tree agrees with itself as one of kind 01, plain, and the record is of kind 00, with places: if it was recoded, recode it by the record that came with it, and compare the record that this gives with the manual's";
         assert_eq!(last(&plain.tree, vec![1; 48], &placed.record), tree);
-        let neither = ", and don't fit this record: is it the volume's?";
+        // One page shows it of the record; of the tree one page and its hash do not.
+        let but = |held: &[usize]| (0..48).map(|place| held.contains(&place).into()).collect();
+        assert_eq!(last(&placed.tree, but(&[15]), &flipped), root);
+        let bring = "bring some of its 13 missing pages, and repair again";
+        assert_eq!(last(&plain.tree, but(&[0, 16]), &placed.record), bring);
+        let neither = format!(
+            "{bring}; most of them were held, and don't fit this record: is it the volume's?"
+        );
         let top = [vec![1; 16], vec![0; 32]].concat();
         assert_eq!(last(&plain.tree, top, &placed.record), neither);
         assert_eq!(last(&[9; 12288], vec![1; 48], &placed.record), neither);

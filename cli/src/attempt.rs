@@ -86,6 +86,11 @@ impl After<'_> {
         answer::ended(&self.repaired.end, &self.compared(), &Shown::Nowhere)
     }
 
+    /// Where it is for the record's kind that the top layer is lost, that it is.
+    pub fn by_kind(&self) -> Option<String> {
+        self.compared().by_kind(&self.repaired.end)
+    }
+
     /// How many pages were absent, and how many bad.
     pub fn lacked(&self) -> (usize, usize) {
         lacked(self.depth, self.before(), self.now())

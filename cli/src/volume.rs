@@ -78,8 +78,8 @@ impl Other {
     }
 }
 
-/// Of a tree most of whose top layer doesn't fit its record, whether that is for the kind: by the other one a page of that
-/// layer fits the root, or one of the next layer a page of that.
+/// Of a tree whose top layer is lost by its record, whether that may be for the kind: by the other one a page of that layer
+/// fits the root, or one of the next layer a page of that.
 pub fn of_tree(depth: Depth, record: &[u8], pages: Pages) -> Option<Other> {
     let Record { kind, root, .. } = Record::read(record).ok()?;
     let fits = |layer: usize, number: usize, hashes: &[u8], slot: usize| {

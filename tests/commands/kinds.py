@@ -181,8 +181,9 @@ def rest_said(kind, what):
 
 
 def doubted(room, words, doubt):
-    """No command takes a tree by this record, and why is said; nothing is written in place."""
-    last = "; most of them were held: " + doubt
+    """No command takes a tree by this record, and why is said, in the place of pages that are to be
+    brought; nothing is written in place."""
+    last = "unavailable: no equation gives another page of layer 0; " + doubt
     for command in (("check",), ("repair",)):
         folder = ("made",) if command == ("repair",) else ()
         said = room.ends(32, *command, *words, *folder)
@@ -192,12 +193,13 @@ def doubted(room, words, doubt):
     room.refused(14, "recode", *words, "none").says(last)
     said = room.ends(32, "repair", "--in-place", *words, "none")
     need(said.out.decode().endswith(last), str(said) + ", but not:", last)
-    said.says("nothing was written")
+    said.says("nothing was written: fewer pages would be held than before; " + doubt)
 
 
 def test_changed_kinds(room):
     """A record whose kind was changed: no page fits, and it is said that the root would by the other
-    kind, of a damaged tree too; samples and proofs likewise."""
+    kind, of a damaged tree too, and where one page of the top layer is held; samples and proofs
+    likewise."""
     for depth, kind in both():
         coded = Coded(depth, 59, kind=kind).lay()
         put("record", by_hand.of_other_kind(coded.record))
@@ -206,6 +208,10 @@ def test_changed_kinds(room):
         room.refused(7, "check-sample", 3, "record", "sample").says(root_said(1 - kind))
         need(contents(".") == before, "something was changed")
         coded.harm(absent=range(0, 16, 2), bad=range(1, 14, 2))
+        put("tree", coded.tree)
+        put("marks", coded.marks)
+        doubted(room, WHOLE, root_said(1 - kind))
+        coded = Coded(depth, 59, kind=kind).harm(absent=[*range(11), *range(12, 16)])
         put("tree", coded.tree)
         put("marks", coded.marks)
         doubted(room, WHOLE, root_said(1 - kind))
@@ -230,6 +236,10 @@ def test_mixed_kinds(room):
             continue
         doubted(room, WHOLE, rest_said(1 - kind, "tree"))
         room.refused(7, "check-sample", 3, "record", "sample").says(rest_said(1 - kind, "sample"))
+        few = Coded(depth, 60, kind=kind).harm(absent=range(9))
+        put("few", few.marks)
+        said = room.ends(32, "check", "record", "table", "tree", "few")
+        need(said.out.endswith(b" missing pages, and repair again\n"), str(said))
         base, members = depth - 1, by_hand.house_members(depth - 1, 5)
         put("proof", coded.repair().prove(base, 5, members[-1], members[:-1]))
         room.refused(7, "check-proof", "record", "table", "proof").says(

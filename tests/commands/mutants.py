@@ -219,7 +219,11 @@ SCRIPTS = [
     ("kind-guessing", "kinds.changed_kinds",
      '[ "$command" = check ] && { "$real" "$@"; status=$?; [ $status != 32 ] || exit 0; '
      'exit $status; }'),
-    ("doubtless", "kinds.changed_kinds", telling("s/: this record says kind .*/./")),
+    ("doubtless", "kinds.changed_kinds", telling("s/; this record says kind .*/./")),
+    ("still-bringing", "kinds.changed_kinds",
+     telling("s/; this record says/; bring some of its 16 missing pages, and repair again&/")),
+    ("half-wanting", "kinds.changed_kinds",
+     telling("/ 15 absent, 1 bad/,$s/; this record says .*/; bring some of its 16 missing pages/")),
     ("record-blaming", "kinds.mixed_kinds",
      '[ "$command" = check-sample ] && { %s; }'
      % saying("s/this sample agrees .* kind \\(.*\\), and .*/this record says kind \\1/")),

@@ -78,7 +78,9 @@ fn not_written(after: &After, quiet: bool) -> Done {
     if !quiet {
         said::report(&after.report(&Shown::Nowhere))?;
     }
-    said::remark("nothing was written: fewer pages would be held than before; bring pages first, or repair into a FOLDER");
+    let to_do = after.by_kind();
+    let to_do = to_do.as_deref().unwrap_or("bring pages first, or repair into a FOLDER");
+    said::remark(&format!("nothing was written: fewer pages would be held than before; {to_do}"));
     Ok(answer::status(&after.repaired.end))
 }
 
