@@ -23,7 +23,7 @@ const TO_DO: &[(u8, &str)] = &[
     (11, "the lines after it say what is wrong with the record, its kind or its depth: leave DEPTH out, and compare the record with the manual, as cedunmi record prints it. A root of 512 bytes, as it was before there were records, is none"),
     (12, "get the table that the record names: the lines after it say its words and its SHA-256, and if it is the house table. By another table a sound volume would seem to have a fault. Where the SHA-256 is the same, the record has a wrong number of words: compare it with the manual"),
     (MISFILLED, FILL_UP),
-    (14, "mend the tree by cedunmi repair, and recode what that leaves: the lines after it say what a repair would do, and cedunmi check says more. Where pages are missing, bring some first; of a misfilled volume read the bytes, and code them anew; one with a fault is to be struck, not recoded"),
+    (14, "mend the tree by cedunmi repair, and recode what that leaves: the lines after it say what a repair would do, and cedunmi check says more. Where pages are missing, bring some first; of a misfilled volume see first that the record's length is the manual's, as cedunmi explain 43 says, and if it is, ask for it coded anew; one with a fault is to be struck, not recoded"),
     (DAMAGED, "mend the tree by cedunmi repair"),
     (31, "see that the record is the manual's; then send the proof to others, who strike the volume by it"),
     (32, "bring some of the missing pages from other shops, mark them, and repair again; but where the last line speaks of the kind, do what that says"),
@@ -97,5 +97,15 @@ mod tests {
             assert!(text.starts_with(&format!("{number}: ")) && text.lines().count() == 2);
             assert!(!text.contains("no call gives") && !text.contains("no repair has"));
         }
+    }
+
+    /// Of a misfilled volume 14 says what 43 says: the length is compared before anything is done with its bytes.
+    #[test]
+    fn lengths_are_compared_first() {
+        let (refused, ended) = (of(14).expect("a text"), of(43).expect("a text"));
+        assert!(ended.contains("\nto do: see that the record's length is the manual's. "));
+        let first = "of a misfilled volume see first that the record's length is the manual's, as cedunmi explain 43 says, ";
+        assert!(refused.contains(first) && !refused.contains(" read "));
+        assert!([refused, ended].iter().all(|text| text.contains("ask for it coded anew")));
     }
 }

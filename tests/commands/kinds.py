@@ -136,8 +136,8 @@ def test_other_ends(room):
                     "bring some of its 16 missing pages, and repair again\n")
         filled = Coded(depth, 57, length=700, kind=kind).misfilled(701)
         not_recoded(room, filled, end + by_hand.MISFILLED_SAID + "\n",
-                    "cedunmi check says more; read writes the volume all the same, which can be "
-                    "coded anew\n")
+                    "cedunmi check says more; see first that the record's length is the manual's: "
+                    "cedunmi explain 43\n")
         not_recoded(room, filled.harm(bad=[5]), end + "misfilled: ")
 
 

@@ -42,7 +42,9 @@ fn not_whole(source: &Attempt) -> Failure {
         _ => failure.and(format!("a repair would end so: {}", after.ended())),
     };
     let more = match after.repaired.end {
-        End::Misfilled => "; read writes the volume all the same, which can be coded anew",
+        End::Misfilled => {
+            "; see first that the record's length is the manual's: cedunmi explain 43"
+        }
         _ => "",
     };
     failure.and(format!("cedunmi check says more{more}"))
