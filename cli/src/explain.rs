@@ -16,7 +16,7 @@ const TO_DO: &[(u8, &str)] = &[
     (4, "the marks file is damaged: set that page's mark to 0, and repair"),
     (5, "give a number below 16, 32, 64, 128, 256, 512, 1024, 2048, 4096 at depth 1 to 9"),
     (6, "turn the proof down, unless the record is not the manual's"),
-    (7, "see that RECORD is the manual's, and that a sample is that of NUMBER; then ask again for the page that the second line says, put it at the bytes that it names, and check again. Turn down what does not come right: it is damaged, or of another volume"),
+    (7, "see that RECORD is the manual's, and that a sample is that of NUMBER; then, where the second line speaks of the kind, do what that says; if not, ask again for the page that it says, put it at the bytes that it names, and check again. Turn down what does not come right: it is damaged, or of another volume"),
     (8, "turn the proof down: the volume stays in the catalogue"),
     (9, "bring that page, or repair the tree"),
     (10, "contributor: put that page into at least two equations of its layer, or take the house table. Shop: ask for the volume coded anew; until then cedunmi read --unverified copies its pages, unchecked, if none of its data pages is lost"),
@@ -96,6 +96,15 @@ mod tests {
             let text = of(number).expect("a text");
             assert!(text.starts_with(&format!("{number}: ")) && text.lines().count() == 2);
             assert!(!text.contains("no call gives") && !text.contains("no repair has"));
+        }
+    }
+
+    /// Where the last line may say what is to be done for the kind, that is known.
+    #[test]
+    fn kinds_are_known() {
+        for (number, line) in [(7, "second"), (32, "last")] {
+            let known = format!("where the {line} line speaks of the kind, do what that says");
+            assert!(of(number).expect("a text").contains(&known));
         }
     }
 
