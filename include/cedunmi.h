@@ -335,7 +335,8 @@ static inline const char *cmt_explain(uint64_t number)
     case CMT_UNCOVERED:
         return "a data page stands in fewer than two equations of its layer";
     case CMT_WRONG_RECORD:
-        return "the record's head has a wrong kind, a length that is too large, or another depth than the call's";
+        return "the record's head, or what is to be coded, has a wrong kind; or the head has a length that is too large, "
+               "or another depth than the call's";
     case CMT_OTHER_TABLE:
         return "the table is not the one that the record names";
     case CMT_NOT_WHOLE:

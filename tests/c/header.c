@@ -257,7 +257,8 @@ static int texts_are_right(void)
         {CMT_ABSENT, "a needed page is absent"},
         {CMT_UNCOVERED, "a data page stands in fewer than two equations of its layer"},
         {CMT_WRONG_RECORD,
-         "the record's head has a wrong kind, a length that is too large, or another depth than the call's"},
+         "the record's head, or what is to be coded, has a wrong kind; or the head has a length that is too large, or "
+         "another depth than the call's"},
         {CMT_OTHER_TABLE, "the table is not the one that the record names"},
         {CMT_MISFILLED, none},
         {CMT_NOT_WHOLE, "the tree is not whole as it is, so it is not recoded"},

@@ -14,7 +14,10 @@ pub fn explain(number: u64) -> &'static str {
         8 => "the withheld hash fits: the proof shows no fault",
         9 => "a needed page is absent",
         10 => "a data page stands in fewer than two equations of its layer",
-        11 => "the record's head has a wrong kind, a length that is too large, or another depth than the call's",
+        11 => {
+            "the record's head, or what is to be coded, has a wrong kind; or the head has a length that is too large, or \
+             another depth than the call's"
+        }
         12 => "the table is not the one that the record names",
         14 => "the tree is not whole as it is, so it is not recoded",
         _ => "a number that no call gives",
