@@ -197,6 +197,7 @@ SCRIPTS = [
      '[ "$command $(head -c 1 record)" != "recode @" ] || exit 64'),
     ("way-misnaming", "kinds.recoding",
      telling("s/from \\(kind.*\\), to \\(kind.*\\)/from \\2, to \\1/")),
+    ("print-forgetting", "kinds.recoding", telling("/^print .*record for the manual/d")),
     ("length-dropping", "kinds.recoding",
      '[ "$command" = recode ] && { "$real" "$@"; status=$?; '
      'printf "\\200" | dd of="$last/record" bs=1 seek=4 conv=notrunc status=none; '

@@ -121,10 +121,12 @@ class Room:
         return self.works("code", *option, *words, says="coded: " + by_hand.CALLED[kind], **how)
 
     def recodes(self, kind, *words, **how):
-        """Runs `recode` with these words, which makes of a volume of this kind the same of the
-        other, and says so."""
-        both = by_hand.CALLED[kind], by_hand.CALLED[1 - kind]
-        return self.works("recode", *words, says="recoded: from %s, to %s" % both, **how)
+        """Runs `recode` with these words, the last of which is the folder, which makes of a volume
+        of this kind the same of the other, and says so, and what is to be done with its record."""
+        says = "recoded: from %s, to %s\nprint %s for the manual, and keep the old volume until it " \
+            "is there" % (by_hand.CALLED[kind], by_hand.CALLED[1 - kind],
+                          shown(os.fsencode(words[-1]) + b"/record"))
+        return self.works("recode", *words, says=says, **how)
 
     def refused(self, status, *words, **how):
         """Runs a command that ends so, says why, prints nothing, and has not touched a thing."""
@@ -133,6 +135,21 @@ class Room:
         need(not said.out, "%s, but it should print nothing" % said)
         unchanged(before, snapshot(touched=True), said)
         return said
+
+
+def shown(name):
+    """A name as the program shows it: in quotes, with escapes, where a character can't be seen."""
+    hidden = [*range(32), *range(0x7f, 0xa0), *range(0x200b, 0x2010), *range(0x2028, 0x202f),
+              *range(0x2066, 0x206a)]
+    try:
+        text = name.decode()
+        if not set(map(ord, text)) & set(hidden):
+            return text
+    except UnicodeDecodeError:
+        pass
+    escapes = {byte: "\\x%02x" % byte for byte in [*range(32), *range(127, 256)]}
+    escapes.update({10: "\\n", 34: '\\"', 92: "\\\\"})
+    return '"%s"' % "".join(escapes.get(byte, chr(byte)) for byte in name)
 
 
 def word_of(word):

@@ -5,9 +5,11 @@ use crate::arguments::Arguments;
 use crate::attempt::Attempt;
 use crate::failure::Failure;
 use crate::input::{stopped, Reader};
+use crate::name::shown;
 use crate::output::Output;
 use crate::volume::called;
 use cedunmi::{End, Record, Stop};
+use std::path::Path;
 
 pub fn run(arguments: &Arguments) -> Done {
     let (depth, [record, table, tree, marks, folder]) = arguments.take_after_depth()?;
@@ -23,8 +25,10 @@ pub fn run(arguments: &Arguments) -> Done {
     })?;
     let kind = Record::read(record).map_err(Failure::stopped)?.kind;
     code::put(output, &recoded)?;
-    let line = format!("recoded: from {}, to {}", called(kind), called(kind.other()));
-    made(arguments, &line)
+    let (from, to) = (called(kind), called(kind.other()));
+    let record = shown(Path::new(folder).join("record"));
+    let then = format!("print {record} for the manual, and keep the old volume until it is there");
+    made(arguments, &format!("recoded: from {from}, to {to}\n{then}"))
 }
 
 /// What a repair would have to do first, or why none would help.
