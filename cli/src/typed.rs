@@ -171,7 +171,7 @@ pub fn parse(text: &[u8]) -> Result<Typed, Slips> {
     }
     match slips.is_empty() {
         true => {
-            let kindless = !lines[0].words.iter().any(|word| says_kind(word));
+            let kindless = !lines[0].words.iter().any(|group| is_word(group, WORDS[0].1));
             Ok(Typed { record, unchecked: !form.checked && of_all.is_empty(), kindless })
         }
         false => Err(Slips::Lines(slips)),
@@ -344,9 +344,26 @@ fn kind_of(place: usize, said: Option<&str>) -> u32 {
     }
 }
 
-/// Whether a group of the depth's line has the kind in it.
-fn says_kind(group: &str) -> bool {
-    WORDS[0].1.iter().any(|word| group.contains(word))
+/// Whether a group is one of these words; the number may stand before it, and a check after it.
+fn is_word(group: &str, words: &[&str]) -> bool {
+    let group = group.trim_start_matches(|c: char| c.is_ascii_digit());
+    let mut checks = words.iter().filter_map(|word| group.strip_prefix(word));
+    checks.any(|check| {
+        [0, CHECK].contains(&check.len()) && check.chars().all(|c| c.is_ascii_hexdigit())
+    })
+}
+
+/// What is wrong with the groups of a line that have one of these words in them: one that is another word, as `placedd`
+/// is, or a second one.
+fn misworded(place: usize, groups: &[&str], words: &[&str]) -> Option<String> {
+    let has = |group: &&&str| words.iter().any(|word| group.contains(word));
+    let said: Vec<&str> = groups.iter().filter(has).copied().collect();
+    match said.iter().find(|group| !is_word(group, words)) {
+        Some(other) => Some(not_wanted(place, other, words)),
+        None if said.len() < 2 => None,
+        None if place == 0 => Some(format!("{} has two words for the kind", name(place))),
+        None => Some(format!("{} has the word {} twice", name(place), words.join(" or "))),
+    }
 }
 
 /// That a line in words has another word than these after its number, where it has; its last group may be a check.
@@ -354,9 +371,14 @@ fn other_word(place: usize, said: &str, words: &[&str], form: Form) -> Option<St
     let groups: Vec<&str> = said.split(' ').collect();
     let before = groups.len() - usize::from(form.checked);
     let other = groups[..before].iter().find(|group| no_digit(place, group).is_some())?;
-    let other = other.escape_default();
+    Some(not_wanted(place, other, words))
+}
+
+/// That a line has a word that is none of these.
+fn not_wanted(place: usize, other: &str, words: &[&str]) -> String {
     let wanted = if words.len() > 1 { "neither" } else { "not" };
-    Some(format!("{} has '{other}', which is {wanted} {}", name(place), words.join(" nor ")))
+    let other = other.escape_default();
+    format!("{} has '{other}', which is {wanted} {}", name(place), words.join(" nor "))
 }
 
 /// What is wrong with the groups of a line in words. Number and check are one each: were they put together, a check
@@ -382,6 +404,9 @@ fn word(
 ) -> Result<(Vec<u8>, String), String> {
     const MOST: u32 = (1 << 30) - 1;
     let (name, said) = (name(place), line.words[1..].join(" "));
+    if let Some(why) = misworded(place, &line.words[1..], words) {
+        return Err(why);
+    }
     let (value, after, check) = parted(&said, words);
     let other = no_digit(place, value).or_else(|| other_word(place, check, words, form));
     if let Some(why) = other.or_else(|| no_digit(place, check)) {

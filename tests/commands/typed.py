@@ -191,7 +191,10 @@ def test_slips_of_the_kind(room):
             need(named == {0}, "other lines are named:", named, wrong)
         said, _ = slip(room, [lines[0].replace(word, "plyced")] + lines[1:], 0)
         need(b"depth has 'plyced', which is neither placed nor plain\n" in said.err, str(said))
-        slip(room, ["depth 2 placed plain"] + bare(lines)[1:], 0)
+        for line, why in (("depth 2 placed plain", b"depth has two words for the kind\n"),
+                          ("depth 2 placedd", b"has 'placedd', which is neither placed nor plain\n")):
+            said, _ = slip(room, [line] + bare(lines)[1:], 0)
+            need(why in said.err, str(said))
 
 
 def test_no_checks(room):

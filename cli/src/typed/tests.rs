@@ -243,8 +243,19 @@ fn numbers_in_words_are_read() {
     let said = |at, line: &str| slips(&with(at, line)).concat();
     assert_eq!(said(0, "depth"), "line 1: depth has no number");
     assert_eq!(said(0, &format!("depth placed {depth}")), "line 1: depth has no number");
-    let twice = said(0, &format!("depth 5 placed placed {depth}"));
-    assert_eq!(twice, "line 1: depth has 'placed', which is neither placed nor plain");
+    for two in ["5 placed placed", "5 placed plain", "5 plain placed", "5placed plain"] {
+        let twice = said(0, &format!("depth {two} {depth}"));
+        assert_eq!(twice, "line 1: depth has two words for the kind", "{two}");
+    }
+    let twice = said(1, &format!("length 700 bytes bytes {length}"));
+    assert_eq!(twice, "line 2: length has the word bytes twice");
+    for other in ["placedd", "aplaced", "placedplain", "placed1", "placed:", "plain12345"] {
+        let found = said(0, &format!("depth 5 {other} {depth}"));
+        let wanted = format!("line 1: depth has '{other}', which is neither placed nor plain");
+        assert_eq!(found, wanted);
+    }
+    let found = said(2, &format!("table 1861 wordss {table}"));
+    assert_eq!(found, "line 3: table has 'wordss', which is not words");
     assert_eq!(
         said(1, "length 700 bytes"),
         "line 2: length has no check, and other lines have one"
@@ -300,6 +311,15 @@ fn a_check_that_was_left_on_is_no_number() {
     {
         assert_eq!(with(1, line).len(), 1, "{line}");
     }
+    // A word with a digit more is no word and a check.
+    for (at, line, other) in [
+        (0, "depth 5 placedd", "'placedd', which is neither placed nor plain"),
+        (0, "depth 5plaina", "'5plaina', which is neither placed nor plain"),
+        (1, "length 15 bytese", "'bytese', which is not bytes"),
+    ] {
+        assert_eq!(with(at, line), [format!("line {}: {} has {other}", at + 1, name(at))]);
+    }
+    assert_eq!(with(0, "depth 5 placed plain"), ["line 1: depth has two words for the kind"]);
     for line in ["length 15", "length: 15 bytes", "length 15bytes"] {
         let text = [&bare()[..1], &[line.to_string()], &bare()[2..]].concat();
         assert_eq!(parse(text.join("\n").as_bytes()).unwrap().record[4..8], [128, 0, 0, 15]);
