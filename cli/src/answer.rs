@@ -279,8 +279,8 @@ mod tests {
         assert!(plain.0.ends_with(&format!("0 missing\n{said}; they are in twins\n")));
         assert_eq!((plain.1, plain.2), (33, 33));
         assert!(now(None, Shown::Nowhere).0.ends_with(&format!("{said}\n")));
-        let place = Some(Place { layer: 1, number: 2 });
-        let at = ": two of page 18 of the tree, number 2 of layer 1";
+        let place = Some(Place { layer: 1, number: 9 });
+        let at = ": two of page 25 of the tree, number 9 of layer 1";
         let placed = now(place, Shown::In("twins"));
         assert!(placed.0.ends_with(&format!("{said}{at}; they are in twins\n")));
         assert!(now(place, Shown::Nowhere).0.ends_with(&format!("{said}{at}\n")));
