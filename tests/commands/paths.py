@@ -95,6 +95,18 @@ def test_other_numbers(room):
             need(all("the sample that of base page " in said for said in lines), "layer", layer)
 
 
+def test_other_numbers_of_equal_pages(room):
+    """The sample of base page 200 of a blank volume is taken under every number where it is plain,
+    and with places under those alone for which each page of it has the same bytes."""
+    table = by_hand.house_table(5)
+    for kind, taken in ((by_hand.PLAIN, range(256)), (by_hand.PLACED, (8, 104, 200))):
+        tree, root = by_hand.tree_of(5, table, bytes(16384), kind)
+        put("record", by_hand.head_of(5, 0, table, kind) + root)
+        put("sample", by_hand.sample(5, 200, tree))
+        for i in range(256):
+            room.ends(0 if i in taken else 7, "check-sample", i, "record", "sample")
+
+
 def test_other_tables(room):
     """A proof by another table than that of the record, which has members whose hashes stand in
     other slots: it breaks at its own layer, and what is to be asked for depends on the record."""
