@@ -111,7 +111,7 @@ fn comments(record: &Record) -> Result<String, Stop> {
         Kind::Placed => {
             "\
 # It is placed, of kind 00: each of these is the hash of a page's place and the
-# page, so that no two are equal.
+# page. If the volume is coded as it must be, no two are equal.
 "
         }
         Kind::Plain => "# It is plain, of kind 01: each of these is the hash of a page alone.\n",

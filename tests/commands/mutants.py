@@ -242,7 +242,8 @@ SCRIPTS = [
      '[ "$command" = typed ] && { sed "s/^\\(depth *2\\)  /\\1 placed /" text | '
      '"$real" typed - "$last"; exit; }'),
     ("kind-hinting-not", "typed.slips_of_the_kind", saying("s/, which is that of .*//")),
-    ("equal-calling", "typed.every_print", telling("s/so that no two are equal/some are equal/")),
+    ("equal-calling", "typed.every_print", telling("s/no two are equal/some are equal/")),
+    ("all-records-trusting", "typed.every_print", telling("s/If the volume is coded as .*, //")),
     ("always-equal-calling", "typed.every_print",
      telling("s/TABLE writes it[.]$/&\\n# the pages 7, 11 and 15 are zero/")),
     ("kind-blind", "records.kinds",

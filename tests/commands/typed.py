@@ -104,7 +104,7 @@ def test_every_print(room):
             need(("pages 7, 11 and 15 are zero" in said) == (plain and not table), text)
             need(("It is plain, of kind 01: " in said) == plain, text)
             need(("It is placed, of kind 00: " in said) == (not plain), text)
-            need(("no two are equal" in said) == (not plain), text)
+            need(("If the volume is coded as it must be, no two are equal" in said) == (not plain), text)
             need(("not the house table" in said) == bool(table), text)
             need(typed(room, text) == (record, b""), "not typed back:", text)
 
