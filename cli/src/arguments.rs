@@ -75,7 +75,12 @@ impl Arguments {
             }
         };
         if commands.map_or(false, |commands| !commands.contains(&self.command)) {
-            return Err(Failure::usage(format!("{} has no option {}", self.command, shown(word))));
+            let why = match (self.command, word.to_str()) {
+                ("recode", Some("--plain")) => ": the record says the kind, and the other is made",
+                _ => "",
+            };
+            let word = shown(word);
+            return Err(Failure::usage(format!("{} has no option {word}{why}", self.command)));
         }
         *option = true;
         Ok(())

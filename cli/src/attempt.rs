@@ -91,9 +91,11 @@ impl After<'_> {
         self.compared().by_kind(&self.repaired.end)
     }
 
-    /// How many pages were absent, and how many bad.
-    pub fn lacked(&self) -> (usize, usize) {
-        lacked(self.depth, self.before(), self.now())
+    /// How many pages were absent, and how many bad, in words.
+    pub fn lacked(&self) -> String {
+        let (absent, bad) = lacked(self.depth, self.before(), self.now());
+        let plural = if absent == 1 { "" } else { "s" };
+        format!("{absent} page{plural} absent, {bad} bad")
     }
 
     /// What a repair shows beside the tree: the name that it has in a folder, and its bytes.

@@ -154,10 +154,12 @@ def test_numbers(room):
             (7, "", ("check-sample", 1, 4, "record", "sample")),
             (9, "page 3", ("read", "--unverified", 1, "record", "tree", "lost", "none")),
             (9, "page 3", ("sample", 1, 3, "tree", "lost", "none")),
-            (14, "1 pages absent, 0 bad", ("recode", "record", "table", "tree", "lost", "none")),
+            (14, "1 page absent, 0 bad", ("recode", "record", "table", "tree", "lost", "none")),
             (14, "0 pages absent, 1 bad", ("recode", 1, "record", "table", "harmed", "marks",
                                            "none"))]:
         room.refused(status, *words).says(said)
+    room.ends(30, "read", "record", "table", "tree", "lost", "mended").says(
+        "but the tree is damaged: 1 page absent, 0 bad; repair it\n")
     room.works("read", "--unverified", 1, "record", "harmed", "marks", "unverified")
     need(slurp("unverified")[900] == ord("x"), "read --unverified looks at hashes")
 
@@ -254,6 +256,8 @@ def test_usage(room):
                   ("code", "--plain=yes", "table", "volume", "none"), ("code", "--plain", "table"),
                   ("table", "--force=yes", 1, "none"), ("table", "--forc", 1, "none")]:
         room.refused(64, *words)
+    room.refused(64, "recode", "--plain", *whole, "none").says(
+        "cedunmi: recode has no option --plain: the record says the kind, and the other is made\n")
     room.refused((1, 64), "table", 2 ** 64 + 1, "none")
     room.refused((5, 64), "sample", 1, 2 ** 64, "tree", "marks", "none")
 

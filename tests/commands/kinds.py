@@ -110,12 +110,11 @@ def test_damage(room):
     for depth, kind in both():
         for layer in sorted({0, 1, depth // 2, depth - 2, depth - 1} & set(range(depth))):
             place = by_hand.first(layer) + chance.randrange(by_hand.pages(layer))
-            mended = "a repair makes it whole: %d pages absent, %d bad; repair it, and recode what " \
-                "that leaves\n"
+            mended = "a repair makes it whole: %s bad; repair it, and recode what that leaves\n"
             absent = Coded(depth, 56, kind=kind).harm(absent=[place])
-            not_recoded(room, absent, mended % (1, 0))
+            not_recoded(room, absent, mended % "1 page absent, 0")
             bad = Coded(depth, 56, kind=kind).harm(bad=[place])
-            not_recoded(room, bad, mended % (0, 1))
+            not_recoded(room, bad, mended % "0 pages absent, 1")
         room.ends(0, "-q", "repair", *WHOLE, "mended")
         room.recodes(kind, "record", "table", "mended/tree", "mended/marks", "made")
         need(contents("made") == Coded(depth, 56, kind=1 - kind).files(), "mended and recoded")

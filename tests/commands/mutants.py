@@ -209,7 +209,7 @@ SCRIPTS = [
      'exit $status; }'),
     ("advice-dropping", "kinds.damage", saying("/a repair makes it whole/d")),
     ("lack-misnaming", "kinds.damage",
-     saying("s/\\([0-9]*\\) pages absent, \\([0-9]*\\) bad/\\2 pages absent, \\1 bad/")),
+     saying("s/\\([0-9]*\\) pages* absent, \\([0-9]*\\) bad/\\2 pages absent, \\1 bad/")),
     ("filling-recoding", "kinds.other_ends",
      '[ "$command" = recode ] && { "$real" -q check record table tree marks; '
      '[ $? != 43 ] || { mkdir none; cp tree marks record none; exit 0; }; }'),

@@ -104,7 +104,8 @@ def test_every_print(room):
             need(("pages 7, 11 and 15 are zero" in said) == (plain and not table), text)
             need(("It is plain, of kind 01: " in said) == plain, text)
             need(("It is placed, of kind 00: " in said) == (not plain), text)
-            need(("If the volume is coded as it must be, no two are equal" in said) == (not plain), text)
+            differ = "If the volume is coded as it must be, no two are equal."
+            need((differ in said) == (not plain), text)
             need(("not the house table" in said) == bool(table), text)
             need(typed(room, text) == (record, b""), "not typed back:", text)
 
@@ -192,7 +193,7 @@ def test_slips_of_the_kind(room):
         said, _ = slip(room, [lines[0].replace(word, "plyced")] + lines[1:], 0)
         need(b"depth has 'plyced', which is neither placed nor plain\n" in said.err, str(said))
         for line, why in (("depth 2 placed plain", b"depth has two words for the kind\n"),
-                          ("depth 2 placedd", b"has 'placedd', which is neither placed nor plain\n")):
+                          ("depth 2 placedd", b"'placedd', which is neither placed nor plain\n")):
             said, _ = slip(room, [line] + bare(lines)[1:], 0)
             need(why in said.err, str(said))
 

@@ -40,8 +40,10 @@ pub fn run(arguments: &Arguments) -> Done {
 fn remarks(after: &After) -> Vec<String> {
     let mut lines = Vec::new();
     if after.repaired.stored != 0 {
-        let (absent, bad) = after.lacked();
-        lines.push(format!("the volume is right by record and table, but the tree is damaged: {absent} pages absent, {bad} bad; repair it"));
+        let lacked = after.lacked();
+        lines.push(format!(
+            "the volume is right by record and table, but the tree is damaged: {lacked}; repair it"
+        ));
     }
     if after.repaired.end == End::Misfilled {
         lines.push("the volume is right by record and table, but misfilled: what fills it up isn't zero: cedunmi explain 43".to_string());

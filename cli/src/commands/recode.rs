@@ -38,10 +38,10 @@ fn not_whole(source: &Attempt) -> Failure {
         Ok(after) => after,
         Err(_) => return failure,
     };
-    let (absent, bad) = after.lacked();
     let failure = match after.repaired.end {
         End::Whole => failure.and(format!(
-            "a repair makes it whole: {absent} pages absent, {bad} bad; repair it, and recode what that leaves"
+            "a repair makes it whole: {}; repair it, and recode what that leaves",
+            after.lacked()
         )),
         _ => failure.and(format!("a repair would end so: {}", after.ended())),
     };
