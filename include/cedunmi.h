@@ -34,6 +34,8 @@
  *  14  stopped: the tree is not one that a repair calls whole with nothing stored,
  *      so it is not recoded
  *
+ * 13 is none of them: it is an end of a repair, CMT_MISFILLED, which stops nothing.
+ *
  * A call makes its tests in the order in which its numbers are listed below,
  * and stops at the first that fails. A call that stops changes no byte of any
  * buffer. The bits above the low eight are the values that go with the number:
@@ -579,7 +581,8 @@ uint64_t cmt_repair(uint64_t depth, const uint8_t *record, size_t record_len,
  * Recodes a volume: makes of a plain one the same with places, or of one with
  * places the same plain. The record says of which kind it is. Tree and marks must
  * be what a repair calls whole and leaves as they are; nothing is repaired here.
- * Record, table, tree and marks are only read. All lengths are exact, those of
+ * Record, table, tree and marks are only read. It does not work in place: the new
+ * buffers must not overlap these, nor each other. All lengths are exact, those of
  * what is written too: new_tree has CMT_TREE_BYTES(depth), new_marks
  * CMT_MARKS_BYTES(depth), new_record CMT_RECORD_BYTES.
  *
