@@ -97,14 +97,20 @@ fn block_lengths(c: &mut Comparisons) -> Compared {
     Ok(())
 }
 
+/// A tree that the reference wrote, with its record, to be read back.
+fn coded_tree(depth: usize, random: &mut Random) -> Input {
+    let mut input = to_read(depth, random);
+    let words = some_table(depth, random);
+    let volume = Volume::new(depth, &words, random);
+    (input["record"], input["tree"]) = (volume.record, volume.tree);
+    input
+}
+
 /// Trees that the reference wrote.
 fn coded_trees(c: &mut Comparisons) -> Compared {
     for &depth in c.sizes {
         for _ in 0..turns(depth, 40) {
-            let mut input = to_read(depth, &mut c.random);
-            let words = some_table(depth, &mut c.random);
-            let volume = Volume::new(depth, &words, &mut c.random);
-            (input["record"], input["tree"]) = (volume.record, volume.tree);
+            let input = coded_tree(depth, &mut c.random);
             c.make_done("a coded tree", &input)?;
         }
     }
@@ -115,10 +121,7 @@ fn coded_trees(c: &mut Comparisons) -> Compared {
 fn other_kinds(c: &mut Comparisons) -> Compared {
     for &depth in c.sizes {
         for _ in 0..turns(depth, 12) {
-            let mut input = to_read(depth, &mut c.random);
-            let words = some_table(depth, &mut c.random);
-            let volume = Volume::new(depth, &words, &mut c.random);
-            (input["record"], input["tree"]) = (volume.record, volume.tree);
+            let mut input = coded_tree(depth, &mut c.random);
             for kind in KINDS {
                 put_kind(&mut input, DEPTH_WORD, kind as u32);
                 c.make_done("a record of either kind", &input)?;

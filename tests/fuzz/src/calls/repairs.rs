@@ -2,6 +2,8 @@
 
 use super::Target;
 use crate::recipe::Recipe;
+use differential::input::Input;
+use differential::random::Random;
 use differential::volumes::Volume;
 use differential::{proofs, recodings, repairs};
 use reference::proof::{Head, HEAD};
@@ -27,24 +29,17 @@ pub static PROOF_CHECK: Target = Target {
     },
 };
 
-pub static RECODE: Target = Target {
-    call: &recodings::RECODE,
-    input: |recipe| {
-        let volume = recipe.volume();
-        let mut input = recodings::of(&volume, &mut recipe.random());
-        input.set("depth", recipe.asked(volume.depth));
-        recipe.record(&mut input);
-        input
-    },
-};
+/// A tree to repair or to recode, as the call is lent it.
+fn tree_to(lent: fn(&Volume, &mut Random) -> Input, recipe: &mut Recipe) -> Input {
+    let volume = recipe.volume();
+    let mut input = lent(&volume, &mut recipe.random());
+    input.set("depth", recipe.asked(volume.depth));
+    recipe.record(&mut input);
+    input
+}
 
-pub static REPAIR: Target = Target {
-    call: &repairs::REPAIR,
-    input: |recipe| {
-        let volume = recipe.volume();
-        let mut input = repairs::of(&volume, &mut recipe.random());
-        input.set("depth", recipe.asked(volume.depth));
-        recipe.record(&mut input);
-        input
-    },
-};
+pub static RECODE: Target =
+    Target { call: &recodings::RECODE, input: |recipe| tree_to(recodings::of, recipe) };
+
+pub static REPAIR: Target =
+    Target { call: &repairs::REPAIR, input: |recipe| tree_to(repairs::of, recipe) };
