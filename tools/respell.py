@@ -51,6 +51,8 @@ def declared():
             m = DECLARED.match(line) or MODULE.match(line)
             if m and not line.lstrip().startswith(("--", "use ", "mod ", "pub mod ")):
                 (definitions if "/specs/" in p else others).add(m.group(1))
+    for p in [*files(), *glob.glob("crates/*/src/**/*.rt", recursive=True)]:
+        others.update(re.findall(r"[{ ]\S+ as ([a-z]\w*[A-Z]\w*)", "\n".join(re.findall(r"^(?:ghost )?use .*$", read(p), re.M))))
     return definitions, others
 
 
@@ -61,7 +63,7 @@ def imported():
         for line in read(p).splitlines():
             m = IMPORT.match(line)
             if m and not (m.group(1).startswith("Rattle.") and not m.group(1).startswith("Rattle.std")):
-                names.update(n.strip().split(" as ")[0] for n in m.group(2).split(","))
+                names.update(n.strip().split(" as ")[0].strip() for n in m.group(2).split(","))
     return names
 
 

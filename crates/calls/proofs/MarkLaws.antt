@@ -8,19 +8,19 @@ use native.Mathlib.Omega.{arith}
 use lib.Dec.{ltb}
 use lib.ListN.{get_or, length}
 use borrow.Author.Tests.{le-ltb, lt-ltb, ltb-false, ltb-true}
-use Rattle.calls.specs.Marks.{isBad, lowestBad}
+use Rattle.calls.specs.Marks.{is_bad, lowest_bad}
 use Rattle.model.proofs.Counts.{lowest-is}
 use Rattle.model.proofs.Members.{every-below}
 use Rattle.octets.proofs.Choice.{yes_and}
 use Rattle.parity_table.specs.Members.{every}
 
-pub bad-yes : (m : List ℕ) (p : ℕ) → 1 < get_or m p 0 → isBad m p ≡ true
-unfolding isBad
-bad-yes m p h = lt-ltb 1 (get_or m p 0) h
+pub bad_yes : (m : List ℕ) (p : ℕ) → 1 < get_or m p 0 → is_bad m p ≡ true
+unfolding is_bad
+bad_yes m p h = lt-ltb 1 (get_or m p 0) h
 
-pub bad-no : (m : List ℕ) (p : ℕ) → get_or m p 0 ≤ 1 → isBad m p ≡ false
-unfolding isBad
-bad-no m p h = le-ltb 1 (get_or m p 0) h
+pub bad_no : (m : List ℕ) (p : ℕ) → get_or m p 0 ≤ 1 → is_bad m p ≡ false
+unfolding is_bad
+bad_no m p h = le-ltb 1 (get_or m p 0) h
 
 -- ---- test 4 passes exactly where every mark is 0 or 1
 
@@ -29,17 +29,17 @@ unfolding every
 every-low [] h = refl
 every-low (v ∷ m) h = yes_and (lt-ltb v 2 (h 0 (omega arith))) (every-low m (λ p l. h (suc p) (omega arith)))
 
-pub passed-marks : (m : List ℕ) → length m ≤ lowestBad m → every (λ v. ltb v 2) m ≡ true
-unfolding isBad
+pub passed-marks : (m : List ℕ) → length m ≤ lowest_bad m → every (λ v. ltb v 2) m ≡ true
+unfolding is_bad
 passed-marks m h =
     every-low m
-    (λ p l. omega (arith, ltb-false 1 (get_or m p 0) ((lowest-is (isBad m) 0 (length m)).before p (omega arith) (omega arith))))
+    (λ p l. omega (arith, ltb-false 1 (get_or m p 0) ((lowest-is (is_bad m) 0 (length m)).before p (omega arith) (omega arith))))
 
-pub marks-pass : (m : List ℕ) → every (λ v. ltb v 2) m ≡ true → length m ≤ lowestBad m
-unfolding isBad
-marks-pass m a =
-    let low = lowest-is (isBad m) 0 (length m) in
-    elim (dec_lt (lowestBad m) (length m)) [
-      | yes h ↦ absurd (omega (arith, ltb-true 1 (get_or m (lowestBad m) 0) (low.found (omega arith)), every-below 2 m a (lowestBad m) h))
+pub marks_pass : (m : List ℕ) → every (λ v. ltb v 2) m ≡ true → length m ≤ lowest_bad m
+unfolding is_bad
+marks_pass m a =
+    let low = lowest-is (is_bad m) 0 (length m) in
+    elim (dec_lt (lowest_bad m) (length m)) [
+      | yes h ↦ absurd (omega (arith, ltb-true 1 (get_or m (lowest_bad m) 0) (low.found (omega arith)), every-below 2 m a (lowest_bad m) h))
       | no h ↦ omega arith
     ]

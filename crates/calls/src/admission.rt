@@ -1,9 +1,9 @@
 // Tests 1 and 2, then those of a record and of a table. A call that is lent a table makes its words and index in buffers of its own, which the cores take.
 ghost use Rattle.std.specs.Prelude.{◌≡◌, true, ◌&&◌, ◌≤◌, length, take};
 ghost use Rattle.parity_table.specs.Parse.{index_of, over};
-ghost use Rattle.calls.specs.Room.{Room, WordsRoom, stopsAtDepth};
-ghost use Rattle.table_bytes.specs.Bytes.{lengthFits};
-ghost use Rattle.calls.specs.Tests.{opened, headed, admitted, admittedBy, left, wordsLeft, startsLeft};
+ghost use Rattle.calls.specs.Room.{Room, WordsRoom, stops_at_depth};
+ghost use Rattle.table_bytes.specs.Bytes.{length_fits};
+ghost use Rattle.calls.specs.Tests.{opened, headed, admitted, admitted_by, left, words_left, starts_left};
 
 use crate::records::{test_head, test_named};
 use crate::{Answer, Stop, check_words, numbers_of};
@@ -38,7 +38,7 @@ pub fn enter_by(depth: usize, sized: bool, root_record: &[u8]) -> Answer
 fn test_table(depth: usize, sized: bool, table: &[u8], words: &mut [u32]) -> Answer
     requires { WordsRoom depth words.old }
     ensures { (result ≡ admitted depth sized table.now)
-        × (words.new ≡ wordsLeft depth sized table.now words.old) }
+        × (words.new ≡ words_left depth sized table.now words.old) }
 {
     if let Answer::Stopped(s) = enter(depth, sized) {
         return Answer::Stopped(s);
@@ -53,7 +53,7 @@ fn test_table(depth: usize, sized: bool, table: &[u8], words: &mut [u32]) -> Ans
 // Whether a function with large arrays is to call itself, at depth 0, where the answer is 1. It never does, since it is entered at a depth that fits:
 // but the compiler takes no function that calls itself into another's frame, so that these arrays are on the stack of a deeper call alone.
 pub fn stops_at_depth(depth: usize, a: Answer) -> bool
-    ensures { result ≡ stopsAtDepth depth a }
+    ensures { result ≡ stops_at_depth depth a }
 {
     let n = numbers_of(a);
     if n.number != 1 {
@@ -103,8 +103,8 @@ pub fn admit(
 ) -> Answer
     requires { Room depth words.old starts.old }
     ensures { (result ≡ admitted depth sized table.now)
-        × (words.new ≡ wordsLeft depth sized table.now words.old)
-        × (starts.new ≡ startsLeft depth sized table.now starts.old) }
+        × (words.new ≡ words_left depth sized table.now words.old)
+        × (starts.new ≡ starts_left depth sized table.now starts.old) }
 {
     if let Answer::Stopped(s) = test_table(depth, sized, table, words) {
         return Answer::Stopped(s);
@@ -116,7 +116,7 @@ pub fn admit(
 // Tests 1, 2, 11 of a call that is lent a table too.
 fn enter_with(depth: usize, sized: bool, root_record: &[u8], table: usize) -> Answer
     requires { sized ≡ true → length root_record.now ≡ 556 }
-    ensures { result ≡ headed depth (sized && lengthFits table) root_record.now }
+    ensures { result ≡ headed depth (sized && length_fits table) root_record.now }
 {
     if !length_fits(table) {
         return enter(depth, false);
@@ -134,13 +134,13 @@ pub fn admit_by(
     starts: &mut [usize],
 ) -> Answer
     requires { Room depth words.old starts.old × (sized ≡ true → length root_record.now ≡ 556) }
-    ensures { (result ≡ admittedBy depth sized root_record.now table.now)
+    ensures { (result ≡ admitted_by depth sized root_record.now table.now)
         × (words.new
-        ≡ left (headed depth (sized && lengthFits (length table.now)) root_record.now)
-        (wordsLeft depth sized table.now words.old) words.old)
+        ≡ left (headed depth (sized && length_fits (length table.now)) root_record.now)
+        (words_left depth sized table.now words.old) words.old)
         × (starts.new
-        ≡ left (headed depth (sized && lengthFits (length table.now)) root_record.now)
-        (startsLeft depth sized table.now starts.old) starts.old) }
+        ≡ left (headed depth (sized && length_fits (length table.now)) root_record.now)
+        (starts_left depth sized table.now starts.old) starts.old) }
 {
     if let Answer::Stopped(s) = enter_with(depth, sized, root_record, table.len()) {
         return Answer::Stopped(s);

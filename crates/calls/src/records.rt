@@ -1,15 +1,15 @@
 // Tests 11 and 12: a record's head, and the table that it names.
 ghost use Rattle.std.specs.Prelude.{◌≡◌, ◌≤◌, length};
 ghost use Rattle.sha256.specs.Call.{longest};
-ghost use Rattle.parity_table.specs.Shape.{maxDepth};
-ghost use Rattle.calls.specs.Tests.{testHead, testNamed};
+ghost use Rattle.parity_table.specs.Shape.{max_depth};
+ghost use Rattle.calls.specs.Tests.{test_head, test_named};
 
 use crate::{Answer, Stop};
 use root_record::{head_right, names_table};
 
 pub fn test_head(depth: usize, root_record: &[u8]) -> Answer
-    requires { (1 ≤ depth) × (depth ≤ maxDepth) × (length root_record.now ≡ 556) }
-    ensures { result ≡ testHead depth root_record.now }
+    requires { (1 ≤ depth) × (depth ≤ max_depth) × (length root_record.now ≡ 556) }
+    ensures { result ≡ test_head depth root_record.now }
 {
     if !head_right(depth, root_record) {
         return Answer::Stopped(Stop::Record);
@@ -19,7 +19,7 @@ pub fn test_head(depth: usize, root_record: &[u8]) -> Answer
 
 pub fn test_named(root_record: &[u8], table: &[u8]) -> Answer
     requires { (length root_record.now ≡ 556) × (length table.now ≤ longest) }
-    ensures { result ≡ testNamed root_record.now table.now }
+    ensures { result ≡ test_named root_record.now table.now }
 {
     if !names_table(root_record, table) {
         return Answer::Stopped(Stop::OtherTable);

@@ -16,12 +16,12 @@ use Rattle.sample_calls.specs.Taking.{SampleLeft}
 use Rattle.sample_calls.specs.Taking as taking
 use Rattle.fault_calls.specs.Repairing.{Result, RepairLeft}
 use Rattle.fault_calls.specs.Repairing as repairing
-use Rattle.cedunmi_c.specs.Result.{packed, hashAnswer, callResult, repairResult, treeInC, blockInC, sampleInC, repairInC}
+use Rattle.cedunmi_c.specs.Result.{packed, hash_answer, call_result, repair_result, tree_in_c, block_in_c, sample_in_c, repair_in_c}
 
 -- the hasher's answer has no value
-pub small-hash : (a : Hashed) → Small (hashAnswer a)
-small-hash hashed.Done = small_plain refl
-small-hash hashed.Length = small_plain refl
+pub small_hash : (a : Hashed) → Small (hash_answer a)
+small_hash hashed.Done = small_plain refl
+small_hash hashed.Length = small_plain refl
 
 pub packed-is : (n n' f f' s s' : ℕ) → n ≡ n' → f ≡ f' → s ≡ s' → packed n (f, s) ≡ packed n' (f', s')
 packed-is n n' f f' s s' p q r =
@@ -29,16 +29,16 @@ packed-is n n' f f' s s' p q r =
 
 -- ---- a call that answers a and leaves these buffers, r being the number of a
 
-module _ (r : ℕ) (a : Answer) (e : r ≡ callResult a) where
-  pub tree-left : (t m root : List ℕ) (w : TreeLeft Answer) → writing.leaves a t m root ≡ w → writing.leaves r t m root ≡ treeInC w
-  tree-left t m root w q = ap (λ (x : ℕ). writing.leaves x t m root) e ∙ ap treeInC q
+module _ (r : ℕ) (a : Answer) (e : r ≡ call_result a) where
+  pub tree-left : (t m root : List ℕ) (w : TreeLeft Answer) → writing.leaves a t m root ≡ w → writing.leaves r t m root ≡ tree_in_c w
+  tree-left t m root w q = ap (λ (x : ℕ). writing.leaves x t m root) e ∙ ap tree_in_c q
 
-  pub block-left : (b : List ℕ) (w : BlockLeft Answer) → reading.leaves a b ≡ w → reading.leaves r b ≡ blockInC w
-  block-left b w q = ap (λ (x : ℕ). reading.leaves x b) e ∙ ap blockInC q
+  pub block-left : (b : List ℕ) (w : BlockLeft Answer) → reading.leaves a b ≡ w → reading.leaves r b ≡ block_in_c w
+  block-left b w q = ap (λ (x : ℕ). reading.leaves x b) e ∙ ap block_in_c q
 
-  pub sample-left : (s : List ℕ) (w : SampleLeft Answer) → taking.leaves a s ≡ w → taking.leaves r s ≡ sampleInC w
-  sample-left s w q = ap (λ (x : ℕ). taking.leaves x s) e ∙ ap sampleInC q
+  pub sample-left : (s : List ℕ) (w : SampleLeft Answer) → taking.leaves a s ≡ w → taking.leaves r s ≡ sample_in_c w
+  sample-left s w q = ap (λ (x : ℕ). taking.leaves x s) e ∙ ap sample_in_c q
 
-pub repair-left : (kind : Kind) (r : ℕ) (a : Result) → r ≡ repairResult kind a → (t m o : List ℕ) (w : RepairLeft Result) → repairing.leaves a t m o ≡ w
-    → repairing.leaves r t m o ≡ repairInC kind w
-repair-left kind r a e t m o w q = ap (λ (x : ℕ). repairing.leaves x t m o) e ∙ ap (repairInC kind) q
+pub repair-left : (kind : Kind) (r : ℕ) (a : Result) → r ≡ repair_result kind a → (t m o : List ℕ) (w : RepairLeft Result) → repairing.leaves a t m o ≡ w
+    → repairing.leaves r t m o ≡ repair_in_c kind w
+repair-left kind r a e t m o w q = ap (λ (x : ℕ). repairing.leaves x t m o) e ∙ ap (repair_in_c kind) q

@@ -2,22 +2,22 @@
 ghost use Rattle.std.specs.Prelude.{◌≡◌, true, ◌+◌, ◌*◌, ◌^◌, ◌<◌, length};
 ghost use Rattle.octets.specs.BigEndian.{bytes_of};
 ghost use Rattle.sha256.specs.Call.{answer, after};
-ghost use Rattle.house_table.specs.House.{houseWords, houseAnswer, houseOut};
+ghost use Rattle.house_table.specs.House.{house_words, house_answer, house_out};
 ghost use Rattle.calls.specs.Stops.{Small};
-ghost use Rattle.calls.specs.Tests.{readAnswer, admitted};
-ghost use Rattle.root_record.specs.Records.{kindIn};
-ghost use Rattle.volume_calls.specs.Writing.{treeWrittenBy};
+ghost use Rattle.calls.specs.Tests.{read_answer, admitted};
+ghost use Rattle.root_record.specs.Records.{kind_in};
+ghost use Rattle.volume_calls.specs.Writing.{tree_written_by};
 ghost use Rattle.volume_calls.specs.Writing as writing;
 ghost use Rattle.volume_calls.specs.Reading.{block_read};
 ghost use Rattle.volume_calls.specs.Reading as reading;
-ghost use Rattle.sample_calls.specs.Taking.{sampleTaken};
+ghost use Rattle.sample_calls.specs.Taking.{sample_taken};
 ghost use Rattle.sample_calls.specs.Taking as taking;
-ghost use Rattle.sample_calls.specs.Checking.{sampleChecked};
-ghost use Rattle.fault_calls.specs.Checking.{proofChecked};
-ghost use Rattle.fault_calls.specs.Repairing.{outcomeOf, Fits, Recorded};
+ghost use Rattle.sample_calls.specs.Checking.{sample_checked};
+ghost use Rattle.fault_calls.specs.Checking.{proof_checked};
+ghost use Rattle.fault_calls.specs.Repairing.{outcome_of, Fits, Recorded};
 ghost use Rattle.fault_calls.specs.Repairing as repairing;
 ghost use Rattle.recoding.specs.Recoding.{recoded};
-ghost use Rattle.cedunmi_c.specs.Result.{packed, hashAnswer, callResult, repairResult, treeInC, blockInC, sampleInC, repairedInC};
+ghost use Rattle.cedunmi_c.specs.Result.{packed, hash_answer, call_result, repair_result, tree_in_c, block_in_c, sample_in_c, repaired_in_c};
 
 use calls::{Answer, Numbers, Stop, numbers_of};
 use fault_calls::{Ending, Outcome, ending_of, misfilled};
@@ -36,7 +36,7 @@ fn pack(n: Numbers) -> u64
 
 fn call_result(a: Answer) -> u64
     requires { Small a }
-    ensures { result ≡ callResult a }
+    ensures { result ≡ call_result a }
 {
     pack(numbers_of(a))
 }
@@ -57,8 +57,8 @@ fn end_result(e: Ending) -> u64
 }
 
 fn repair_result(root_record: &[u8], o: Outcome) -> u64
-    requires { Fits (kindIn root_record.now) (outcomeOf o) × Recorded (length root_record.now) (outcomeOf o) }
-    ensures { result ≡ repairResult (kindIn root_record.now) (outcomeOf o) }
+    requires { Fits (kind_in root_record.now) (outcome_of o) × Recorded (length root_record.now) (outcome_of o) }
+    ensures { result ≡ repair_result (kind_in root_record.now) (outcome_of o) }
 {
     match o {
         Outcome::Ended(r) => end_result(ending_of(root_record::kind(root_record), r)),
@@ -69,7 +69,7 @@ fn repair_result(root_record: &[u8], o: Outcome) -> u64
 
 // The hasher's answer as a call's.
 fn hash_answer(a: Hashed) -> Answer
-    ensures { result ≡ hashAnswer a }
+    ensures { result ≡ hash_answer a }
 {
     match a {
         Hashed::Done => Answer::Done,
@@ -80,7 +80,7 @@ fn hash_answer(a: Hashed) -> Answer
 // The SHA-256 of a message of at most 1,048,576 bytes into a digest of 32. 0: done; 2: a length is wrong, and nothing changed.
 #[unsafe(no_mangle)]
 pub extern "C" fn cmt_sha256(message: &[u8], digest: &mut [u8]) -> u64
-    ensures { (result ≡ callResult (hashAnswer (answer message.now digest.old)))
+    ensures { (result ≡ call_result (hash_answer (answer message.now digest.old)))
         × (digest.new ≡ after message.now digest.old) }
 {
     call_result(hash_answer(sha256::digest(message, digest)))
@@ -90,7 +90,7 @@ pub extern "C" fn cmt_sha256(message: &[u8], digest: &mut [u8]) -> u64
 // 10: the first layer with a data symbol in fewer than two of its equations, and the lowest such symbol.
 #[unsafe(no_mangle)]
 pub extern "C" fn cmt_table_check(depth: u64, table: &[u8]) -> u64
-    ensures { result ≡ callResult (admitted depth true table.now) }
+    ensures { result ≡ call_result (admitted depth true table.now) }
 {
     call_result(calls::check_table(depth as usize, table))
 }
@@ -98,9 +98,9 @@ pub extern "C" fn cmt_table_check(depth: u64, table: &[u8]) -> u64
 // The house table of this depth into exactly as many bytes as it has. 1: the depth; 2: the length; and nothing changed.
 #[unsafe(no_mangle)]
 pub extern "C" fn cmt_house_table(depth: u64, table: &mut [u8]) -> u64
-    ensures { (result ≡ callResult (readAnswer (houseAnswer depth (length table.old) (length (houseWords depth) * 4))))
+    ensures { (result ≡ call_result (read_answer (house_answer depth (length table.old) (length (house_words depth) * 4))))
         × (table.new
-        ≡ houseOut (houseAnswer depth (length table.old) (length (houseWords depth) * 4)) (bytes_of (houseWords depth))
+        ≡ house_out (house_answer depth (length table.old) (length (house_words depth) * 4)) (bytes_of (house_words depth))
         table.old) }
 {
     call_result(calls::answer_of(house_table::write_bytes(table, depth as usize)))
@@ -119,7 +119,7 @@ pub extern "C" fn cmt_tree_write(
     root_record: &mut [u8],
 ) -> u64
     ensures { writing.leaves result tree.new marks.new root_record.new
-        ≡ treeInC (treeWrittenBy depth kind table.now block.now tree.old marks.old root_record.old) }
+        ≡ tree_in_c (tree_written_by depth kind table.now block.now tree.old marks.old root_record.old) }
 {
     call_result(volume_calls::write_tree_by(
         depth as usize,
@@ -143,7 +143,7 @@ pub extern "C" fn cmt_block_read(
     block: &mut [u8],
 ) -> u64
     ensures { reading.leaves result block.new
-        ≡ blockInC (block_read depth root_record.now tree.now marks.now block.old) }
+        ≡ block_in_c (block_read depth root_record.now tree.now marks.now block.old) }
 {
     call_result(volume_calls::read_block(depth as usize, root_record, tree, marks, block))
 }
@@ -158,7 +158,7 @@ pub extern "C" fn cmt_sample_take(
     sample: &mut [u8],
 ) -> u64
     ensures { taking.leaves result sample.new
-        ≡ sampleInC (sampleTaken depth number tree.now marks.now sample.old) }
+        ≡ sample_in_c (sample_taken depth number tree.now marks.now sample.old) }
 {
     call_result(sample_calls::take(depth as usize, number as usize, tree, marks, sample))
 }
@@ -171,7 +171,7 @@ pub extern "C" fn cmt_sample_check(
     root_record: &[u8],
     sample: &[u8],
 ) -> u64
-    ensures { result ≡ callResult (sampleChecked depth number root_record.now sample.now) }
+    ensures { result ≡ call_result (sample_checked depth number root_record.now sample.now) }
 {
     call_result(sample_calls::check(depth as usize, number as usize, root_record, sample))
 }
@@ -180,7 +180,7 @@ pub extern "C" fn cmt_sample_check(
 // word; 10: its first uncovered layer and symbol; 12: it is another table than the record's; 6: the head; 7: the layer and the position at which it breaks; 8: the withheld hash fits.
 #[unsafe(no_mangle)]
 pub extern "C" fn cmt_proof_check(depth: u64, root_record: &[u8], table: &[u8], proof: &[u8]) -> u64
-    ensures { result ≡ callResult (proofChecked depth root_record.now table.now proof.now) }
+    ensures { result ≡ call_result (proof_checked depth root_record.now table.now proof.now) }
 {
     call_result(fault_calls::check(depth as usize, root_record, table, proof))
 }
@@ -198,7 +198,7 @@ pub extern "C" fn cmt_repair(
     output: &mut [u8],
 ) -> u64
     ensures { repairing.leaves result tree.new marks.new output.new
-        ≡ repairedInC depth root_record.now table.now tree.old marks.old output.old }
+        ≡ repaired_in_c depth root_record.now table.now tree.old marks.old output.old }
 {
     let outcome = fault_calls::repair_tree(depth as usize, root_record, table, tree, marks, output);
     repair_result(root_record, outcome)
@@ -219,7 +219,7 @@ pub extern "C" fn cmt_recode(
     new_record: &mut [u8],
 ) -> u64
     ensures { writing.leaves result new_tree.new new_marks.new new_record.new
-        ≡ treeInC (recoded depth root_record.now table.now tree.now marks.now new_tree.old
+        ≡ tree_in_c (recoded depth root_record.now table.now tree.now marks.now new_tree.old
         new_marks.old new_record.old) }
 {
     call_result(recoding::recode(

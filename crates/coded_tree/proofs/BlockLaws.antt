@@ -14,8 +14,8 @@ use Rattle.octets.proofs.ListLaws.{length_part}
 use Rattle.parity_table.specs.Members.{every}
 use Rattle.parity_table.specs.Shape.{k_of}
 use Rattle.model.specs.Shape.{tree, places, place}
-use Rattle.model.specs.Writer.{block_of, filled, zeroFilled}
-use Rattle.model.proofs.Shapes.{tree-ok}
+use Rattle.model.specs.Writer.{block_of, filled, zero_filled}
+use Rattle.model.proofs.Shapes.{tree_ok}
 use Rattle.model.proofs.Flat.{paste-right, take-drop-take}
 use Rattle.coded_tree.proofs.WriterLaws.{layer-room}
 
@@ -27,18 +27,18 @@ paste_all d s l =
 
 -- u is t after a copy of s to it; the bytes behind s, up to m of them, become zeros
 module _ (t s u z : List ℕ) (at m k : ℕ) (fits : length s ≤ m) (room : at + m ≤ length t) (ek : k ≡ m - length s) (eu : u ≡ paste t at s (length s)) where
-  copied-front : take (at + length s) u ≡ take at t ++ s
-  copied-front =
+  copied_front : take (at + length s) u ≡ take at t ++ s
+  copied_front =
       ap (take (at + length s)) eu ∙ take-paste t at s (length s) (omega arith) (omega arith) ∙ ap (λ (l : List ℕ). take at t ++ l) (take-length s)
 
-  copied-back : drop k (drop (at + length s) u) ≡ drop (at + m) t
-  copied-back =
+  copied_back : drop k (drop (at + length s) u) ≡ drop (at + m) t
+  copied_back =
       let end : at + length s + k ≡ at + m = omega arith in
       drop-drop k (at + length s) u ∙ ap₂ drop end eu ∙ paste-right t s at (length s) (omega arith) (omega arith) (at + m) (omega arith)
 
   module _ (ez : z ≡ replicate (length (mid_of (at + length s) k u)) 0) where
-    put-zeros : z ≡ replicate (m - length s) 0
-    put-zeros =
+    put_zeros : z ≡ replicate (m - length s) 0
+    put_zeros =
         let lu : length u ≡ length t = ap length eu ∙ length-paste t at s (length s) (omega arith) (omega arith) in
         ez ∙ ap (λ (e : ℕ). replicate e 0) (length_part u (at + length s) k (omega arith) ∙ ek)
 
@@ -46,8 +46,8 @@ module _ (t s u z : List ℕ) (at m k : ℕ) (fits : length s ≤ m) (room : at 
     paste-zeros =
         let long : length (s ++ replicate (m - length s) 0) ≤ m =
         omega (arith, length-append s (replicate (m - length s) 0), length-replicate {A = ℕ} (m - length s) 0) in
-        ap₂ (λ (x y : List ℕ). x ++ (z ++ y)) copied-front copied-back
-        ∙ ap (λ (l : List ℕ). take at t ++ s ++ (l ++ drop (at + m) t)) put-zeros
+        ap₂ (λ (x y : List ℕ). x ++ (z ++ y)) copied_front copied_back
+        ∙ ap (λ (l : List ℕ). take at t ++ s ++ (l ++ drop (at + m) t)) put_zeros
         ∙ sym (append_assoc (take at t ++ s) (replicate (m - length s) 0) (drop (at + m) t))
         ∙ ap (λ (l : List ℕ). l ++ drop (at + m) t) (append_assoc (take at t) s (replicate (m - length s) 0))
         ∙ ap (λ (l : List ℕ). take at t ++ l ++ drop (at + m) t) (sym (take_all m (s ++ replicate (m - length s) 0) long))
@@ -61,28 +61,28 @@ zeros-same (x ∷ xs) = ap (λ (b : Bool). eqb x 0 && b) (zeros-same xs)
 module _ (d base : ℕ) (t : List ℕ) (deep : 1 ≤ d) (eb : base ≡ places tree (d - 1)) (lt : length t ≡ 256 * places tree d) where
   -- the base's data symbols are inside the tree
   pub base-room : 256 * base + 256 * k_of (d - 1) ≤ length t
-  base-room = omega (arith, layer-room d (d - 1) t (omega arith) lt, tree-ok.shape.within (d - 1))
+  base-room = omega (arith, layer-room d (d - 1) t (omega arith) lt, tree_ok.shape.within (d - 1))
 
   -- where they are
-  block-there : block_of tree d t ≡ take (256 * k_of (d - 1)) (drop (256 * base) t)
+  block_there : block_of tree d t ≡ take (256 * k_of (d - 1)) (drop (256 * base) t)
   unfolding block_of place
-  block-there = rw (add-zero, sym eb)
+  block_there = rw (add-zero, sym eb)
 
-  pub block-put : (n : ℕ) (block u z : List ℕ) → n ≡ k_of (d - 1) → length block ≤ 256 * k_of (d - 1) → u ≡ paste t (256 * base) block (length block)
+  pub block_put : (n : ℕ) (block u z : List ℕ) → n ≡ k_of (d - 1) → length block ≤ 256 * k_of (d - 1) → u ≡ paste t (256 * base) block (length block)
       → z ≡ replicate (length (mid_of (256 * base + length block) (256 * base + 256 * n - (256 * base + length block)) u)) 0
       → put_mid (256 * base + length block) (256 * base + 256 * n - (256 * base + length block)) u z
       ≡ paste t (256 * place tree (d - 1) 0) (filled tree d block) (256 * k_of (d - 1))
   unfolding filled place
-  block-put n block u z en lb eu ez =
+  block_put n block u z en lb eu ez =
       paste-zeros t block u z (256 * base) (256 * k_of (d - 1)) (256 * base + 256 * n - (256 * base + length block)) lb base-room (omega arith) eu ez
       ∙ ap (λ (o : ℕ). paste t (256 * o) (filled tree d block) (256 * k_of (d - 1))) (eb ∙ sym (add-zero (places tree (d - 1))))
 
   -- its first n bytes
-  pub block-part : (n : ℕ) → n ≤ 256 * k_of (d - 1) → take (256 * base + n - 256 * base) (drop (256 * base) t) ≡ take n (block_of tree d t)
-  block-part n h =
+  pub block_part : (n : ℕ) → n ≤ 256 * k_of (d - 1) → take (256 * base + n - 256 * base) (drop (256 * base) t) ≡ take n (block_of tree d t)
+  block_part n h =
       let w = 256 * base + n - 256 * base in
       let e : w ≡ n = omega arith in
-      sym (take-take w (256 * k_of (d - 1)) (drop (256 * base) t) (omega arith)) ∙ ap₂ take e (sym block-there)
+      sym (take-take w (256 * k_of (d - 1)) (drop (256 * base) t) (omega arith)) ∙ ap₂ take e (sym block_there)
 
   pub block-read : (block out : List ℕ) → length block ≤ 256 * k_of (d - 1)
       → (let part = take (256 * base + length block - 256 * base) (drop (256 * base) t) in out ≡ paste block 0 part (length part))
@@ -90,23 +90,23 @@ module _ (d base : ℕ) (t : List ℕ) (deep : 1 ≤ d) (eb : base ≡ places tr
   block-read block out lb eo =
       let n = 256 * base + length block - 256 * base in
       let en : n ≡ length block = omega arith in
-      eo ∙ paste_all block (take n (drop (256 * base) t)) (length_part t (256 * base) n (omega (arith, base-room)) ∙ en) ∙ block-part (length block) lb
+      eo ∙ paste_all block (take n (drop (256 * base) t)) (length_part t (256 * base) n (omega (arith, base-room)) ∙ en) ∙ block_part (length block) lb
 
   -- the base's data symbols from byte n on, and whether they are zero
   module _ (n m : ℕ) (em : m ≡ k_of (d - 1)) (h : n ≤ 256 * k_of (d - 1)) where
     abbrev rest : List ℕ
     rest = take (256 * base + 256 * m - (256 * base + n)) (drop (256 * base + n) t)
 
-    rest-there : rest ≡ drop n (block_of tree d t)
-    rest-there =
+    rest_there : rest ≡ drop n (block_of tree d t)
+    rest_there =
         let w = 256 * k_of (d - 1) - n in
         let ew : 256 * base + 256 * m - (256 * base + n) ≡ w = omega arith in
-        let l : length (block_of tree d t) ≡ 256 * k_of (d - 1) = ap length block-there ∙ length_part t (256 * base) (256 * k_of (d - 1)) base-room in
+        let l : length (block_of tree d t) ≡ 256 * k_of (d - 1) = ap length block_there ∙ length_part t (256 * base) (256 * k_of (d - 1)) base-room in
         ap₂ take ew (sym (drop-drop n (256 * base) t))
         ∙ sym (take-drop-take w n (256 * k_of (d - 1)) (drop (256 * base) t) (omega arith))
-        ∙ ap (λ (q : List ℕ). take w (drop n q)) (sym block-there)
+        ∙ ap (λ (q : List ℕ). take w (drop n q)) (sym block_there)
         ∙ take_all w (drop n (block_of tree d t)) (omega (arith, l, length-drop n (block_of tree d t)))
 
-    pub rest-zero : same rest (replicate (length rest) 0) ≡ zeroFilled tree d n t
-    unfolding zeroFilled
-    rest-zero = ap (λ (l : List ℕ). same l (replicate (length l) 0)) rest-there ∙ sym (zeros-same (drop n (block_of tree d t)))
+    pub rest_zero : same rest (replicate (length rest) 0) ≡ zero_filled tree d n t
+    unfolding zero_filled
+    rest_zero = ap (λ (l : List ℕ). same l (replicate (length l) 0)) rest_there ∙ sym (zeros-same (drop n (block_of tree d t)))

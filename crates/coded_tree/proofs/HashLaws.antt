@@ -7,28 +7,28 @@ use native.Mathlib.Omega.{arith}
 use native.Mathlib.Numerals.{add-one}
 use lib.ListN.{length, take, drop}
 use lib.Seq.{paste, take-paste, take_all, take-length, length-paste}
-use Rattle.symbol_hash.specs.SymbolHash.{symbolHash}
+use Rattle.symbol_hash.specs.SymbolHash.{symbol_hash}
 use Rattle.symbol_hash.specs.declared.Kind.{Kind}
-use Rattle.symbol_hash.proofs.Laws.{length-symbolHash}
+use Rattle.symbol_hash.proofs.Laws.{length-symbol_hash}
 use Rattle.parity_table.specs.Shape.{k_of, n_of}
 use Rattle.model.specs.Shape.{tree, places, place}
-use Rattle.model.specs.Symbols.{joined, symAt}
-use Rattle.model.specs.Coded.{rootOf}
-use Rattle.model.specs.Writer.{hashPlace, putHash, putHashes}
-use Rattle.model.proofs.Shapes.{tree-ok}
-use Rattle.model.proofs.Hashes.{column-lt}
-use Rattle.coded_tree.proofs.ParityLaws.{symAt-there}
+use Rattle.model.specs.Symbols.{joined, sym_at}
+use Rattle.model.specs.Coded.{root_of}
+use Rattle.model.specs.Writer.{hash_place, put_hash, put_hashes}
+use Rattle.model.proofs.Shapes.{tree_ok}
+use Rattle.model.proofs.Hashes.{column_lt}
+use Rattle.coded_tree.proofs.ParityLaws.{sym_at_there}
 
 -- the hash of symbol i of layer j + 1, which stands at place base + i, into layer j, which starts at place above
-pub hash-put : (kind : Kind) (t u h : List ℕ) (j i above base k n : ℕ) → above ≡ places tree j → base ≡ places tree (suc j) → k ≡ k_of j → n ≡ 256
-    → h ≡ symbolHash kind (j + 1) i (take n (drop (256 * (base + i)) t))
-    → u ≡ paste t (256 * (above + i % k) + 32 * (i / k)) h (length h) → u ≡ putHash tree (symbolHash kind) j i t
-unfolding putHash hashPlace place
-hash-put kind t u h j i above base k n ea eb ek en eh eu =
-    let s : h ≡ symbolHash kind (suc j) i (symAt tree t (suc j) i) =
-    eh ∙ ap₂ (λ l m. symbolHash kind l i (take m (drop (256 * (base + i)) t))) (add-one j) en
-    ∙ ap (symbolHash kind (suc j) i) (sym (symAt-there t (suc j) base eb i)) in
-    let l : length h ≡ 32 = ap length s ∙ length-symbolHash kind (suc j) i _ in
+pub hash_put : (kind : Kind) (t u h : List ℕ) (j i above base k n : ℕ) → above ≡ places tree j → base ≡ places tree (suc j) → k ≡ k_of j → n ≡ 256
+    → h ≡ symbol_hash kind (j + 1) i (take n (drop (256 * (base + i)) t))
+    → u ≡ paste t (256 * (above + i % k) + 32 * (i / k)) h (length h) → u ≡ put_hash tree (symbol_hash kind) j i t
+unfolding put_hash hash_place place
+hash_put kind t u h j i above base k n ea eb ek en eh eu =
+    let s : h ≡ symbol_hash kind (suc j) i (sym_at tree t (suc j) i) =
+    eh ∙ ap₂ (λ l m. symbol_hash kind l i (take m (drop (256 * (base + i)) t))) (add-one j) en
+    ∙ ap (symbol_hash kind (suc j) i) (sym (sym_at_there t (suc j) base eb i)) in
+    let l : length h ≡ 32 = ap length s ∙ length-symbol_hash kind (suc j) i _ in
     eu ∙ ap (λ m. paste t (256 * (above + i % k) + 32 * (i / k)) h m) l
     ∙ ap₂ (λ a c. paste t (256 * (a + i % c) + 32 * (i / c)) h 32) ea ek
     ∙ ap (λ v. paste t (256 * (places tree j + i % k_of j) + 32 * (i / k_of j)) v 32) s
@@ -38,28 +38,28 @@ pub hash-room : (t : List ℕ) (j i above base k : ℕ) → above ≡ places tre
     → 256 * (base + n_of (suc j)) ≤ length t → (0 < k) × (256 * (above + i % k) + 32 * (i / k) + 32 ≤ length t) × (i % k < k) × (i / k < 8)
 unfolding places
 hash-room t j i above base k ea eb ek hi room =
-    let p : 0 < k = omega (arith, tree-ok.shape.some j) in
-    let c : i / k_of j < 8 = column-lt tree tree-ok j i hi in
+    let p : 0 < k = omega (arith, tree_ok.shape.some j) in
+    let c : i / k_of j < 8 = column_lt tree tree_ok j i hi in
     let q : i / k < 8 = omega (arith, ap (λ v. i / v) ek) in
     let m : i % k < k = mod-lt i p in
-    let n : n_of j ≡ 4 * k_of j = tree-ok.rate j in
+    let n : n_of j ≡ 4 * k_of j = tree_ok.rate j in
     (p, omega arith, m, q)
 
-pub hashes-next : (kind : Kind) (j i m : ℕ) (t u : List ℕ) → u ≡ putHash tree (symbolHash kind) j i t
-    → putHashes tree (symbolHash kind) j i (suc m) t ≡ putHashes tree (symbolHash kind) j (i + 1) m u
-unfolding putHashes
-hashes-next kind j i m t u e = ap₂ (λ n v. putHashes tree (symbolHash kind) j n m v) (sym (add-one i)) (sym e)
+pub hashes-next : (kind : Kind) (j i m : ℕ) (t u : List ℕ) → u ≡ put_hash tree (symbol_hash kind) j i t
+    → put_hashes tree (symbol_hash kind) j i (suc m) t ≡ put_hashes tree (symbol_hash kind) j (i + 1) m u
+unfolding put_hashes
+hashes-next kind j i m t u e = ap₂ (λ n v. put_hashes tree (symbol_hash kind) j n m v) (sym (add-one i)) (sym e)
 
 -- from symbol i on, of m in all
-pub hashes-step : (kind : Kind) (j i m : ℕ) (t u v : List ℕ) → i < m → u ≡ putHash tree (symbolHash kind) j i t → putHashes tree (symbolHash kind) j i (m - i) t ≡ v
-    → putHashes tree (symbolHash kind) j (i + 1) (m - (i + 1)) u ≡ v
+pub hashes-step : (kind : Kind) (j i m : ℕ) (t u v : List ℕ) → i < m → u ≡ put_hash tree (symbol_hash kind) j i t → put_hashes tree (symbol_hash kind) j i (m - i) t ≡ v
+    → put_hashes tree (symbol_hash kind) j (i + 1) (m - (i + 1)) u ≡ v
 hashes-step kind j i m t u v h eu e =
     let k : m - i ≡ suc (m - (i + 1)) = omega arith in
-    sym (ap (λ n. putHashes tree (symbolHash kind) j i n t) k ∙ hashes-next kind j i (m - (i + 1)) t u eu) ∙ e
+    sym (ap (λ n. put_hashes tree (symbol_hash kind) j i n t) k ∙ hashes-next kind j i (m - (i + 1)) t u eu) ∙ e
 
-pub hashes-end : (kind : Kind) (j i m : ℕ) (t v : List ℕ) → m ≤ i → putHashes tree (symbolHash kind) j i (m - i) t ≡ v → t ≡ v
-unfolding putHashes
-hashes-end kind j i m t v h e = let k : m - i ≡ 0 = omega arith in sym (ap (λ n. putHashes tree (symbolHash kind) j i n t) k) ∙ e
+pub hashes-end : (kind : Kind) (j i m : ℕ) (t v : List ℕ) → m ≤ i → put_hashes tree (symbol_hash kind) j i (m - i) t ≡ v → t ≡ v
+unfolding put_hashes
+hashes-end kind j i m t v h e = let k : m - i ≡ 0 = omega arith in sym (ap (λ n. put_hashes tree (symbol_hash kind) j i n t) k) ∙ e
 
 -- ---- the root
 
@@ -71,26 +71,26 @@ joined_snoc g x (suc m) =
     ∙ ap (λ n. g x ++ joined g (suc x) m ++ g n) (suc-add x m ∙ sym (add-suc x m))
 
 -- the hash of symbol i of layer 0
-abbrev pub topHash : Kind → List ℕ → ℕ → List ℕ
-topHash kind t i = symbolHash kind 0 i (symAt tree t 0 i)
+abbrev pub top_hash : Kind → List ℕ → ℕ → List ℕ
+top_hash kind t i = symbol_hash kind 0 i (sym_at tree t 0 i)
 
-pub root-more : (kind : Kind) (t root u h : List ℕ) (i n : ℕ) → i < 16 → length root ≡ 512 → n ≡ 256 → take (32 * i) root ≡ joined (topHash kind t) 0 i
-    → h ≡ symbolHash kind 0 i (take n (drop (256 * i) t)) → u ≡ paste root (32 * i) h (length h)
-    → (length u ≡ 512) × (take (32 * (i + 1)) u ≡ joined (topHash kind t) 0 (i + 1))
+pub root_more : (kind : Kind) (t root u h : List ℕ) (i n : ℕ) → i < 16 → length root ≡ 512 → n ≡ 256 → take (32 * i) root ≡ joined (top_hash kind t) 0 i
+    → h ≡ symbol_hash kind 0 i (take n (drop (256 * i) t)) → u ≡ paste root (32 * i) h (length h)
+    → (length u ≡ 512) × (take (32 * (i + 1)) u ≡ joined (top_hash kind t) 0 (i + 1))
 unfolding places
-root-more kind t root u h i n hi l en e eh eu =
+root_more kind t root u h i n hi l en e eh eu =
     let z : 0 + i ≡ i = omega arith in
-    let s : h ≡ topHash kind t i =
-    eh ∙ ap₂ (λ m o. symbolHash kind 0 i (take m (drop (256 * o) t))) en (sym z) ∙ ap (symbolHash kind 0 i) (sym (symAt-there t 0 0 refl i)) in
-    let lh : length h ≡ 32 = ap length s ∙ length-symbolHash kind 0 i _ in
+    let s : h ≡ top_hash kind t i =
+    eh ∙ ap₂ (λ m o. symbol_hash kind 0 i (take m (drop (256 * o) t))) en (sym z) ∙ ap (symbol_hash kind 0 i) (sym (sym_at_there t 0 0 refl i)) in
+    let lh : length h ≡ 32 = ap length s ∙ length-symbol_hash kind 0 i _ in
     let k : 32 * (i + 1) ≡ 32 * i + length h = omega arith in (
       ap length eu ∙ length-paste root (32 * i) h (length h) (omega arith) (omega arith) ∙ l,
       ap₂ take k eu ∙ take-paste root (32 * i) h (length h) (omega arith) (omega arith)
-          ∙ ap₂ ◌++◌ e (take-length h ∙ s ∙ ap (topHash kind t) (sym z))
-          ∙ sym (ap (joined (topHash kind t) 0) (add-one i) ∙ joined_snoc (topHash kind t) 0 i),
+          ∙ ap₂ ◌++◌ e (take-length h ∙ s ∙ ap (top_hash kind t) (sym z))
+          ∙ sym (ap (joined (top_hash kind t) 0) (add-one i) ∙ joined_snoc (top_hash kind t) 0 i),
     )
 
-pub root-all : (kind : Kind) (t root : List ℕ) (i : ℕ) → i ≡ 16 → length root ≡ 512 → take (32 * i) root ≡ joined (topHash kind t) 0 i
-    → root ≡ rootOf tree (symbolHash kind) (symAt tree t)
-unfolding rootOf n_of k_of
-root-all kind t root i ei l e = sym (take_all (32 * i) root (omega arith)) ∙ e ∙ ap (joined (topHash kind t) 0) ei
+pub root_all : (kind : Kind) (t root : List ℕ) (i : ℕ) → i ≡ 16 → length root ≡ 512 → take (32 * i) root ≡ joined (top_hash kind t) 0 i
+    → root ≡ root_of tree (symbol_hash kind) (sym_at tree t)
+unfolding root_of n_of k_of
+root_all kind t root i ei l e = sym (take_all (32 * i) root (omega arith)) ∙ e ∙ ap (joined (top_hash kind t) 0) ei

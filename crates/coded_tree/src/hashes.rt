@@ -1,11 +1,11 @@
 // The hashes of the symbols of a layer: in the data symbols of the layer above, or in the root.
 ghost use Rattle.std.specs.Prelude.{◌≡◌, suc, ◌+◌, ◌*◌, ◌<◌, ◌≤◌, length};
-ghost use Rattle.parity_table.specs.Shape.{k_of, n_of, maxDepth};
+ghost use Rattle.parity_table.specs.Shape.{k_of, n_of, max_depth};
 ghost use Rattle.model.specs.Shape.{tree as shape, places};
-ghost use Rattle.model.specs.Symbols.{symAt};
-ghost use Rattle.model.specs.Coded.{rootOf};
-ghost use Rattle.model.specs.Writer.{putHash, putHashes};
-ghost use Rattle.symbol_hash.specs.SymbolHash.{symbolHash};
+ghost use Rattle.model.specs.Symbols.{sym_at};
+ghost use Rattle.model.specs.Coded.{root_of};
+ghost use Rattle.model.specs.Writer.{put_hash, put_hashes};
+ghost use Rattle.symbol_hash.specs.SymbolHash.{symbol_hash};
 
 use crate::first_place;
 use parity_table::data_count;
@@ -13,9 +13,9 @@ use symbol_hash::Kind;
 
 // Writes the hash of symbol i of layer j + 1 into layer j, which has k data symbols. The two layers start at places above and base.
 fn put_hash(kind: Kind, tree: &mut [u8], above: usize, base: usize, k: usize, j: usize, i: usize)
-    requires { (above ≡ places shape j) × (base ≡ places shape (suc j)) × (k ≡ k_of j) × (j < maxDepth) × (i < n_of (suc j))
+    requires { (above ≡ places shape j) × (base ≡ places shape (suc j)) × (k ≡ k_of j) × (j < max_depth) × (i < n_of (suc j))
         × (256 * (base + n_of (suc j)) ≤ length tree.old) }
-    ensures { tree.new ≡ putHash shape (symbolHash kind) j i tree.old }
+    ensures { tree.new ≡ put_hash shape (symbol_hash kind) j i tree.old }
 {
     let from = 256 * (base + i);
     let to = from + 256;
@@ -25,8 +25,8 @@ fn put_hash(kind: Kind, tree: &mut [u8], above: usize, base: usize, k: usize, j:
 
 // Writes the hashes of all symbols of layer j + 1 into layer j.
 pub fn put_hashes(kind: Kind, tree: &mut [u8], j: usize)
-    requires { (suc j < maxDepth) × (256 * (places shape (suc j) + n_of (suc j)) ≤ length tree.old) }
-    ensures { tree.new ≡ putHashes shape (symbolHash kind) j 0 (n_of (suc j)) tree.old }
+    requires { (suc j < max_depth) × (256 * (places shape (suc j) + n_of (suc j)) ≤ length tree.old) }
+    ensures { tree.new ≡ put_hashes shape (symbol_hash kind) j 0 (n_of (suc j)) tree.old }
 {
     let k = data_count(j);
     let above = first_place(j);
@@ -39,7 +39,7 @@ pub fn put_hashes(kind: Kind, tree: &mut [u8], j: usize)
 // Writes the root: the hashes of the sixteen symbols of layer 0, in order.
 pub fn put_root(kind: Kind, tree: &[u8], root: &mut [u8])
     requires { (256 * 16 ≤ length tree.now) × (length root.old ≡ 512) }
-    ensures { root.new ≡ rootOf shape (symbolHash kind) (symAt shape tree.now) }
+    ensures { root.new ≡ root_of shape (symbol_hash kind) (sym_at shape tree.now) }
 {
     for i in 0..16usize {
         let from = 256 * i;

@@ -5,7 +5,7 @@ mod parity; // the parity symbols of a layer
 mod writer; // the whole tree, its marks and its root; the block read back, and what fills it up
 
 ghost use Rattle.std.specs.Prelude.{◌≡◌, ◌≤◌};
-ghost use Rattle.parity_table.specs.Shape.{maxDepth};
+ghost use Rattle.parity_table.specs.Shape.{max_depth};
 ghost use Rattle.model.specs.Shape.{tree as shape, places};
 
 pub use marks::first_absent;
@@ -14,7 +14,7 @@ pub use writer::{read_block, write, zero_filled};
 
 // The place of the first symbol of layer j: 16·(2^j−1).
 pub fn first_place(j: usize) -> usize
-    requires { j ≤ maxDepth }
+    requires { j ≤ max_depth }
     ensures { result ≡ places shape j }
 {
     let n: usize = 1 << j;

@@ -1,16 +1,16 @@
 // The marks of a layer: one byte for each symbol, 1 held or 0 absent.
 ghost use Rattle.std.specs.Prelude.{◌≡◌, ◌+◌, ◌≤◌, ◌<◌, length};
-ghost use Rattle.parity_table.specs.Shape.{maxDepth};
+ghost use Rattle.parity_table.specs.Shape.{max_depth};
 ghost use Rattle.model.specs.Shape.{tree as shape, places};
 ghost use Rattle.model.specs.Symbols.{lowest};
-ghost use Rattle.model.specs.Repair.{absentAt};
+ghost use Rattle.model.specs.Repair.{absent_at};
 
 use crate::first_place;
 
 // The lowest of the first n symbols of layer j that is not marked held; n where each is.
 pub fn first_absent(marks: &[u8], j: usize, n: usize) -> usize
-    requires { (j < maxDepth) × (places shape j + n ≤ length marks.now) }
-    ensures { result ≡ lowest (absentAt shape marks.now j) 0 n }
+    requires { (j < max_depth) × (places shape j + n ≤ length marks.now) }
+    ensures { result ≡ lowest (absent_at shape marks.now j) 0 n }
 {
     let base = first_place(j);
     for i in 0..n {

@@ -2,10 +2,10 @@
 ghost use Rattle.std.specs.Prelude.{◌≡◌, true, ℕ, ◌+◌, ◌*◌, ◌<◌, ◌≤◌, length, ltb};
 ghost use Rattle.parity_table.specs.Shape.{n_of};
 ghost use Rattle.parity_table.specs.Members.{every};
-ghost use Rattle.parity_table.specs.Table.{layerOf};
+ghost use Rattle.parity_table.specs.Table.{layer_of};
 ghost use Rattle.parity_table.specs.Parse.{Indexed, table_of};
 ghost use Rattle.model.specs.Shape.{tree as shape, places};
-ghost use Rattle.model.specs.Symbols.{symbolIn, zeros, xorOf, others, symAt, put_at};
+ghost use Rattle.model.specs.Symbols.{symbol_in, zeros, xor_of, others, sym_at, put_at};
 ghost use Rattle.model.specs.Writer.{parities};
 
 use crate::first_place;
@@ -16,7 +16,7 @@ use parity_table::{data_count, index};
 pub fn xor_others(acc: &mut [u8], tree: &[u8], base: usize, members: &[u32], x: usize)
     requires { (acc.old ≡ zeros)
         × ((symbols : ℕ) × (256 * (base + symbols) ≤ length tree.now) × (every (λ y. ltb y symbols) members.now ≡ true)) }
-    ensures { acc.new ≡ xorOf (λ y. symbolIn tree.now (base + y)) (others x members.now) }
+    ensures { acc.new ≡ xor_of (λ y. symbol_in tree.now (base + y)) (others x members.now) }
 {
     for i in 0..members.len() {
         let y = members[i] as usize;
@@ -31,7 +31,7 @@ fn put_parity(tree: &mut [u8], base: usize, members: &[u32], x: usize, j: usize)
     requires { (base ≡ places shape j) × (256 * (base + n_of j) ≤ length tree.old) × (x < n_of j)
         × (every (λ y. ltb y (n_of j)) members.now ≡ true) }
     ensures { tree.new
-        ≡ put_at shape tree.old j x (xorOf (symAt shape tree.old j) (others x members.now)) }
+        ≡ put_at shape tree.old j x (xor_of (sym_at shape tree.old j) (others x members.now)) }
 {
     let mut acc = [0u8; 256];
     xor_others(&mut acc, tree, base, members, x);
@@ -41,7 +41,7 @@ fn put_parity(tree: &mut [u8], base: usize, members: &[u32], x: usize, j: usize)
 // Writes the parity symbols of layer j, in the order of their equations.
 pub fn put_parities(tree: &mut [u8], depth: usize, words: &[u32], starts: &[usize], j: usize)
     requires { Indexed depth words.now starts.now × (j < depth) × (256 * (places shape j + n_of j) ≤ length tree.old) }
-    ensures { tree.new ≡ parities shape j 0 (layerOf (table_of words.now) j) tree.old }
+    ensures { tree.new ≡ parities shape j 0 (layer_of (table_of words.now) j) tree.old }
 {
     let k = data_count(j);
     let base = first_place(j);

@@ -12,23 +12,23 @@ use lib.Dec.{ltb}
 use borrow.Author.Tests.{lt-ltb, le-ltb, le-leb}
 use Rattle.octets.proofs.Choice.{pick_yes, pick_no}
 use Rattle.octets.proofs.ListLaws.{front-zeros}
-use Rattle.parity_table.specs.Shape.{maxDepth, k_of}
+use Rattle.parity_table.specs.Shape.{max_depth, k_of}
 use Rattle.parity_table.specs.declared.Answer.TheVariants.{Whole}
 use Rattle.parity_table.specs.Reader.{read_of}
-use Rattle.parity_table.specs.Table.{layerOf, layerWord, end_word, equationsWords, layersWords, tableWords, TableOk}
+use Rattle.parity_table.specs.Table.{layer_of, layer_word, end_word, equations_words, layers_words, table_words, TableOk}
 use Rattle.parity_table.specs.Parse.{table_of}
 use Rattle.parity_table.proofs.Accepts.{accepted-depth, accepted-formed, accepted-table}
 use Rattle.parity_table.proofs.Front.{accepted-short}
-use Rattle.parity_table.proofs.Longest.{longest-grows, longest-nine}
+use Rattle.parity_table.proofs.Longest.{longest_grows, longest_nine}
 use Rattle.parity_table.proofs.Parse.{formed-words}
 use Rattle.parity_table.proofs.Rules.{LayersOk, table-layers}
 use Rattle.parity_table.proofs.Shape.{k-low}
 use Rattle.model.specs.Symbols.{lowest}
-use Rattle.model.proofs.Counts.{lowest-same, lowest-hit, lowest-pass, lowest-none}
-use Rattle.coverage.specs.Counting.{endsLayer, hasEnd, Below, Tally, tallied, tally, isThin, LayerCounted}
+use Rattle.model.proofs.Counts.{lowest-same, lowest_hit, lowest_pass, lowest-none}
+use Rattle.coverage.specs.Counting.{ends_layer, has_end, Below, Tally, tallied, tally, is_thin, LayerCounted}
 use Rattle.coverage.specs.declared.Coverage.TheVariants.{Covered, Uncovered}
-use Rattle.coverage.specs.Coverage.{times, lowestThin, hasThin, firstThin, coverageOf}
-use Rattle.coverage.proofs.Tallies.{ends-layer, ends-equation, end_after, end-here, Comes, Pass, pass-end, pass-equations}
+use Rattle.coverage.specs.Coverage.{times, lowest_thin, has_thin, first_thin, coverage_of}
+use Rattle.coverage.proofs.Tallies.{ends-layer, ends-equation, end_after, end-here, Comes, Pass, pass_end, pass_equations}
 
 -- ---- a pass that begins with no symbol seen
 
@@ -39,12 +39,12 @@ none_below s n e i h = omega (arith, ap (λ (l : List ℕ). get_or l i 0) e ∙ 
 pub few_words : (d : ℕ) (ws : List ℕ) → read_of d ws ≡ Whole → length ws < 2 ^ 16
 few_words d ws r =
     let (some, most) = accepted-depth d ws r in
-    omega (arith, accepted-short d ws r, longest-grows d 9 some (omega arith), longest-nine)
+    omega (arith, accepted-short d ws r, longest_grows d 9 some (omega arith), longest_nine)
 
 -- the entries of a layer's data symbols, of an array of zeros for the lowest
-module _ (j : ℕ) (hj : j < maxDepth) (seen : List ℕ) (e : seen ≡ replicate (4 * 2 ^ (maxDepth - 1)) 0) (k : ℕ) (ek : k ≡ k_of j) where
+module _ (j : ℕ) (hj : j < max_depth) (seen : List ℕ) (e : seen ≡ replicate (4 * 2 ^ (max_depth - 1)) 0) (k : ℕ) (ek : k ≡ k_of j) where
   front : take k seen ≡ replicate k 0
-  front = ap (take k) e ∙ front-zeros (4 * 2 ^ (maxDepth - 1)) k (omega (arith, k-low j hj))
+  front = ap (take k) e ∙ front-zeros (4 * 2 ^ (max_depth - 1)) k (omega (arith, k-low j hj))
 
   pub front_length : length (take k seen) ≡ k_of j
   front_length = ap length front ∙ length-replicate {A = ℕ} k 0 ∙ ek
@@ -54,12 +54,12 @@ module _ (j : ℕ) (hj : j < maxDepth) (seen : List ℕ) (e : seen ≡ replicate
 
 -- the pass, then the search
 pub counted : (ws s₀ seen : List ℕ) (at end low : ℕ) → s₀ ≡ replicate (length s₀) 0 → end ≤ length ws → tallied seen (drop end ws) ≡ tally s₀ (drop at ws)
-    → low ≡ lowest (isThin seen) 0 (length seen) → LayerCounted ws at (length s₀) end low
+    → low ≡ lowest (is_thin seen) 0 (length seen) → LayerCounted ws at (length s₀) end low
 counted ws s₀ seen at end low none h e l =
     let p : tallied seen (drop end ws) ≡ tally (replicate (length s₀) 0) (drop at ws) = e ∙ ap (λ (s : List ℕ). tally s (drop at ws)) none in (
       h,
       ap (λ (y : Tally). y.rest) p,
-      l ∙ ap (λ (y : Tally). lowest (isThin y.seen) 0 (length y.seen)) p,
+      l ∙ ap (λ (y : Tally). lowest (is_thin y.seen) 0 (length y.seen)) p,
     )
 
 -- all is 0 again where the search finds none
@@ -72,10 +72,10 @@ record Begins (X : List ℕ) : Type 0 where
   opener : ℕ
   more : List ℕ
   are : X ≡ opener ∷ more
-  ends : endsLayer opener ≡ true
+  ends : ends_layer opener ≡ true
 
-after-layer : (n j : ℕ) (ls : List (List (List ℕ))) → j + length ls ≤ maxDepth → Begins (layersWords j ls ++ (end_word n ∷ []))
-unfolding layersWords
+after-layer : (n j : ℕ) (ls : List (List (List ℕ))) → j + length ls ≤ max_depth → Begins (layers_words j ls ++ (end_word n ∷ []))
+unfolding layers_words
 after-layer n j [] h =
     record {
       opener = end_word n;
@@ -85,25 +85,25 @@ after-layer n j [] h =
     }
 after-layer n j (es ∷ ls) h =
     record {
-      opener = layerWord j;
-      more = (equationsWords 0 es ++ layersWords (suc j) ls) ++ (end_word n ∷ []);
+      opener = layer_word j;
+      more = (equations_words 0 es ++ layers_words (suc j) ls) ++ (end_word n ∷ []);
       are = refl;
-      ends = sym (ends-layer (layerWord j) (omega arith) (omega arith));
+      ends = sym (ends-layer (layer_word j) (omega arith) (omega arith));
     }
 
 module _ (X : List ℕ) (b : Begins X) where
-  pass-none : Pass X X (λ i. 0)
-  pass-none = subst (λ (l : List ℕ). Pass l l (λ i. 0)) (sym b.are) (pass-end b.opener b.more b.ends)
+  pass_none : Pass X X (λ i. 0)
+  pass_none = subst (λ (l : List ℕ). Pass l l (λ i. 0)) (sym b.are) (pass_end b.opener b.more b.ends)
 
-  end-there : hasEnd X ≡ true
-  end-there = ap hasEnd b.are ∙ end-here b.opener b.more b.ends
+  end_there : has_end X ≡ true
+  end_there = ap has_end b.are ∙ end-here b.opener b.more b.ends
 
 module _ (d : ℕ) (ws : List ℕ) (r : read_of d ws ≡ Whole) where
   abbrev tbl : List (List (List ℕ))
   tbl = table_of ws
 
   abbrev last : ℕ
-  last = end_word (length (layersWords 0 tbl))
+  last = end_word (length (layers_words 0 tbl))
 
   ok : TableOk d tbl
   ok = accepted-table d ws r
@@ -111,11 +111,11 @@ module _ (d : ℕ) (ws : List ℕ) (r : read_of d ws ≡ Whole) where
   -- layer j, or the end, begins at word `at`
   pub record Stands (at j : ℕ) : Type 0 where
     pub inside : at ≤ length ws
-    pub words : drop at ws ≡ layersWords j (drop j tbl) ++ (last ∷ [])
+    pub words : drop at ws ≡ layers_words j (drop j tbl) ++ (last ∷ [])
     pub rules : LayersOk j (drop j tbl)
 
   pub stands-first : Stands 0 0
-  unfolding tableWords
+  unfolding table_words
   stands-first =
       record {
         inside = omega arith;
@@ -125,43 +125,43 @@ module _ (d : ℕ) (ws : List ℕ) (r : read_of d ws ≡ Whole) where
 
   module _ (at j : ℕ) (s : Stands at j) (hj : j < d) where
     abbrev es : List (List ℕ)
-    es = layerOf tbl j
+    es = layer_of tbl j
 
     abbrev rest : List ℕ
-    rest = layersWords (suc j) (drop (suc j) tbl) ++ (last ∷ [])
+    rest = layers_words (suc j) (drop (suc j) tbl) ++ (last ∷ [])
 
-    layer-there : drop j tbl ≡ es ∷ drop (suc j) tbl
-    unfolding layerOf
-    layer-there = drop-cons tbl j [] (omega (arith, ok.depth))
+    layer_there : drop j tbl ≡ es ∷ drop (suc j) tbl
+    unfolding layer_of
+    layer_there = drop-cons tbl j [] (omega (arith, ok.depth))
 
-    opened : drop at ws ≡ layerWord j ∷ (equationsWords 0 es ++ rest)
-    unfolding layersWords
+    opened : drop at ws ≡ layer_word j ∷ (equations_words 0 es ++ rest)
+    unfolding layers_words
     opened =
         s.words
-        ∙ ap (λ (l : List (List (List ℕ))). layersWords j l ++ (last ∷ [])) layer-there
-        ∙ ap {B = List ℕ} (λ l. layerWord j ∷ l) (append_assoc (equationsWords 0 es) (layersWords (suc j) (drop (suc j) tbl)) (last ∷ []))
+        ∙ ap (λ (l : List (List (List ℕ))). layers_words j l ++ (last ∷ [])) layer_there
+        ∙ ap {B = List ℕ} (λ l. layer_word j ∷ l) (append_assoc (equations_words 0 es) (layers_words (suc j) (drop (suc j) tbl)) (last ∷ []))
 
-    pub known : j < maxDepth
+    pub known : j < max_depth
     known = omega (arith, (accepted-depth d ws r).1)
 
     -- so a word stands there
-    pub past-opener : at + 1 ≤ length ws
-    past-opener = omega (arith, s.inside, length-drop at ws, ap length opened)
+    pub past_opener : at + 1 ≤ length ws
+    past_opener = omega (arith, s.inside, length-drop at ws, ap length opened)
 
-    equations-there : drop (at + 1) ws ≡ equationsWords 0 es ++ rest
-    equations-there = sym (drop-drop 1 at ws) ∙ ap (drop 1) opened
+    equations_there : drop (at + 1) ws ≡ equations_words 0 es ++ rest
+    equations_there = sym (drop-drop 1 at ws) ∙ ap (drop 1) opened
 
-    rest-begins : Begins rest
-    rest-begins =
-        after-layer (length (layersWords 0 tbl)) (suc j) (drop (suc j) tbl)
+    rest_begins : Begins rest
+    rest_begins =
+        after-layer (length (layers_words 0 tbl)) (suc j) (drop (suc j) tbl)
         (omega (arith, length-drop (suc j) tbl, ok.depth, (accepted-depth d ws r).1))
 
     -- and a word that ends it
-    pub layer-ends : hasEnd (drop (at + 1) ws) ≡ true
-    layer-ends = ap hasEnd equations-there ∙ end_after (equationsWords 0 es) rest (end-there rest rest-begins)
+    pub layer-ends : has_end (drop (at + 1) ws) ≡ true
+    layer-ends = ap has_end equations_there ∙ end_after (equations_words 0 es) rest (end_there rest rest_begins)
 
-    rules-there : LayersOk j (es ∷ drop (suc j) tbl)
-    rules-there = subst (LayersOk j) layer-there s.rules
+    rules_there : LayersOk j (es ∷ drop (suc j) tbl)
+    rules_there = subst (LayersOk j) layer_there s.rules
 
     -- no symbol is seen at first
     abbrev none : List ℕ
@@ -173,22 +173,22 @@ module _ (d : ℕ) (ws : List ℕ) (r : read_of d ws ≡ Whole) where
     none_seen : (i : ℕ) → i < k_of j → get_or none i 0 ≡ 0
     none_seen i h = get_or-replicate (k_of j) i 0 0 h
 
-    comes : Comes none (equationsWords 0 es ++ rest) rest (λ i. times i es + 0)
+    comes : Comes none (equations_words 0 es ++ rest) rest (λ i. times i es + 0)
     comes =
-        let o = rules-there in
-        pass-equations j 0 es rest rest (λ i. 0) known o.1 (omega (arith, o.0))
-        (pass-none rest rest-begins)
+        let o = rules_there in
+        pass_equations j 0 es rest rest (λ i. 0) known o.1 (omega (arith, o.0))
+        (pass_none rest rest_begins)
         none (omega (arith, none-length, k-low j known))
 
     abbrev seen : List ℕ
-    seen = (tally none (equationsWords 0 es ++ rest)).seen
+    seen = (tally none (equations_words 0 es ++ rest)).seen
 
     all_seen : length seen ≡ k_of j
     all_seen = comes.as_long ∙ none-length
 
-    thin-there : (i : ℕ) → i < k_of j → isThin seen i ≡ ltb (times i es) 2
-    unfolding isThin
-    thin-there i h =
+    thin_there : (i : ℕ) → i < k_of j → is_thin seen i ≡ ltb (times i es) 2
+    unfolding is_thin
+    thin_there i h =
         let e : get_or seen i 0 ≡ times i es = omega (arith, comes.counts i (omega (arith, none-length)), none_seen i h) in
         ap (λ (n : ℕ). ltb n 2) e
 
@@ -198,43 +198,43 @@ module _ (d : ℕ) (ws : List ℕ) (r : read_of d ws ≡ Whole) where
           subst (Stands end) (sym (add-one j))
           record {
             inside = c.0;
-            words = c.1 ∙ ap (λ (l : List ℕ). (tally none l).rest) equations-there ∙ comes.rest-is;
-            rules = rules-there.2;
+            words = c.1 ∙ ap (λ (l : List ℕ). (tally none l).rest) equations_there ∙ comes.rest-is;
+            rules = rules_there.2;
           }
 
-      pub lowest-there : low ≡ lowestThin tbl j
-      unfolding lowestThin
-      lowest-there =
+      pub lowest_there : low ≡ lowest_thin tbl j
+      unfolding lowest_thin
+      lowest_there =
           c.2
-          ∙ ap (λ (l : List ℕ). lowest (isThin (tally none l).seen) 0 (length (tally none l).seen)) equations-there
-          ∙ ap (lowest (isThin seen) 0) all_seen
-          ∙ lowest-same (isThin seen) (λ i. ltb (times i es) 2) 0 (k_of j) (λ i a h. thin-there i (omega arith))
+          ∙ ap (λ (l : List ℕ). lowest (is_thin (tally none l).seen) 0 (length (tally none l).seen)) equations_there
+          ∙ ap (lowest (is_thin seen) 0) all_seen
+          ∙ lowest-same (is_thin seen) (λ i. ltb (times i es) 2) 0 (k_of j) (λ i a h. thin_there i (omega arith))
 
 -- ---- the answer, by the first layer with such a symbol
 
 module _ (d : ℕ) (tbl : List (List (List ℕ))) where
   -- the search from layer j on comes to what all of it comes to
   abbrev pub From : ℕ → Type 0
-  From j = lowest (hasThin tbl) j (d - j) ≡ firstThin d tbl
+  From j = lowest (has_thin tbl) j (d - j) ≡ first_thin d tbl
 
   pub from_first : From 0
-  unfolding firstThin
-  from_first = ap (lowest (hasThin tbl) 0) (omega arith)
+  unfolding first_thin
+  from_first = ap (lowest (has_thin tbl) 0) (omega arith)
 
   module _ (j : ℕ) (f : From j) where
-    pub thin-found : j < d → lowestThin tbl j < k_of j → Uncovered j (lowestThin tbl j) ≡ coverageOf d tbl
-    unfolding coverageOf hasThin
-    thin-found h l =
-        let e : j ≡ firstThin d tbl = lowest-hit (hasThin tbl) d j (firstThin d tbl) f h (lt-ltb (lowestThin tbl j) (k_of j) l) in
-        ap (λ (x : ℕ). Uncovered x (lowestThin tbl x)) e
-        ∙ sym (pick_yes (ltb (firstThin d tbl) d) (Uncovered (firstThin d tbl) (lowestThin tbl (firstThin d tbl))) Covered (lt-ltb (firstThin d tbl) d (omega arith)))
+    pub thin_found : j < d → lowest_thin tbl j < k_of j → Uncovered j (lowest_thin tbl j) ≡ coverage_of d tbl
+    unfolding coverage_of has_thin
+    thin_found h l =
+        let e : j ≡ first_thin d tbl = lowest_hit (has_thin tbl) d j (first_thin d tbl) f h (lt-ltb (lowest_thin tbl j) (k_of j) l) in
+        ap (λ (x : ℕ). Uncovered x (lowest_thin tbl x)) e
+        ∙ sym (pick_yes (ltb (first_thin d tbl) d) (Uncovered (first_thin d tbl) (lowest_thin tbl (first_thin d tbl))) Covered (lt-ltb (first_thin d tbl) d (omega arith)))
 
-    pub none-thin : j < d → k_of j ≤ lowestThin tbl j → From (j + 1)
-    unfolding hasThin
-    none-thin h l = lowest-pass (hasThin tbl) d j (firstThin d tbl) f h (le-ltb (lowestThin tbl j) (k_of j) l)
+    pub none_thin : j < d → k_of j ≤ lowest_thin tbl j → From (j + 1)
+    unfolding has_thin
+    none_thin h l = lowest_pass (has_thin tbl) d j (first_thin d tbl) f h (le-ltb (lowest_thin tbl j) (k_of j) l)
 
-    pub all-covered : j ≡ d → Covered ≡ coverageOf d tbl
-    unfolding coverageOf
-    all-covered h =
-        let e : d ≡ firstThin d tbl = lowest-none (hasThin tbl) d j (firstThin d tbl) f h in
-        sym (pick_no (ltb (firstThin d tbl) d) (Uncovered (firstThin d tbl) (lowestThin tbl (firstThin d tbl))) Covered (le-ltb (firstThin d tbl) d (omega arith)))
+    pub all_covered : j ≡ d → Covered ≡ coverage_of d tbl
+    unfolding coverage_of
+    all_covered h =
+        let e : d ≡ first_thin d tbl = lowest-none (has_thin tbl) d j (first_thin d tbl) f h in
+        sym (pick_no (ltb (first_thin d tbl) d) (Uncovered (first_thin d tbl) (lowest_thin tbl (first_thin d tbl))) Covered (le-ltb (first_thin d tbl) d (omega arith)))

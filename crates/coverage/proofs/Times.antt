@@ -9,11 +9,11 @@ use native.Mathlib.Decide.{dec_lt}
 use lib.ListN.{length, get_or}
 use Rattle.parity_table.specs.Members.{ascending, IsMember}
 use Rattle.model.specs.Symbols.{count}
-use Rattle.model.proofs.Counts.{isIt, ascending-once, counted-member, member-counted, lowest-is}
+use Rattle.model.proofs.Counts.{is_it, ascending_once, counted-member, member-counted, lowest-is}
 use Rattle.parity_table.specs.Shape.{k_of}
-use Rattle.parity_table.specs.Table.{layerOf}
+use Rattle.parity_table.specs.Table.{layer_of}
 use lib.Dec.{ltb}
-use Rattle.coverage.specs.Coverage.{times, lowestThin}
+use Rattle.coverage.specs.Coverage.{times, lowest_thin}
 
 -- number i is a member of equation e of these
 abbrev In : ℕ → List (List ℕ) → ℕ → Type 0
@@ -54,7 +54,7 @@ some-equation : (i : ℕ) (es : List (List ℕ)) → 1 ≤ times i es → (e : �
 unfolding times
 some-equation i [] h = absurd (omega arith)
 some-equation i (ms ∷ es) h =
-    elim (dec_lt 0 (count (isIt i) ms)) [
+    elim (dec_lt 0 (count (is_it i) ms)) [
       | yes k ↦ (0, (omega arith, counted-member i ms k))
       | no k ↦ let (e, (l, m)) = some-equation i es (omega arith) in (suc e, (omega arith, m))
     ]
@@ -64,8 +64,8 @@ pub two-equations : (i : ℕ) (es : List (List ℕ)) → Ascend es → 2 ≤ tim
 unfolding times
 two-equations i [] a h = absurd (omega arith)
 two-equations i (ms ∷ es) a h =
-    let one : count (isIt i) ms ≤ 1 = ascending-once i ms (a 0 (omega arith)) in
-    elim (dec_lt 0 (count (isIt i) ms)) [
+    let one : count (is_it i) ms ≤ 1 = ascending_once i ms (a 0 (omega arith)) in
+    elim (dec_lt 0 (count (is_it i) ms)) [
       | yes k ↦ let (f, (l, m)) = some-equation i es (omega arith) in (0, suc f, omega arith, (omega arith, counted-member i ms k), (omega arith, m))
       | no k ↦
           let (e, f, l, (p, m), (q, n)) = two-equations i es (later ms es a) (omega arith) in
@@ -75,6 +75,6 @@ two-equations i (ms ∷ es) a h =
 -- ---- the lowest symbol in fewer than two
 
 -- it is a data symbol, or their number
-pub lowest-low : (tbl : List (List (List ℕ))) (j : ℕ) → lowestThin tbl j ≤ k_of j
-unfolding lowestThin
-lowest-low tbl j = omega (arith, (lowest-is (λ i. ltb (times i (layerOf tbl j)) 2) 0 (k_of j)).upto)
+pub lowest-low : (tbl : List (List (List ℕ))) (j : ℕ) → lowest_thin tbl j ≤ k_of j
+unfolding lowest_thin
+lowest-low tbl j = omega (arith, (lowest-is (λ i. ltb (times i (layer_of tbl j)) 2) 0 (k_of j)).upto)

@@ -1,18 +1,18 @@
 -- How a layer's data symbols are counted, in one pass over its words. Definitions only.
 use Rattle.std.specs.Prelude.{◌≡◌, Bool, true, false, not, ◌&&◌, List, [], ◌∷◌, ℕ, ◌+◌, ◌≤◌, ◌<◌, length, get_or, drop, set, replicate, leb, ltb}
 use Rattle.octets.specs.Choice.{pick}
-use Rattle.parity_table.specs.Table.{layerWord}
-use Rattle.parity_table.specs.Parse.{opensEquation}
+use Rattle.parity_table.specs.Table.{layer_word}
+use Rattle.parity_table.specs.Parse.{opens_equation}
 use Rattle.model.specs.Symbols.{lowest}
 
 -- a word that opens a layer, or the end word
-unfoldable pub endsLayer : ℕ → Bool
-endsLayer w = leb (layerWord 0) w && not (opensEquation w)
+unfoldable pub ends_layer : ℕ → Bool
+ends_layer w = leb (layer_word 0) w && not (opens_equation w)
 
 -- some word does
-unfoldable pub hasEnd : List ℕ → Bool
-hasEnd [] = false
-hasEnd (w ∷ ws) = pick (endsLayer w) true (hasEnd ws)
+unfoldable pub has_end : List ℕ → Bool
+has_end [] = false
+has_end (w ∷ ws) = pick (ends_layer w) true (has_end ws)
 
 -- word w is counted where it is the number of a data symbol, which has an entry
 unfoldable pub noted : List ℕ → ℕ → List ℕ
@@ -33,15 +33,15 @@ tallied seen rest = record { seen = seen; rest = rest }
 -- the words up to the layer's end
 unfoldable pub tally : List ℕ → List ℕ → Tally
 tally seen [] = tallied seen []
-tally seen (w ∷ ws) = pick (endsLayer w) (tallied seen (w ∷ ws)) (tally (noted seen w) ws)
+tally seen (w ∷ ws) = pick (ends_layer w) (tallied seen (w ∷ ws)) (tally (noted seen w) ws)
 
 -- symbol i was seen fewer than two times
-unfoldable pub isThin : List ℕ → ℕ → Bool
-isThin seen i = ltb (get_or seen i 0) 2
+unfoldable pub is_thin : List ℕ → ℕ → Bool
+is_thin seen i = ltb (get_or seen i 0) 2
 
 -- a layer of k data symbols, whose equations stand from word `at` on, ends at word `end`, and `low` is its lowest symbol that was seen fewer than two
 -- times, k where none was
 abbrev pub LayerCounted : List ℕ → ℕ → ℕ → ℕ → ℕ → Type 0
 LayerCounted ws at k end low =
     (end ≤ length ws) × (drop end ws ≡ (tally (replicate k 0) (drop at ws)).rest)
-    × (low ≡ lowest (isThin (tally (replicate k 0) (drop at ws)).seen) 0 (length (tally (replicate k 0) (drop at ws)).seen))
+    × (low ≡ lowest (is_thin (tally (replicate k 0) (drop at ws)).seen) 0 (length (tally (replicate k 0) (drop at ws)).seen))

@@ -1,9 +1,9 @@
 -- What the test of a table's coverage answers, as a definition that computes. Its answer is the right one by `Covered` and `FirstUncovered` of
--- parity_table, and no other is: `coverage-right`, `right_unique` of proofs/Right.antt. Definitions only.
+-- parity_table, and no other is: `coverage_right`, `right_unique` of proofs/Right.antt. Definitions only.
 use Rattle.std.specs.Prelude.{Bool, List, [], ◌∷◌, ℕ, ◌+◌, ltb, eqb}
 use Rattle.octets.specs.Choice.{pick}
 use Rattle.parity_table.specs.Shape.{k_of}
-use Rattle.parity_table.specs.Table.{layerOf}
+use Rattle.parity_table.specs.Table.{layer_of}
 use Rattle.parity_table.specs.Coverage.{Covered, FirstUncovered}
 use Rattle.model.specs.Symbols.{count, lowest}
 use Rattle.coverage.specs.declared.Coverage.{Coverage}
@@ -15,18 +15,18 @@ times i [] = 0
 times i (ms ∷ es) = count (λ x. eqb x i) ms + times i es
 
 -- the lowest data symbol of layer j that is a member of fewer than two of its equations, k where there is none
-unfoldable pub lowestThin : List (List (List ℕ)) → ℕ → ℕ
-lowestThin tbl j = lowest (λ i. ltb (times i (layerOf tbl j)) 2) 0 (k_of j)
+unfoldable pub lowest_thin : List (List (List ℕ)) → ℕ → ℕ
+lowest_thin tbl j = lowest (λ i. ltb (times i (layer_of tbl j)) 2) 0 (k_of j)
 
-unfoldable pub hasThin : List (List (List ℕ)) → ℕ → Bool
-hasThin tbl j = ltb (lowestThin tbl j) (k_of j)
+unfoldable pub has_thin : List (List (List ℕ)) → ℕ → Bool
+has_thin tbl j = ltb (lowest_thin tbl j) (k_of j)
 
 -- the first layer that has such a symbol, d where there is none
-unfoldable pub firstThin : ℕ → List (List (List ℕ)) → ℕ
-firstThin d tbl = lowest (hasThin tbl) 0 d
+unfoldable pub first_thin : ℕ → List (List (List ℕ)) → ℕ
+first_thin d tbl = lowest (has_thin tbl) 0 d
 
-unfoldable pub coverageOf : ℕ → List (List (List ℕ)) → Coverage
-coverageOf d tbl = pick (ltb (firstThin d tbl) d) (found.Uncovered (firstThin d tbl) (lowestThin tbl (firstThin d tbl))) found.Covered
+unfoldable pub coverage_of : ℕ → List (List (List ℕ)) → Coverage
+coverage_of d tbl = pick (ltb (first_thin d tbl) d) (found.Uncovered (first_thin d tbl) (lowest_thin tbl (first_thin d tbl))) found.Covered
 
 -- what is right of an answer
 abbrev pub Right : ℕ → List (List (List ℕ)) → Coverage → Type 0

@@ -4,8 +4,8 @@ ghost use Rattle.parity_table.specs.Parse.{table_of};
 ghost use Rattle.parity_table.specs.Reader.{read_of};
 ghost use Rattle.parity_table.specs.declared.Answer.TheVariants.{Whole};
 ghost use Rattle.model.specs.Symbols.{lowest};
-ghost use Rattle.coverage.specs.Counting.{endsLayer, hasEnd, noted, Below, tally, tallied, isThin, LayerCounted};
-ghost use Rattle.coverage.specs.Coverage.{coverageOf};
+ghost use Rattle.coverage.specs.Counting.{ends_layer, has_end, noted, Below, tally, tallied, is_thin, LayerCounted};
+ghost use Rattle.coverage.specs.Coverage.{coverage_of};
 
 use parity_table::{END, EQUATION, LAYER, MAX_DATA, data_count};
 
@@ -26,7 +26,7 @@ pub struct Counted {
 
 // A word that opens a layer, or the end word.
 fn ends_layer(w: u32) -> bool
-    ensures { result ≡ endsLayer w }
+    ensures { result ≡ ends_layer w }
 {
     if w < LAYER {
         return false;
@@ -40,7 +40,7 @@ fn ends_layer(w: u32) -> bool
 // Counts word w where it is the number of a data symbol, seen having an entry for each; whether it ends the layer.
 fn note(seen: &mut [u16], w: u32) -> bool
     requires { (length seen.old ≤ 2 ^ 30) × Below seen.old (2 ^ 16 - 2) }
-    ensures { (result ≡ endsLayer w) × (seen.new ≡ noted seen.old w) }
+    ensures { (result ≡ ends_layer w) × (seen.new ≡ noted seen.old w) }
 {
     let i = w as usize;
     if i < seen.len() {
@@ -52,7 +52,7 @@ fn note(seen: &mut [u16], w: u32) -> bool
 
 // Counts the data symbols among the words from `at` to the layer's end; where that is.
 fn count_to_end(ws: &[u32], at: usize, seen: &mut [u16]) -> usize
-    requires { (hasEnd (drop at ws.now) ≡ true) × (length seen.old ≤ 2 ^ 30) × Below seen.old at × (length ws.now < 2 ^ 16) }
+    requires { (has_end (drop at ws.now) ≡ true) × (length seen.old ≤ 2 ^ 30) × Below seen.old at × (length ws.now < 2 ^ 16) }
     ensures { (result ≤ length ws.now)
         × (tallied seen.new (drop result ws.now) ≡ tally seen.old (drop at ws.now)) }
 {
@@ -67,7 +67,7 @@ fn count_to_end(ws: &[u32], at: usize, seen: &mut [u16]) -> usize
 
 // The lowest symbol that was seen fewer than two times; how many there are where none was. What was seen of those before it is forgotten.
 fn first_thin(seen: &mut [u16]) -> usize
-    ensures { (result ≡ lowest (isThin seen.old) 0 (length seen.old))
+    ensures { (result ≡ lowest (is_thin seen.old) 0 (length seen.old))
         × (take result seen.new ≡ replicate result 0) × (drop result seen.new ≡ drop result seen.old) }
 {
     for i in 0..seen.len() {
@@ -81,7 +81,7 @@ fn first_thin(seen: &mut [u16]) -> usize
 
 // A layer whose equations stand from word `at` on, counted in seen, which has an entry for each data symbol: 0, and 0 again where none is found.
 fn count_layer(ws: &[u32], at: usize, seen: &mut [u16]) -> Counted
-    requires { (hasEnd (drop at ws.now) ≡ true) × (length seen.old ≤ 2 ^ 30) × (seen.old ≡ replicate (length seen.old) 0)
+    requires { (has_end (drop at ws.now) ≡ true) × (length seen.old ≤ 2 ^ 30) × (seen.old ≡ replicate (length seen.old) 0)
         × (length ws.now < 2 ^ 16) }
     ensures { LayerCounted ws.now at (length seen.old) result.end result.lowest
         × (result.lowest ≡ length seen.old → seen.new ≡ seen.old) }
@@ -94,7 +94,7 @@ fn count_layer(ws: &[u32], at: usize, seen: &mut [u16]) -> Counted
 // The coverage of a table of this depth.
 pub fn check(ws: &[u32], depth: usize) -> Coverage
     requires { read_of depth ws.now ≡ Whole }
-    ensures { result ≡ coverageOf depth (table_of ws.now) }
+    ensures { result ≡ coverage_of depth (table_of ws.now) }
 {
     let mut seen = [0u16; MAX_DATA];
     let mut at: usize = 0;

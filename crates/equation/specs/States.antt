@@ -2,9 +2,9 @@
 use Rattle.std.specs.Prelude.{Bool, List, ℕ}
 use Rattle.octets.specs.ByteLists.{same}
 use Rattle.model.specs.Shape.{tree}
-use Rattle.model.specs.Symbols.{committed, symAt}
+use Rattle.model.specs.Symbols.{committed, sym_at}
 use Rattle.model.specs.Repair.{St, End}
-use Rattle.symbol_hash.specs.SymbolHash.{symbolHash}
+use Rattle.symbol_hash.specs.SymbolHash.{symbol_hash}
 use Rattle.symbol_hash.specs.declared.Kind.{Kind}
 
 -- the state with these buffers, s symbols stored and d layers entered
@@ -12,5 +12,5 @@ abbrev pub state : List ℕ → List ℕ → List ℕ → List ℕ → ℕ → �
 state t m o u s d z = record { tree = t; marks = m; out = o; used = u; stored = s; entered = d; end = z }
 
 -- the hash of v is the one committed for symbol i of layer j
-abbrev pub fitsIn : Kind → List ℕ → List ℕ → ℕ → ℕ → List ℕ → Bool
-fitsIn kind root t j i v = same (symbolHash kind j i v) (committed tree root (symAt tree t) j i)
+abbrev pub fits_in : Kind → List ℕ → List ℕ → ℕ → ℕ → List ℕ → Bool
+fits_in kind root t j i v = same (symbol_hash kind j i v) (committed tree root (sym_at tree t) j i)

@@ -2,10 +2,10 @@
 ghost use Rattle.std.specs.Prelude.{◌≡◌, true, ◌<◌};
 ghost use Rattle.octets.specs.ByteLists.{same};
 ghost use Rattle.model.specs.Shape.{tree as shape};
-ghost use Rattle.model.specs.Symbols.{count, xorOf, zeros, symAt};
-ghost use Rattle.model.specs.Repair.{absentAt};
+ghost use Rattle.model.specs.Symbols.{count, xor_of, zeros, sym_at};
+ghost use Rattle.model.specs.Repair.{absent_at};
 ghost use Rattle.fault_writer.specs.Room.{Members};
-ghost use Rattle.equation.specs.Rooms.{Workable, Turnable, Stands, membersAt};
+ghost use Rattle.equation.specs.Rooms.{Workable, Turnable, Stands, members_at};
 ghost use Rattle.equation.specs.Turns.{Took, Refuted, few};
 
 use crate::Turn;
@@ -32,7 +32,7 @@ fn form(
     e: usize,
 ) -> Turn
     requires { Turnable root.now members.now tree.old marks.old out.old used.old j e
-        × (0 < count (absentAt shape marks.old j) members.now) }
+        × (0 < count (absent_at shape marks.old j) members.now) }
     ensures { Took kind root.now members.now j e tree.old marks.old out.old
         used.old tree.new marks.new out.new used.new result }
 {
@@ -80,7 +80,7 @@ fn refute(
 // Whether the exclusive-or of the members is 256 zero bytes.
 pub fn holds(members: &[u32], tree: &[u8], j: usize) -> bool
     requires { Members j tree.now members.now }
-    ensures { result ≡ same (xorOf (symAt shape tree.now j) members.now) zeros }
+    ensures { result ≡ same (xor_of (sym_at shape tree.now j) members.now) zeros }
 {
     let mut sum = [0u8; 256];
     xor_others(&mut sum, tree, first_place(j), members, NONE);
@@ -129,9 +129,9 @@ pub fn take(
     e: usize,
 ) -> Turn
     requires { Stands words.now starts.now number
-        × Turnable root.now (membersAt words.now starts.now number) tree.old marks.old out.old used.old j e
-        × (few j marks.old (membersAt words.now starts.now number) ≡ true) }
-    ensures { Took kind root.now (membersAt words.now starts.now number) j e tree.old
+        × Turnable root.now (members_at words.now starts.now number) tree.old marks.old out.old used.old j e
+        × (few j marks.old (members_at words.now starts.now number) ≡ true) }
+    ensures { Took kind root.now (members_at words.now starts.now number) j e tree.old
         marks.old out.old used.old tree.new marks.new out.new used.new result }
 {
     let at = starts[number];

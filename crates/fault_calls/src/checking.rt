@@ -1,8 +1,8 @@
 // Checking a fault proof.
 ghost use Rattle.std.specs.Prelude.{◌≡◌};
-ghost use Rattle.fault_proof.specs.Verdicts.{verdictOf};
+ghost use Rattle.fault_proof.specs.Verdicts.{verdict_of};
 ghost use Rattle.calls.specs.Room.{Room};
-ghost use Rattle.fault_calls.specs.Checking.{proofSized, judged, proofChecked};
+ghost use Rattle.fault_calls.specs.Checking.{proof_sized, judged, proof_checked};
 
 use calls::{Answer, Stop, admit_by, stops_at_depth};
 use fault_proof::Verdict;
@@ -11,7 +11,7 @@ use table_bytes::{MAX_WORDS, SHALLOW_WORDS};
 
 // The checker's verdict as an answer.
 fn answer_of(v: Verdict) -> Answer
-    ensures { result ≡ judged (verdictOf v) }
+    ensures { result ≡ judged (verdict_of v) }
 {
     match v {
         Verdict::Accepted => Answer::Done,
@@ -24,7 +24,7 @@ fn answer_of(v: Verdict) -> Answer
 
 // Whether a record has its length, and a proof is long enough for a head.
 fn sizes_fit(record_len: usize, proof: usize) -> bool
-    ensures { result ≡ proofSized record_len proof }
+    ensures { result ≡ proof_sized record_len proof }
 {
     if record_len != root_record::BYTES {
         return false;
@@ -42,7 +42,7 @@ fn check_in(
     starts: &mut [usize],
 ) -> Answer
     requires { Room depth words.old starts.old }
-    ensures { result ≡ proofChecked depth root_record.now table.now proof.now }
+    ensures { result ≡ proof_checked depth root_record.now table.now proof.now }
 {
     let sized = sizes_fit(root_record.len(), proof.len());
     if let Answer::Stopped(s) = admit_by(depth, sized, root_record, table, words, starts) {
@@ -56,7 +56,7 @@ fn check_in(
 
 // check for a deeper tree.
 fn check_deep(depth: usize, root_record: &[u8], table: &[u8], proof: &[u8]) -> Answer
-    ensures { result ≡ proofChecked depth root_record.now table.now proof.now }
+    ensures { result ≡ proof_checked depth root_record.now table.now proof.now }
 {
     let mut words = [0u32; MAX_WORDS];
     let mut starts = [0usize; MAX_EQUATIONS];
@@ -70,7 +70,7 @@ fn check_deep(depth: usize, root_record: &[u8], table: &[u8], proof: &[u8]) -> A
 // Checks a fault proof against a record and a table that comes as bytes: tests 1, 2, 11, 3, 10, 12, 6, then 2 again for the length its head
 // demands, 7, 8. Done: a fault is shown.
 pub fn check(depth: usize, root_record: &[u8], table: &[u8], proof: &[u8]) -> Answer
-    ensures { result ≡ proofChecked depth root_record.now table.now proof.now }
+    ensures { result ≡ proof_checked depth root_record.now table.now proof.now }
 {
     if is_deep(depth) {
         return check_deep(depth, root_record, table, proof);

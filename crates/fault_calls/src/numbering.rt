@@ -2,7 +2,7 @@
 ghost use Rattle.std.specs.Prelude.{◌≡◌, ◌^◌, ◌<◌};
 ghost use Rattle.model.specs.Repair.{twins};
 ghost use Rattle.repair.specs.Reports.{end_of};
-ghost use Rattle.fault_calls.specs.Repairing.{endNumber, endValue, misfilledNumber};
+ghost use Rattle.fault_calls.specs.Repairing.{end_number, end_value, misfilled_number};
 
 use crate::Ending;
 use repair::{End, Report};
@@ -16,14 +16,14 @@ fn with(end: usize, stored: usize, value: usize) -> Ending
 
 // "ends with 13 in place of whole"
 pub fn misfilled(stored: usize) -> Ending
-    ensures { (result.end ≡ misfilledNumber) × (result.stored ≡ stored) × (result.value ≡ 0) }
+    ensures { (result.end ≡ misfilled_number) × (result.stored ≡ stored) × (result.value ≡ 0) }
 {
     with(13, stored, 0)
 }
 
 // The ends by number.
 pub fn end_number(end: End) -> usize
-    ensures { result ≡ endNumber (end_of end) }
+    ensures { result ≡ end_number (end_of end) }
 {
     match end {
         End::Whole => 0,
@@ -43,8 +43,8 @@ pub fn end_number(end: End) -> usize
 
 // Layer and number of twins in one number, of a volume whose symbols are hashed with their places.
 fn twins_value(kind: Kind, layer: usize, number: usize) -> usize
-    requires { endValue kind (twins layer number) < 2 ^ 16 }
-    ensures { result ≡ endValue kind (twins layer number) }
+    requires { end_value kind (twins layer number) < 2 ^ 16 }
+    ensures { result ≡ end_value kind (twins layer number) }
 {
     match kind {
         Kind::Plain => 0,
@@ -54,8 +54,8 @@ fn twins_value(kind: Kind, layer: usize, number: usize) -> usize
 
 // What goes with an end, of a volume of this kind.
 fn end_value(kind: Kind, end: End) -> usize
-    requires { endValue kind (end_of end) < 2 ^ 16 }
-    ensures { result ≡ endValue kind (end_of end) }
+    requires { end_value kind (end_of end) < 2 ^ 16 }
+    ensures { result ≡ end_value kind (end_of end) }
 {
     match end {
         End::Whole => 0,
@@ -71,8 +71,8 @@ fn end_value(kind: Kind, end: End) -> usize
 }
 
 pub fn ending_of(kind: Kind, r: Report) -> Ending
-    requires { endValue kind (end_of r.end) < 2 ^ 16 }
-    ensures { (result.end ≡ endNumber (end_of r.end)) × (result.stored ≡ r.stored) × (result.value ≡ endValue kind (end_of r.end)) }
+    requires { end_value kind (end_of r.end) < 2 ^ 16 }
+    ensures { (result.end ≡ end_number (end_of r.end)) × (result.stored ≡ r.stored) × (result.value ≡ end_value kind (end_of r.end)) }
 {
     let end = r.end;
     with(end_number(end), r.stored, end_value(kind, end))

@@ -1,16 +1,16 @@
 // Repairing a tree.
 ghost use Rattle.std.specs.Prelude.{◌≡◌, true, ◌&&◌, ◌-◌, ◌*◌, ◌≤◌, length};
-ghost use Rattle.parity_table.specs.Shape.{maxDepth, depthFits, k_of};
+ghost use Rattle.parity_table.specs.Shape.{max_depth, depth_fits, k_of};
 ghost use Rattle.parity_table.specs.Parse.{table_of};
-ghost use Rattle.symbol_hash.specs.SymbolHash.{symbolHash};
+ghost use Rattle.symbol_hash.specs.SymbolHash.{symbol_hash};
 ghost use Rattle.model.specs.Shape.{tree as shape, places};
-ghost use Rattle.model.specs.Writer.{zeroFilled};
+ghost use Rattle.model.specs.Writer.{zero_filled};
 ghost use Rattle.model.specs.Repair.{repair as steps};
-ghost use Rattle.calls.specs.Tests.{testMarks};
+ghost use Rattle.calls.specs.Tests.{test_marks};
 ghost use Rattle.calls.specs.Room.{Room};
 ghost use Rattle.repair.specs.Buffers.{Given, Lists};
 ghost use Rattle.repair.specs.Reports.{end_of};
-ghost use Rattle.fault_calls.specs.Repairing.{repairSized, endedBy, repairedBy, repaired, outcomeOf, leaves};
+ghost use Rattle.fault_calls.specs.Repairing.{repair_sized, ended_by, repaired_by, repaired, outcome_of, leaves};
 
 use crate::Outcome;
 use crate::numbering::end_number;
@@ -22,7 +22,7 @@ use table_bytes::{MAX_WORDS, SHALLOW_WORDS};
 
 // Whether the depth is one, and record, tree, marks and output have the lengths of it.
 fn sizes_fit(depth: usize, record_len: usize, tree: usize, marks: usize, out: usize) -> bool
-    ensures { result ≡ depthFits depth && repairSized depth record_len tree marks out }
+    ensures { result ≡ depth_fits depth && repair_sized depth record_len tree marks out }
 {
     if !tree_fits(depth, tree, marks) {
         return false;
@@ -35,8 +35,8 @@ fn sizes_fit(depth: usize, record_len: usize, tree: usize, marks: usize, out: us
 
 // The end of a repair, of a tree of this depth with a block of n bytes: whole is misfilled where what fills up the block isn't zero.
 fn ended(report: Report, depth: usize, tree: &[u8], n: usize) -> Outcome
-    requires { (1 ≤ depth) × (depth ≤ maxDepth) × (length tree.now ≡ 256 * places shape depth) × (n ≤ 256 * k_of (depth - 1)) }
-    ensures { outcomeOf result ≡ endedBy (zeroFilled shape depth n tree.now) report.stored (end_of report.end) }
+    requires { (1 ≤ depth) × (depth ≤ max_depth) × (length tree.now ≡ 256 * places shape depth) × (n ≤ 256 * k_of (depth - 1)) }
+    ensures { outcome_of result ≡ ended_by (zero_filled shape depth n tree.now) report.stored (end_of report.end) }
 {
     let end = report.end;
     // whole
@@ -67,9 +67,9 @@ fn repair_with(
 ) -> Outcome
     requires { Given depth words.now starts.now root.now tree.old marks.old out.old × (n ≤ 256 * k_of (depth - 1))
         × Lists (k_of (depth - 1)) used.old absent.old order.old last.old next.old }
-    ensures { leaves (outcomeOf result) tree.new marks.new out.new
-        ≡ repairedBy (testMarks marks.old) depth n
-        (steps shape (symbolHash kind) root.now (table_of words.now) tree.old marks.old out.old)
+    ensures { leaves (outcome_of result) tree.new marks.new out.new
+        ≡ repaired_by (test_marks marks.old) depth n
+        (steps shape (symbol_hash kind) root.now (table_of words.now) tree.old marks.old out.old)
         tree.old marks.old out.old }
 {
     if let Answer::Stopped(s) = test_marks(marks) {
@@ -98,8 +98,8 @@ fn repair_in(
     next: &mut [u32],
 ) -> Outcome
     requires { Room depth words.old starts.old
-        × (depthFits depth ≡ true → Lists (k_of (depth - 1)) used.old absent.old order.old last.old next.old) }
-    ensures { leaves (outcomeOf result) tree.new marks.new out.new
+        × (depth_fits depth ≡ true → Lists (k_of (depth - 1)) used.old absent.old order.old last.old next.old) }
+    ensures { leaves (outcome_of result) tree.new marks.new out.new
         ≡ repaired depth root_record.now table.now tree.old marks.old out.old }
 {
     let sized = sizes_fit(depth, root_record.len(), tree.len(), marks.len(), out.len());
@@ -134,7 +134,7 @@ fn repair_deep(
     marks: &mut [u8],
     out: &mut [u8],
 ) -> Outcome
-    ensures { leaves (outcomeOf result) tree.new marks.new out.new
+    ensures { leaves (outcome_of result) tree.new marks.new out.new
         ≡ repaired depth root_record.now table.now tree.old marks.old out.old }
 {
     let mut words = [0u32; MAX_WORDS];
@@ -177,7 +177,7 @@ pub fn repair_tree(
     marks: &mut [u8],
     out: &mut [u8],
 ) -> Outcome
-    ensures { leaves (outcomeOf result) tree.new marks.new out.new
+    ensures { leaves (outcome_of result) tree.new marks.new out.new
         ≡ repaired depth root_record.now table.now tree.old marks.old out.old }
 {
     if is_deep(depth) {

@@ -9,27 +9,27 @@ use Rattle.octets.specs.ByteLists.{xors}
 use Rattle.octets.proofs.ListLaws.{length_part, length-xors}
 use Rattle.symbol_hash.specs.declared.Way.{Way}
 use Rattle.symbol_hash.specs.declared.Way.TheVariants.{Leads, Breaks}
-use Rattle.symbol_hash.specs.Ways.{climbOf}
+use Rattle.symbol_hash.specs.Ways.{climb_of}
 use Rattle.model.specs.Shape.{tree}
-use Rattle.model.specs.Symbols.{symbolIn, zeros, others}
-use Rattle.model.specs.Climb.{Climb, Ways, allLead, breakAt, firstBreak}
-use Rattle.model.specs.Fault.{next, givenXor, wayCheck, pathCheck, waysCheck}
-use Rattle.model.proofs.Bytes.{xors-comm, xors-assoc, sym-zeros, length-zeros}
-use Rattle.model.proofs.Members.{others-skip, others-take, others-end}
-use Rattle.model.proofs.Ways.{next-at}
+use Rattle.model.specs.Symbols.{symbol_in, zeros, others}
+use Rattle.model.specs.Climb.{Climb, Ways, all_lead, break_at, first_break}
+use Rattle.model.specs.Fault.{next, given_xor, way_check, path_check, ways_check}
+use Rattle.model.proofs.Bytes.{xors_comm, xors_assoc, sym_zeros, length-zeros}
+use Rattle.model.proofs.Members.{others_skip, others-take, others-end}
+use Rattle.model.proofs.Ways.{next_at}
 
 -- ---- where they stand in b, from byte `from` on
 
 module _ (b : List ℕ) (j : ℕ) where
   -- their exclusive-or has 256 bytes
-  length-xor : (ys : List ℕ) (from : ℕ) → from + 256 * (length ys * suc j) ≤ length b → length (givenXor j ys (drop from b)) ≡ 256
-  unfolding givenXor symbolIn
-  length-xor [] from h = length-zeros
-  length-xor (y ∷ ys) from h =
+  length_xor : (ys : List ℕ) (from : ℕ) → from + 256 * (length ys * suc j) ≤ length b → length (given_xor j ys (drop from b)) ≡ 256
+  unfolding given_xor symbol_in
+  length_xor [] from h = length-zeros
+  length_xor (y ∷ ys) from h =
       let l : length (take 256 (drop from b)) ≡ 256 = length_part b from 256 (omega arith) in
-      let m : length (givenXor j ys (next j (drop from b))) ≡ 256 =
-      ap (λ c. length (givenXor j ys c)) (next-at b j from) ∙ length-xor ys (from + 256 * (j + 1)) (omega arith) in
-      omega (arith, length-xors (take 256 (drop from b)) (givenXor j ys (next j (drop from b))), l, m)
+      let m : length (given_xor j ys (next j (drop from b))) ≡ 256 =
+      ap (λ c. length (given_xor j ys c)) (next_at b j from) ∙ length_xor ys (from + 256 * (j + 1)) (omega arith) in
+      omega (arith, length-xors (take 256 (drop from b)) (given_xor j ys (next j (drop from b))), l, m)
 
 -- ---- the members other than x, from member i on, which stand in b from byte `from` on
 
@@ -40,10 +40,10 @@ module _ (b ms : List ℕ) (j x : ℕ) where
 
   -- what the check of their ways and of x's path finds, the first of them being at position p, and their exclusive-or
   abbrev found : (ℕ → ℕ → List ℕ → List ℕ) → List ℕ → ℕ → ℕ → ℕ → Ways
-  found H root i from p = waysCheck tree H root j x p (others x (drop i ms)) (drop from b)
+  found H root i from p = ways_check tree H root j x p (others x (drop i ms)) (drop from b)
 
   abbrev left : ℕ → ℕ → List ℕ
-  left i from = givenXor j (others x (drop i ms)) (drop from b)
+  left i from = given_xor j (others x (drop i ms)) (drop from b)
 
   -- the members before i, of which p are given, lead to the root: what is left decides
   pub record Led (H : ℕ → ℕ → List ℕ → List ℕ) (root : List ℕ) (at i from p : ℕ) : Type 0 where
@@ -57,15 +57,15 @@ module _ (b ms : List ℕ) (j x : ℕ) where
     pub room : Room i from 0
     pub rest : xors acc (left i from) ≡ left 0 at
 
-  pub led-start : (H : ℕ → ℕ → List ℕ → List ℕ) (root : List ℕ) (at : ℕ) → Room 0 at (256 * j) → Led H root at 0 at 0
-  led-start H root at h = record { few = omega arith; room = h; rest = refl }
+  pub led_start : (H : ℕ → ℕ → List ℕ → List ℕ) (root : List ℕ) (at : ℕ) → Room 0 at (256 * j) → Led H root at 0 at 0
+  led_start H root at h = record { few = omega arith; room = h; rest = refl }
 
-  pub gathered-start : (at : ℕ) (acc : List ℕ) → acc ≡ zeros → Room 0 at 0 → Gathered at acc 0 at
-  gathered-start at acc e h =
+  pub gathered_start : (at : ℕ) (acc : List ℕ) → acc ≡ zeros → Room 0 at 0 → Gathered at acc 0 at
+  gathered_start at acc e h =
       record {
         sized = ap length e ∙ length-zeros;
         room = h;
-        rest = ap (λ q. xors q (left 0 at)) e ∙ xors-comm zeros (left 0 at) ∙ sym-zeros (left 0 at) (length-xor b j (others x ms) at (omega arith));
+        rest = ap (λ q. xors q (left 0 at)) e ∙ xors_comm zeros (left 0 at) ∙ sym_zeros (left 0 at) (length_xor b j (others x ms) at (omega arith));
       }
 
   module _ (i : ℕ) (h : i < length ms) where
@@ -73,19 +73,19 @@ module _ (b ms : List ℕ) (j x : ℕ) where
 
     module _ (e : get_or ms i 0 ≡ x) where
       none : others x (drop (i + 1) ms) ≡ others x (drop i ms)
-      none = sym (others-skip x ms i h e)
+      none = sym (others_skip x ms i h e)
 
-      pub led-skip : (H : ℕ → ℕ → List ℕ → List ℕ) (root : List ℕ) (at from p : ℕ) → Led H root at i from p → Led H root at (i + 1) from p
-      led-skip H root at from p s =
+      pub led_skip : (H : ℕ → ℕ → List ℕ → List ℕ) (root : List ℕ) (at from p : ℕ) → Led H root at i from p → Led H root at (i + 1) from p
+      led_skip H root at from p s =
           record {
             few = omega (arith, s.few);
             room = rw none s.room;
-            rest = ap (λ q. waysCheck tree H root j x p q (drop from b)) none ∙ s.rest;
+            rest = ap (λ q. ways_check tree H root j x p q (drop from b)) none ∙ s.rest;
           }
 
-      pub gathered-skip : (at : ℕ) (acc : List ℕ) (from : ℕ) → Gathered at acc i from → Gathered at acc (i + 1) from
-      gathered-skip at acc from s =
-          record { sized = s.sized; room = rw none s.room; rest = ap (λ q. xors acc (givenXor j q (drop from b))) none ∙ s.rest }
+      pub gathered_skip : (at : ℕ) (acc : List ℕ) (from : ℕ) → Gathered at acc i from → Gathered at acc (i + 1) from
+      gathered_skip at acc from s =
+          record { sized = s.sized; room = rw none s.room; rest = ap (λ q. xors acc (given_xor j q (drop from b))) none ∙ s.rest }
 
     -- ---- it is another: it stands at `from`, and those after it at `to`
 
@@ -93,55 +93,55 @@ module _ (b ms : List ℕ) (j x : ℕ) where
       one : others x (drop i ms) ≡ get_or ms i 0 ∷ others x (drop (i + 1) ms)
       one = others-take x ms i h e
 
-      pub way-room : (more : ℕ) → Room i from more → from + 256 * suc j ≤ length b
-      way-room more r = omega (arith, ap (λ q. length q * suc j) one, r)
+      pub way_room : (more : ℕ) → Room i from more → from + 256 * suc j ≤ length b
+      way_room more r = omega (arith, ap (λ q. length q * suc j) one, r)
 
       module _ (to : ℕ) (et : to ≡ from + 256 * (j + 1)) where
         rest-room : (more : ℕ) → Room i from more → Room (i + 1) to more
         rest-room more r = omega (arith, ap (λ q. length q * suc j) one, r, et)
 
-        next-to : next j (drop from b) ≡ drop to b
-        next-to = next-at b j from ∙ ap (λ o. drop o b) (sym et)
+        next_to : next j (drop from b) ≡ drop to b
+        next_to = next_at b j from ∙ ap (λ o. drop o b) (sym et)
 
       abbrev way : (ℕ → ℕ → List ℕ → List ℕ) → List ℕ → Climb
-      way H root = wayCheck tree H root j (get_or ms i 0) (drop from b)
+      way H root = way_check tree H root j (get_or ms i 0) (drop from b)
 
-      module _ (H : ℕ → ℕ → List ℕ → List ℕ) (root : List ℕ) (at p : ℕ) (r : Way) (er : climbOf r ≡ way H root) (s : Led H root at i from p) where
-        found-one : (to : ℕ) → to ≡ from + 256 * (j + 1) → firstBreak p (climbOf r) (found H root (i + 1) to (suc p)) ≡ found H root 0 at 0
-        unfolding waysCheck
+      module _ (H : ℕ → ℕ → List ℕ → List ℕ) (root : List ℕ) (at p : ℕ) (r : Way) (er : climb_of r ≡ way H root) (s : Led H root at i from p) where
+        found-one : (to : ℕ) → to ≡ from + 256 * (j + 1) → first_break p (climb_of r) (found H root (i + 1) to (suc p)) ≡ found H root 0 at 0
+        unfolding ways_check
         found-one to et =
-            ap₂ (λ w c. firstBreak p w (waysCheck tree H root j x (suc p) (others x (drop (i + 1) ms)) c)) er (sym (next-to to et))
-            ∙ ap (λ q. waysCheck tree H root j x p q (drop from b)) (sym one)
+            ap₂ (λ w c. first_break p w (ways_check tree H root j x (suc p) (others x (drop (i + 1) ms)) c)) er (sym (next_to to et))
+            ∙ ap (λ q. ways_check tree H root j x p q (drop from b)) (sym one)
             ∙ s.rest
 
         pub led_on : (to q : ℕ) → to ≡ from + 256 * (j + 1) → q ≡ p + 1 → r ≡ Leads → Led H root at (i + 1) to q
-        unfolding firstBreak
+        unfolding first_break
         led_on to q et eq t =
             record {
               few = omega (arith, s.few);
               room = rest-room to et (256 * j) s.room;
-              rest = ap (found H root (i + 1) to) (eq ∙ add-one p) ∙ ap (λ w. firstBreak p w (found H root (i + 1) to (suc p))) (ap climbOf (sym t)) ∙ found-one to et;
+              rest = ap (found H root (i + 1) to) (eq ∙ add-one p) ∙ ap (λ w. first_break p w (found H root (i + 1) to (suc p))) (ap climb_of (sym t)) ∙ found-one to et;
             }
 
-        pub led-off : (l : ℕ) → r ≡ Breaks l → breakAt l p ≡ found H root 0 at 0
-        unfolding firstBreak
-        led-off l t =
+        pub led_off : (l : ℕ) → r ≡ Breaks l → break_at l p ≡ found H root 0 at 0
+        unfolding first_break
+        led_off l t =
             let to : ℕ = from + 256 * (j + 1) in
-            ap (λ w. firstBreak p w (found H root (i + 1) to (suc p))) (ap climbOf (sym t)) ∙ found-one to refl
+            ap (λ w. first_break p w (found H root (i + 1) to (suc p))) (ap climb_of (sym t)) ∙ found-one to refl
 
-      pub gathered-on : (at to : ℕ) (acc sum : List ℕ) → to ≡ from + 256 * (j + 1) → sum ≡ xors acc (take (length acc) (drop from b)) → Gathered at acc i from
+      pub gathered_on : (at to : ℕ) (acc sum : List ℕ) → to ≡ from + 256 * (j + 1) → sum ≡ xors acc (take (length acc) (drop from b)) → Gathered at acc i from
           → Gathered at sum (i + 1) to
-      unfolding givenXor symbolIn
-      gathered-on at to acc sum et es s =
+      unfolding given_xor symbol_in
+      gathered_on at to acc sum et es s =
           let here : List ℕ = take 256 (drop from b) in
           let q : sum ≡ xors acc here = es ∙ ap (λ n. xors acc (take n (drop from b))) s.sized in
           record {
-            sized = omega (arith, ap length q, length-xors acc here, s.sized, length_part b from 256 (omega (arith, way-room 0 s.room)));
+            sized = omega (arith, ap length q, length-xors acc here, s.sized, length_part b from 256 (omega (arith, way_room 0 s.room)));
             room = rest-room to et 0 s.room;
             rest =
-                ap (λ v. xors v (left (i + 1) to)) q ∙ xors-assoc acc here (left (i + 1) to)
+                ap (λ v. xors v (left (i + 1) to)) q ∙ xors_assoc acc here (left (i + 1) to)
                 ∙ ap (xors acc)
-                (sym (ap (λ ys. givenXor j ys (drop from b)) one ∙ ap (λ c. xors here (givenXor j (others x (drop (i + 1) ms)) c)) (next-to to et)))
+                (sym (ap (λ ys. given_xor j ys (drop from b)) one ∙ ap (λ c. xors here (given_xor j (others x (drop (i + 1) ms)) c)) (next_to to et)))
                 ∙ s.rest;
           }
 
@@ -152,20 +152,20 @@ module _ (b ms : List ℕ) (j x : ℕ) where
     path_room = omega (arith, ap (λ q. length q * suc j) (others-end x ms i h), s.room)
 
     -- r, what the check of x's path finds
-    module _ (r : Way) (er : climbOf r ≡ pathCheck tree H root j x (drop from b)) where
-      led-last : firstBreak p (climbOf r) allLead ≡ found H root 0 at 0
-      unfolding waysCheck
-      led-last = ap (λ w. firstBreak p w allLead) er ∙ sym (ap (λ q. waysCheck tree H root j x p q (drop from b)) (others-end x ms i h)) ∙ s.rest
+    module _ (r : Way) (er : climb_of r ≡ path_check tree H root j x (drop from b)) where
+      led-last : first_break p (climb_of r) all_lead ≡ found H root 0 at 0
+      unfolding ways_check
+      led-last = ap (λ w. first_break p w all_lead) er ∙ sym (ap (λ q. ways_check tree H root j x p q (drop from b)) (others-end x ms i h)) ∙ s.rest
 
-      pub led-end : r ≡ Leads → allLead ≡ found H root 0 at 0
-      unfolding firstBreak
-      led-end t = ap (λ w. firstBreak p w allLead) (ap climbOf (sym t)) ∙ led-last
+      pub led-end : r ≡ Leads → all_lead ≡ found H root 0 at 0
+      unfolding first_break
+      led-end t = ap (λ w. first_break p w all_lead) (ap climb_of (sym t)) ∙ led-last
 
-      pub led-last-off : (l : ℕ) → r ≡ Breaks l → breakAt l p ≡ found H root 0 at 0
-      unfolding firstBreak
-      led-last-off l t = ap (λ w. firstBreak p w allLead) (ap climbOf (sym t)) ∙ led-last
+      pub led-last_off : (l : ℕ) → r ≡ Breaks l → break_at l p ≡ found H root 0 at 0
+      unfolding first_break
+      led-last_off l t = ap (λ w. first_break p w all_lead) (ap climb_of (sym t)) ∙ led-last
 
-  pub gathered-end : (at : ℕ) (acc : List ℕ) (i from : ℕ) → length ms ≤ i → Gathered at acc i from → acc ≡ left 0 at
-  unfolding givenXor
-  gathered-end at acc i from h s =
-      sym (ap (λ q. xors acc (givenXor j q (drop from b))) (others-end x ms i h) ∙ sym-zeros acc s.sized) ∙ s.rest
+  pub gathered_end : (at : ℕ) (acc : List ℕ) (i from : ℕ) → length ms ≤ i → Gathered at acc i from → acc ≡ left 0 at
+  unfolding given_xor
+  gathered_end at acc i from h s =
+      sym (ap (λ q. xors acc (given_xor j q (drop from b))) (others-end x ms i h) ∙ sym_zeros acc s.sized) ∙ s.rest

@@ -8,33 +8,33 @@ use native.Mathlib.Omega.{arith}
 use lib.ListN.{length, take, drop}
 use lib.Seq.{drop-drop}
 use Rattle.octets.specs.ByteLists.{same}
-use Rattle.octets.proofs.ListLaws.{part-ends}
-use Rattle.octets.proofs.Choice.{not_yes, not-no}
+use Rattle.octets.proofs.ListLaws.{part_ends}
+use Rattle.octets.proofs.Choice.{not_yes, not_no}
 use Rattle.parity_table.specs.Shape.{k_of}
 use Rattle.model.specs.Shape.{tree}
-use Rattle.model.specs.Symbols.{symbolIn, committed}
+use Rattle.model.specs.Symbols.{symbol_in, committed}
 use Rattle.model.specs.Climb.{Climb, leads, breaks, climb}
-use Rattle.model.specs.Fault.{reached, pathHash, wayFits, wayCheck, pathCheck}
+use Rattle.model.specs.Fault.{reached, path_hash, way_fits, way_check, path_check}
 use Rattle.model.proofs.Climbs.{climb-next, climb-breaks, climb-ends}
-use Rattle.model.proofs.Shapes.{tree-ok, tree-root, up_lt}
-use Rattle.model.proofs.Ways.{path-committed, reached-lt}
+use Rattle.model.proofs.Shapes.{tree_ok, tree_root, up_lt}
+use Rattle.model.proofs.Ways.{path-committed, reached_lt}
 
 module _ (H : ℕ → ℕ → List ℕ → List ℕ) (root b : List ℕ) (at j i : ℕ) where
   abbrev fit : ℕ → Bool
-  fit = wayFits tree H root j i (drop at b)
+  fit = way_fits tree H root j i (drop at b)
 
   -- symbol y of the way
-  there : (y : ℕ) → take 256 (drop (at + 256 * y) b) ≡ symbolIn (drop at b) y
-  unfolding symbolIn
+  there : (y : ℕ) → take 256 (drop (at + 256 * y) b) ≡ symbol_in (drop at b) y
+  unfolding symbol_in
   there y = ap (take 256) (sym (drop-drop (256 * y) at b))
 
   -- every symbol before x fits
   abbrev pub FitBefore : ℕ → Type 0
-  FitBefore x = climb fit (λ y. j - y) x (suc j - x) ≡ wayCheck tree H root j i (drop at b)
+  FitBefore x = climb fit (λ y. j - y) x (suc j - x) ≡ way_check tree H root j i (drop at b)
 
-  pub fit-start : FitBefore 0
-  unfolding wayCheck
-  fit-start = let e : suc j - 0 ≡ suc j = omega arith in ap (climb fit (λ y. j - y) 0) e
+  pub fit_start : FitBefore 0
+  unfolding way_check
+  fit_start = let e : suc j - 0 ≡ suc j = omega arith in ap (climb fit (λ y. j - y) 0) e
 
   -- the way has reached symbol x, which has number m
   module _ (x m : ℕ) (in-way : x ≤ j) (em : m ≡ reached tree j i x) where
@@ -43,63 +43,63 @@ module _ (H : ℕ → ℕ → List ℕ → List ℕ) (root b : List ℕ) (at j i
     unfolding reached
     reached-next k e = ap₂ (λ n d. n % d) em e ∙ ap (λ y. reached tree j i x % k_of (j - y)) (add-one x) ∙ ap (reached tree j i) (sym (add-one x))
 
-    above : (u : ℕ) → suc u ≡ j - x → symbolIn (drop (at + 256 * x + 256) b) 0 ≡ symbolIn (drop at b) (j - u)
-    unfolding symbolIn
+    above : (u : ℕ) → suc u ≡ j - x → symbol_in (drop (at + 256 * x + 256) b) 0 ≡ symbol_in (drop at b) (j - u)
+    unfolding symbol_in
     above u e =
         let o : at + 256 * x + 256 ≡ at + 256 * (j - u) = omega arith in
         ap (λ n. take 256 (drop n b)) o ∙ there (j - u)
 
     -- it stands from byte at + 256x on, and the one above it after it
     module _ (r : Bool)
-        (er : r ≡ same (H (j - x) m (take (at + 256 * x + 256 - (at + 256 * x)) (drop (at + 256 * x) b))) (pathHash tree root (j - x) m (drop (at + 256 * x + 256) b)))
+        (er : r ≡ same (H (j - x) m (take (at + 256 * x + 256 - (at + 256 * x)) (drop (at + 256 * x) b))) (path_hash tree root (j - x) m (drop (at + 256 * x + 256) b)))
         (before : FitBefore x) where
       fit_is : r ≡ fit x
-      unfolding wayFits
+      unfolding way_fits
       fit_is =
           er
-          ∙ ap₂ (λ s h. same (H (j - x) m s) h) (part-ends b (at + 256 * x) 256 ∙ there x)
-          (path-committed tree root (drop (at + 256 * x + 256) b) (λ u. symbolIn (drop at b) (j - u)) (j - x) m above)
-          ∙ ap (λ n. same (H (j - x) n (symbolIn (drop at b) x)) (committed tree root (λ u v. symbolIn (drop at b) (j - u)) (j - x) n)) em
+          ∙ ap₂ (λ s h. same (H (j - x) m s) h) (part_ends b (at + 256 * x) 256 ∙ there x)
+          (path-committed tree root (drop (at + 256 * x + 256) b) (λ u. symbol_in (drop at b) (j - u)) (j - x) m above)
+          ∙ ap (λ n. same (H (j - x) n (symbol_in (drop at b) x)) (committed tree root (λ u v. symbol_in (drop at b) (j - u)) (j - x) n)) em
 
-      pub breaks-here : not r ≡ true → breaks (j - x) ≡ wayCheck tree H root j i (drop at b)
+      pub breaks-here : not r ≡ true → breaks (j - x) ≡ way_check tree H root j i (drop at b)
       breaks-here t = sym (climb-breaks fit (λ y. j - y) (suc j) x (omega arith) (sym fit_is ∙ not_yes r t)) ∙ before
 
       pub fits-here : not r ≡ false → FitBefore (x + 1)
-      fits-here t = climb-next fit (λ y. j - y) (suc j) x (omega arith) (sym fit_is ∙ not-no r t) ∙ before
+      fits-here t = climb-next fit (λ y. j - y) (suc j) x (omega arith) (sym fit_is ∙ not_no r t) ∙ before
 
-      pub leads-here : not r ≡ false → x ≡ j → leads ≡ wayCheck tree H root j i (drop at b)
+      pub leads-here : not r ≡ false → x ≡ j → leads ≡ way_check tree H root j i (drop at b)
       leads-here t e = sym (climb-ends fit (λ y. j - y) (suc j) (x + 1) (omega arith)) ∙ fits-here t
 
 -- ---- what the comparison with the committed hash asks
 
 -- every symbol on the way stands under the tree's layers, or in the root
-pub way-inside : (root : List ℕ) (j i x m : ℕ) → x ≤ j → m ≡ reached tree j i x → (j ≡ 0 → 32 * suc i ≤ length root)
+pub way_inside : (root : List ℕ) (j i x m : ℕ) → x ≤ j → m ≡ reached tree j i x → (j ≡ 0 → 32 * suc i ≤ length root)
     → (0 < j → (i < tree.n j) × (512 ≤ length root)) → (j - x ≡ 0 → 32 * suc m ≤ length root) × (0 < j - x → m < tree.n (j - x))
 unfolding reached
-way-inside root zero i zero m b em top hung = (λ z. omega (arith, em, top refl), λ h. absurd (omega arith))
-way-inside root zero i (suc x) m b em top hung = absurd (omega arith)
-way-inside root (suc j) i x m b em top hung =
+way_inside root zero i zero m b em top hung = (λ z. omega (arith, em, top refl), λ h. absurd (omega arith))
+way_inside root zero i (suc x) m b em top hung = absurd (omega arith)
+way_inside root (suc j) i x m b em top hung =
     let (inside, full) = hung (omega arith) in
-    let below : m < tree.n (suc j - x) = omega (arith, em, reached-lt tree (suc j) i tree-ok.shape inside x b) in
-    (λ z. omega (arith, below, ap tree.n z, tree-root, full), λ h. below)
+    let below : m < tree.n (suc j - x) = omega (arith, em, reached_lt tree (suc j) i tree_ok.shape inside x b) in
+    (λ z. omega (arith, below, ap tree.n z, tree_root, full), λ h. below)
 
 -- the data symbol above, from which a path is the way
 pub above-inside : (root : List ℕ) (j i k : ℕ) → k ≡ k_of j → 512 ≤ length root → (j ≡ 0 → 32 * suc (i % k) ≤ length root) × (0 < j → (i % k < tree.n j) × (512 ≤ length root))
 above-inside root j i k e full =
-    let below : i % k < tree.n j = omega (arith, ap (λ d. i % d) e, up_lt tree tree-ok.shape j i) in
-    (λ z. omega (arith, below, ap tree.n z, tree-root, full), λ h. (below, full))
+    let below : i % k < tree.n j = omega (arith, ap (λ d. i % d) e, up_lt tree tree_ok.shape j i) in
+    (λ z. omega (arith, below, ap tree.n z, tree_root, full), λ h. (below, full))
 
 -- ---- a path
 
-pub path-none : (H : ℕ → ℕ → List ℕ → List ℕ) (root c : List ℕ) (j i : ℕ) → j ≡ 0 → leads ≡ pathCheck tree H root j i c
-unfolding pathCheck
+pub path-none : (H : ℕ → ℕ → List ℕ → List ℕ) (root c : List ℕ) (j i : ℕ) → j ≡ 0 → leads ≡ path_check tree H root j i c
+unfolding path_check
 path-none H root c zero i e = refl
 path-none H root c (suc j) i e = absurd (omega arith)
 
-pub path-some : (H : ℕ → ℕ → List ℕ → List ℕ) (root c : List ℕ) (j i k : ℕ) (w : Climb) → (j ≡ 0 → ⊥) → k ≡ k_of (j - 1) → w ≡ wayCheck tree H root (j - 1) (i % k) c
-    → w ≡ pathCheck tree H root j i c
-unfolding pathCheck
+pub path-some : (H : ℕ → ℕ → List ℕ → List ℕ) (root c : List ℕ) (j i k : ℕ) (w : Climb) → (j ≡ 0 → ⊥) → k ≡ k_of (j - 1) → w ≡ way_check tree H root (j - 1) (i % k) c
+    → w ≡ path_check tree H root j i c
+unfolding path_check
 path-some H root c zero i k w z e ew = absurd (z refl)
 path-some H root c (suc l) i k w z e ew =
     let o : suc l - 1 ≡ l = omega arith in
-    ew ∙ ap₂ (λ u n. wayCheck tree H root u n c) o (ap (λ d. i % d) (e ∙ ap k_of o))
+    ew ∙ ap₂ (λ u n. way_check tree H root u n c) o (ap (λ d. i % d) (e ∙ ap k_of o))

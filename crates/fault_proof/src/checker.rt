@@ -4,8 +4,8 @@ ghost use Rattle.parity_table.specs.Parse.{Indexed, table_of};
 ghost use Rattle.model.specs.Shape.{Shape, Hangs, tree as shape};
 ghost use Rattle.model.specs.Symbols.{count};
 ghost use Rattle.model.specs.Fault.{verdict};
-ghost use Rattle.symbol_hash.specs.SymbolHash.{symbolHash};
-ghost use Rattle.fault_proof.specs.Verdicts.{verdictOf};
+ghost use Rattle.symbol_hash.specs.SymbolHash.{symbol_hash};
+ghost use Rattle.fault_proof.specs.Verdicts.{verdict_of};
 ghost use Rattle.fault_proof.specs.Lent.{Members};
 ghost use Rattle.fault_proof.specs.Ruled.{ruled, judged};
 
@@ -18,7 +18,7 @@ use symbol_hash::Kind;
 // Tests 2, 7 and 8 of a proof that withholds symbol x of layer j, one of the members of its equation.
 fn rule(kind: Kind, j: usize, x: usize, members: &[u32], root: &[u8], proof: &[u8]) -> Verdict
     requires { Members j members.now root.now × (1 ≤ count (λ y. eqb y x) members.now) }
-    ensures { verdictOf result ≡ ruled shape (symbolHash kind) root.now j x members.now proof.now }
+    ensures { verdict_of result ≡ ruled shape (symbol_hash kind) root.now j x members.now proof.now }
 {
     if proof.len() != 12 + 256 * ((members.len() - 1) * (j + 1) + j) {
         return Verdict::WrongLength;
@@ -40,7 +40,7 @@ fn rule(kind: Kind, j: usize, x: usize, members: &[u32], root: &[u8], proof: &[u
 pub fn judge(kind: Kind, j: usize, members: &[u32], root: &[u8], proof: &[u8]) -> Verdict
     requires { Members j members.now root.now × (12 ≤ length proof.now) }
     ensures { (S : Shape) → Hangs S j
-        → verdictOf result ≡ judged S (symbolHash kind) root.now j members.now proof.now }
+        → verdict_of result ≡ judged S (symbol_hash kind) root.now j members.now proof.now }
 {
     if !withholds(proof, members) {
         return Verdict::WrongHead;
@@ -60,7 +60,7 @@ pub fn check(
     proof: &[u8],
 ) -> Verdict
     requires { Indexed depth words.now starts.now × (length root.now ≡ 512) × (12 ≤ length proof.now) }
-    ensures { verdictOf result ≡ verdict shape (symbolHash kind) root.now (table_of words.now) proof.now }
+    ensures { verdict_of result ≡ verdict shape (symbol_hash kind) root.now (table_of words.now) proof.now }
 {
     if !names(proof, 0, 1, depth) {
         return Verdict::WrongHead;

@@ -1,7 +1,7 @@
 // The third word of a proof's head: kind 11 with the withheld member's number.
 ghost use Rattle.std.specs.Prelude.{◌≡◌, ◌≤◌, length, leb, eqb};
 ghost use Rattle.model.specs.Symbols.{count};
-ghost use Rattle.fault_proof.specs.Ruled.{withholds as withholdsOne};
+ghost use Rattle.fault_proof.specs.Ruled.{withholds as withholds_one};
 
 // Whether x is one of the members.
 fn is_member(members: &[u32], x: usize) -> bool
@@ -18,7 +18,7 @@ fn is_member(members: &[u32], x: usize) -> bool
 // Whether the third word has its kind, with the number of one of the members.
 pub fn withholds(proof: &[u8], members: &[u32]) -> bool
     requires { 12 ≤ length proof.now }
-    ensures { result ≡ withholdsOne proof.now members.now }
+    ensures { result ≡ withholds_one proof.now members.now }
 {
     if heads::kind_at(proof, 2) != 3 {
         return false;

@@ -2,8 +2,8 @@
 ghost use Rattle.std.specs.Prelude.{◌≡◌, suc, ◌+◌, ◌*◌, ◌≤◌, length, drop};
 ghost use Rattle.model.specs.Shape.{tree as shape};
 ghost use Rattle.model.specs.Symbols.{others};
-ghost use Rattle.model.specs.Fault.{waysCheck};
-ghost use Rattle.symbol_hash.specs.SymbolHash.{symbolHash};
+ghost use Rattle.model.specs.Fault.{ways_check};
+ghost use Rattle.symbol_hash.specs.SymbolHash.{symbol_hash};
 ghost use Rattle.fault_proof.specs.Lent.{Members};
 ghost use Rattle.fault_proof.specs.Verdicts.{ways_of};
 
@@ -22,7 +22,7 @@ pub fn check(
 ) -> Ways
     requires { Members j members.now root.now
         × (at + 256 * (length (others x members.now) * suc j) + 256 * j ≤ length b.now) }
-    ensures { ways_of result ≡ waysCheck shape (symbolHash kind) root.now j x 0 (others x members.now) (drop at b.now) }
+    ensures { ways_of result ≡ ways_check shape (symbol_hash kind) root.now j x 0 (others x members.now) (drop at b.now) }
 {
     let mut from = at;
     let mut position: usize = 0;

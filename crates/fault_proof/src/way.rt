@@ -1,20 +1,20 @@
 // The way up from a symbol: each symbol is hashed once, and its hash compared where the root or the next
 // symbol up has it.
 ghost use Rattle.std.specs.Prelude.{◌≡◌, suc, ◌+◌, ◌*◌, ◌≤◌, ◌<◌, length, drop};
-ghost use Rattle.parity_table.specs.Shape.{maxDepth};
+ghost use Rattle.parity_table.specs.Shape.{max_depth};
 ghost use Rattle.model.specs.Shape.{tree as shape};
-ghost use Rattle.model.specs.Fault.{wayCheck, pathCheck};
-ghost use Rattle.symbol_hash.specs.SymbolHash.{symbolHash};
-ghost use Rattle.symbol_hash.specs.Ways.{climbOf};
+ghost use Rattle.model.specs.Fault.{way_check, path_check};
+ghost use Rattle.symbol_hash.specs.SymbolHash.{symbol_hash};
+ghost use Rattle.symbol_hash.specs.Ways.{climb_of};
 
 use parity_table::data_count;
 use symbol_hash::{Kind, Way};
 
 // Checks symbol i of layer j with its path, which stand in b from byte at on.
 pub fn check(kind: Kind, j: usize, i: usize, root: &[u8], b: &[u8], at: usize) -> Way
-    requires { (j < maxDepth) × (j ≡ 0 → 32 * suc i ≤ length root.now) × (0 < j → (i < shape.n j) × (512 ≤ length root.now))
+    requires { (j < max_depth) × (j ≡ 0 → 32 * suc i ≤ length root.now) × (0 < j → (i < shape.n j) × (512 ≤ length root.now))
         × (at + 256 * suc j ≤ length b.now) }
-    ensures { climbOf result ≡ wayCheck shape (symbolHash kind) root.now j i (drop at b.now) }
+    ensures { climb_of result ≡ way_check shape (symbol_hash kind) root.now j i (drop at b.now) }
 {
     let mut x: usize = 0;
     let mut m = i;
@@ -34,8 +34,8 @@ pub fn check(kind: Kind, j: usize, i: usize, root: &[u8], b: &[u8], at: usize) -
 
 // Checks the path of symbol i of layer j, which stands in b from byte at on.
 pub fn check_path(kind: Kind, j: usize, i: usize, root: &[u8], b: &[u8], at: usize) -> Way
-    requires { (j < maxDepth) × (0 < j → 512 ≤ length root.now) × (at + 256 * j ≤ length b.now) }
-    ensures { climbOf result ≡ pathCheck shape (symbolHash kind) root.now j i (drop at b.now) }
+    requires { (j < max_depth) × (0 < j → 512 ≤ length root.now) × (at + 256 * j ≤ length b.now) }
+    ensures { climb_of result ≡ path_check shape (symbol_hash kind) root.now j i (drop at b.now) }
 {
     if j == 0 {
         return Way::Leads;

@@ -9,15 +9,15 @@ use lib.Dec.{ltb}
 use lib.ListN.{drop, get_or, length, length-append}
 use borrow.Author.Tests.{ltb-true}
 use Rattle.fault_writer.proofs.Splices.{splice-more, splice-none, splice-over}
-use Rattle.fault_writer.proofs.WayLaws.{layers-fewer, path-long, way-length}
+use Rattle.fault_writer.proofs.WayLaws.{layers_fewer, path_long, way_length}
 use Rattle.fault_writer.specs.Room.{Layers, Members, splice}
 use Rattle.heads.proofs.HeadLaws.{length-head}
 use Rattle.heads.specs.Heads.{head}
 use Rattle.model.proofs.Counts.{every-others}
-use Rattle.model.proofs.Members.{every-below, others-end, others-skip, others-take}
-use Rattle.model.specs.Fault.{givenBytes, pathBytes, proofBytes, wayBytes}
+use Rattle.model.proofs.Members.{every-below, others-end, others_skip, others-take}
+use Rattle.model.specs.Fault.{given_bytes, path_bytes, proof_bytes, way_bytes}
 use Rattle.model.specs.Shape.{tree}
-use Rattle.model.specs.Symbols.{others, symAt}
+use Rattle.model.specs.Symbols.{others, sym_at}
 use Rattle.octets.proofs.Choice.{and_yes}
 use Rattle.octets.specs.BigEndian.{be}
 use Rattle.parity_table.specs.Members.{every}
@@ -27,40 +27,40 @@ use Rattle.parity_table.specs.Parse.{over}
 
 -- member i is in the tree
 pub member-layers : (t ms : List ℕ) (j : ℕ) (k : Members j t ms) → (i : ℕ) → i < length ms → Layers j (suc (get_or ms i 0)) t
-member-layers t ms j k i h = layers-fewer j k.symbols (suc (get_or ms i 0)) t (every-below k.symbols ms k.within i h) k.layers
+member-layers t ms j k i h = layers_fewer j k.symbols (suc (get_or ms i 0)) t (every-below k.symbols ms k.within i h) k.layers
 
 module _ (t : List ℕ) (ms : List ℕ) (x j : ℕ) where
   -- what is left to write from member i on
   abbrev left : ℕ → List ℕ
-  left i = givenBytes tree (symAt tree t) j (others x (drop i ms))
+  left i = given_bytes tree (sym_at tree t) j (others x (drop i ms))
 
   -- member i is next, at byte p
   pub record GivenAt (at : ℕ) (out₀ : List ℕ) (i p : ℕ) (out : List ℕ) : Type 0 where
     pub sized : length out ≡ length out₀
-    pub spot : p + length (givenBytes tree (symAt tree t) j (others x (drop i ms))) ≡ at + length (givenBytes tree (symAt tree t) j (others x ms))
-    pub rest : splice out p (givenBytes tree (symAt tree t) j (others x (drop i ms))) ≡ splice out₀ at (givenBytes tree (symAt tree t) j (others x ms))
+    pub spot : p + length (given_bytes tree (sym_at tree t) j (others x (drop i ms))) ≡ at + length (given_bytes tree (sym_at tree t) j (others x ms))
+    pub rest : splice out p (given_bytes tree (sym_at tree t) j (others x (drop i ms))) ≡ splice out₀ at (given_bytes tree (sym_at tree t) j (others x ms))
 
   module _ (at : ℕ) (out₀ : List ℕ) where
-    pub given-start : GivenAt at out₀ 0 at out₀
-    given-start = record { sized = refl; spot = refl; rest = refl }
+    pub given_start : GivenAt at out₀ 0 at out₀
+    given_start = record { sized = refl; spot = refl; rest = refl }
 
     module _ (room : at + length (left 0) ≤ length out₀) (i p : ℕ) (out : List ℕ) (g : GivenAt at out₀ i p out) (h : i < length ms) where
-      pub given-skip : get_or ms i 0 ≡ x → GivenAt at out₀ (i + 1) p out
-      given-skip e =
-          let q : left i ≡ left (i + 1) = ap (givenBytes tree (symAt tree t) j) (others-skip x ms i h e) in
+      pub given_skip : get_or ms i 0 ≡ x → GivenAt at out₀ (i + 1) p out
+      given_skip e =
+          let q : left i ≡ left (i + 1) = ap (given_bytes tree (sym_at tree t) j) (others_skip x ms i h e) in
           record { sized = g.sized; spot = ap (λ (l : List ℕ). p + length l) (sym q) ∙ g.spot; rest = ap (splice out p) (sym q) ∙ g.rest }
 
       module _ (ne : get_or ms i 0 ≡ x → ⊥) (k : Layers j (suc (get_or ms i 0)) t) where
         way : List ℕ
-        way = wayBytes tree (symAt tree t) j (get_or ms i 0)
+        way = way_bytes tree (sym_at tree t) j (get_or ms i 0)
 
         left-take : left i ≡ way ++ left (i + 1)
-        unfolding givenBytes way
-        left-take = ap (givenBytes tree (symAt tree t) j) (others-take x ms i h ne)
+        unfolding given_bytes way
+        left-take = ap (given_bytes tree (sym_at tree t) j) (others-take x ms i h ne)
 
         long : length way ≡ 256 * suc j
         unfolding way
-        long = way-length t j (get_or ms i 0) k
+        long = way_length t j (get_or ms i 0) k
 
         sum : length (left i) ≡ 256 * suc j + length (left (i + 1))
         sum = ap length left-take ∙ length-append way (left (i + 1)) ∙ ap (λ (n : ℕ). n + length (left (i + 1))) long
@@ -68,7 +68,7 @@ module _ (t : List ℕ) (ms : List ℕ) (x j : ℕ) where
         pub given-room : p + 256 * suc j ≤ length out
         given-room = omega (arith, sum, g.spot, g.sized, room)
 
-        pub given-turn : (out' : List ℕ) (p' : ℕ) → length out' ≡ length out → out' ≡ splice out p (wayBytes tree (symAt tree t) j (get_or ms i 0)) → p' ≡ p + 256 * suc j → GivenAt at out₀ (i + 1) p' out'
+        pub given-turn : (out' : List ℕ) (p' : ℕ) → length out' ≡ length out → out' ≡ splice out p (way_bytes tree (sym_at tree t) j (get_or ms i 0)) → p' ≡ p + 256 * suc j → GivenAt at out₀ (i + 1) p' out'
         unfolding way
         given-turn out' p' lo e ep =
             let q : p' ≡ p + length way = ep ∙ ap (λ (n : ℕ). p + n) (sym long) in
@@ -84,8 +84,8 @@ module _ (t : List ℕ) (ms : List ℕ) (x j : ℕ) where
 
     module _ (i p : ℕ) (out : List ℕ) (g : GivenAt at out₀ i p out) (h : length ms ≤ i) where
       none_left : left i ≡ []
-      unfolding givenBytes
-      none_left = ap (givenBytes tree (symAt tree t) j) (others-end x ms i h)
+      unfolding given_bytes
+      none_left = ap (given_bytes tree (sym_at tree t) j) (others-end x ms i h)
 
       pub given-ends : p ≡ at + length (left 0)
       given-ends = omega (arith, ap length none_left, g.spot)
@@ -98,38 +98,38 @@ module _ (t : List ℕ) (ms : List ℕ) (x j : ℕ) where
 module _ (t ms : List ℕ) (j e x : ℕ) (k : Members j t ms) where
   -- its given members, and the withheld member's path
   abbrev given : List ℕ
-  given = givenBytes tree (symAt tree t) j (others x ms)
+  given = given_bytes tree (sym_at tree t) j (others x ms)
 
   abbrev path : List ℕ
-  path = pathBytes tree (symAt tree t) j x
+  path = path_bytes tree (sym_at tree t) j x
 
-  proof-is : proofBytes tree (symAt tree t) j e x ms ≡ head 1 j e x ++ (given ++ path)
-  unfolding proofBytes
+  proof-is : proof_bytes tree (sym_at tree t) j e x ms ≡ head 1 j e x ++ (given ++ path)
+  unfolding proof_bytes
   proof-is = refl
 
-  given-long : (ys : List ℕ) → every (λ y. ltb y k.symbols) ys ≡ true → length (givenBytes tree (symAt tree t) j ys) ≡ 256 * (length ys * suc j)
-  unfolding every givenBytes
-  given-long [] a = omega arith
-  given-long (y ∷ ys) a =
+  given_long : (ys : List ℕ) → every (λ y. ltb y k.symbols) ys ≡ true → length (given_bytes tree (sym_at tree t) j ys) ≡ 256 * (length ys * suc j)
+  unfolding every given_bytes
+  given_long [] a = omega arith
+  given_long (y ∷ ys) a =
       let (p, q) = and_yes (ltb y k.symbols) (every (λ z. ltb z k.symbols) ys) a in
       omega (
         arith,
         suc-mul (length ys) (suc j),
-        given-long ys q,
-        way-length t j y (layers-fewer j k.symbols (suc y) t (omega (arith, ltb-true y k.symbols p)) k.layers),
-        length-append (wayBytes tree (symAt tree t) j y) (givenBytes tree (symAt tree t) j ys),
+        given_long ys q,
+        way_length t j y (layers_fewer j k.symbols (suc y) t (omega (arith, ltb-true y k.symbols p)) k.layers),
+        length-append (way_bytes tree (sym_at tree t) j y) (given_bytes tree (sym_at tree t) j ys),
       )
 
   pub given-length : length given ≡ 256 * (length (others x ms) * suc j)
-  given-length = given-long (others x ms) (every-others (λ y. ltb y k.symbols) x ms k.within)
+  given-length = given_long (others x ms) (every-others (λ y. ltb y k.symbols) x ms k.within)
 
-  pub proof-length : length (proofBytes tree (symAt tree t) j e x ms) ≡ 12 + 256 * (length (others x ms) * suc j + j)
-  proof-length = ap length proof-is ∙ omega (arith, length-append (head 1 j e x) (given ++ path), length-head 1 j e x, length-append given path, given-length, path-long t j k.symbols k.layers j x (omega arith))
+  pub proof-length : length (proof_bytes tree (sym_at tree t) j e x ms) ≡ 12 + 256 * (length (others x ms) * suc j + j)
+  proof-length = ap length proof-is ∙ omega (arith, length-append (head 1 j e x) (given ++ path), length-head 1 j e x, length-append given path, given-length, path_long t j k.symbols k.layers j x (omega arith))
 
-  pub proof-put : (out a b w : List ℕ) (p : ℕ) → 12 + 256 * (length (others x ms) * suc j + j) ≤ length out → length a ≡ length out → a ≡ over (head 1 j e x) out
-      → b ≡ splice a 12 given → p ≡ 12 + length given → w ≡ splice b p path → w ≡ over (proofBytes tree (symAt tree t) j e x ms) out
+  pub proof_put : (out a b w : List ℕ) (p : ℕ) → 12 + 256 * (length (others x ms) * suc j + j) ≤ length out → length a ≡ length out → a ≡ over (head 1 j e x) out
+      → b ≡ splice a 12 given → p ≡ 12 + length given → w ≡ splice b p path → w ≡ over (proof_bytes tree (sym_at tree t) j e x ms) out
   unfolding head be
-  proof-put out a b w p room la ea eb ep ew =
+  proof_put out a b w p room la ea eb ep ew =
       ew ∙ ap₂ (λ (o : List ℕ) (n : ℕ). splice o n path) eb ep ∙ splice-more a 12 given (omega (arith, given-length)) path
       ∙ ap (λ (o : List ℕ). splice o 12 (given ++ path)) (ea ∙ sym (splice-over (head 1 j e x) out))
       ∙ splice-more out 0 (head 1 j e x) (omega arith) (given ++ path)

@@ -2,7 +2,7 @@
 use Rattle.std.specs.Prelude.{◌≡◌, true, List, ℕ, ◌+◌, ◌*◌, ◌^◌, ◌≤◌, ◌<◌, ltb, length}
 use Rattle.std.proofs.Math.Seq.{paste}
 use Rattle.parity_table.specs.Members.{every}
-use Rattle.parity_table.specs.Shape.{maxDepth}
+use Rattle.parity_table.specs.Shape.{max_depth}
 use Rattle.model.specs.Shape.{tree, places}
 
 -- out with p in its place from byte at on
@@ -11,7 +11,7 @@ splice out at p = paste out at p (length p)
 
 -- the tree buffer t has a tree's layers above layer j, and the first n symbols of layer j, whatever their number
 pub record Layers (j n : ℕ) (t : List ℕ) : Type 0 where
-  pub layer : j < maxDepth
+  pub layer : j < max_depth
   pub room : 256 * (places tree j + n) ≤ length t
 
 -- .. and the members ms of an equation of layer j, whose numbers a word can say

@@ -2,8 +2,8 @@
 ghost use Rattle.std.specs.Prelude.{◌≡◌, suc, ◌+◌, ◌*◌, ◌^◌, ◌≤◌, ◌<◌, length};
 ghost use Rattle.parity_table.specs.Parse.{over};
 ghost use Rattle.model.specs.Shape.{Shape, Hangs, tree as shape};
-ghost use Rattle.model.specs.Symbols.{others, symAt};
-ghost use Rattle.model.specs.Fault.{givenBytes, proofBytes};
+ghost use Rattle.model.specs.Symbols.{others, sym_at};
+ghost use Rattle.model.specs.Fault.{given_bytes, proof_bytes};
 ghost use Rattle.fault_writer.specs.Room.{splice, Members};
 
 use crate::way::{put_path, put_way};
@@ -11,10 +11,10 @@ use crate::way::{put_path, put_way};
 // The members other than x, each with its path; where they end.
 fn put_given(tree: &[u8], members: &[u32], x: usize, j: usize, out: &mut [u8], at: usize) -> usize
     requires { Members j tree.now members.now
-        × (at + length (givenBytes shape (symAt shape tree.now) j (others x members.now)) ≤ length out.old) }
-    ensures { (result ≡ at + length (givenBytes shape (symAt shape tree.now) j (others x members.now)))
+        × (at + length (given_bytes shape (sym_at shape tree.now) j (others x members.now)) ≤ length out.old) }
+    ensures { (result ≡ at + length (given_bytes shape (sym_at shape tree.now) j (others x members.now)))
         × (out.new
-        ≡ splice out.old at (givenBytes shape (symAt shape tree.now) j (others x members.now))) }
+        ≡ splice out.old at (given_bytes shape (sym_at shape tree.now) j (others x members.now))) }
 {
     let mut p = at;
     for i in 0..members.len() {
@@ -39,8 +39,8 @@ pub fn put_proof(
     requires { Members j tree.now members.now × (e < 2 ^ 30) × (x < 2 ^ 30)
         × (12 + 256 * (length (others x members.now) * suc j + j) ≤ length out.old) }
     ensures { (S : Shape) → Hangs S j
-        → (result ≡ length (proofBytes S (symAt S tree.now) j e x members.now))
-        × (out.new ≡ over (proofBytes S (symAt S tree.now) j e x members.now) out.old) }
+        → (result ≡ length (proof_bytes S (sym_at S tree.now) j e x members.now))
+        × (out.new ≡ over (proof_bytes S (sym_at S tree.now) j e x members.now) out.old) }
 {
     heads::put(1, j, e, x, out);
     let p = put_given(tree, members, x, j, out, 12);

@@ -1,8 +1,8 @@
 // A symbol, and the way up from it: "the whole data symbol of each layer from j−1 to 0 on the way up".
 ghost use Rattle.std.specs.Prelude.{◌≡◌, suc, ◌+◌, ◌*◌, ◌≤◌, length};
 ghost use Rattle.model.specs.Shape.{Shape, Hangs, tree as shape};
-ghost use Rattle.model.specs.Symbols.{symAt};
-ghost use Rattle.model.specs.Fault.{wayBytes, pathBytes};
+ghost use Rattle.model.specs.Symbols.{sym_at};
+ghost use Rattle.model.specs.Fault.{way_bytes, path_bytes};
 ghost use Rattle.fault_writer.specs.Room.{splice, Layers};
 
 use coded_tree::first_place;
@@ -11,7 +11,7 @@ use parity_table::data_count;
 // Copies symbol m of layer l into out, from byte at on.
 pub fn put_symbol(tree: &[u8], l: usize, m: usize, out: &mut [u8], at: usize)
     requires { Layers l (suc m) tree.now × (at + 256 ≤ length out.old) }
-    ensures { (S : Shape) → Hangs S l → out.new ≡ splice out.old at (symAt S tree.now l m) }
+    ensures { (S : Shape) → Hangs S l → out.new ≡ splice out.old at (sym_at S tree.now l m) }
 {
     let from = 256 * (first_place(l) + m);
     let to = from + 256;
@@ -21,7 +21,7 @@ pub fn put_symbol(tree: &[u8], l: usize, m: usize, out: &mut [u8], at: usize)
 // Symbol i of layer j with its path.
 pub fn put_way(tree: &[u8], j: usize, i: usize, out: &mut [u8], at: usize)
     requires { Layers j (suc i) tree.now × (at + 256 * suc j ≤ length out.old) }
-    ensures { out.new ≡ splice out.old at (wayBytes shape (symAt shape tree.now) j i) }
+    ensures { out.new ≡ splice out.old at (way_bytes shape (sym_at shape tree.now) j i) }
 {
     let mut l = j;
     let mut m = i;
@@ -38,7 +38,7 @@ pub fn put_way(tree: &[u8], j: usize, i: usize, out: &mut [u8], at: usize)
 // The path of symbol i of layer j.
 pub fn put_path(tree: &[u8], j: usize, i: usize, out: &mut [u8], at: usize)
     requires { Layers j 0 tree.now × (at + 256 * j ≤ length out.old) }
-    ensures { out.new ≡ splice out.old at (pathBytes shape (symAt shape tree.now) j i) }
+    ensures { out.new ≡ splice out.old at (path_bytes shape (sym_at shape tree.now) j i) }
 {
     if 0 < j {
         let above = j - 1;

@@ -10,46 +10,46 @@ use lib.Dec.{eqb}
 use borrow.Author.Tests.{eqb-true, eq-eqb, le-leb}
 use Rattle.octets.specs.Choice.{pick}
 use Rattle.octets.specs.ByteLists.{same}
-use Rattle.octets.proofs.Choice.{by-test, pick_no, pick_ind, yes_and, both, not_yes, not-no}
-use Rattle.parity_table.specs.Shape.{depthFits}
-use Rattle.parity_table.specs.Table.{layerOf, equationOf, TableOk, WellFormed}
+use Rattle.octets.proofs.Choice.{by_test, pick_no, pick_ind, yes_and, both, not_yes, not_no}
+use Rattle.parity_table.specs.Shape.{depth_fits}
+use Rattle.parity_table.specs.Table.{layer_of, equation_of, TableOk, WellFormed}
 use Rattle.table_bytes.specs.Bytes.{words_of}
 use Rattle.parity_table.proofs.Shape.{depth_is}
 use Rattle.parity_table.proofs.Accepts.{accepted-formed, accepted-table}
-use Rattle.coverage.proofs.Right.{found-covered}
+use Rattle.coverage.proofs.Right.{found_covered}
 use Rattle.parity_table.proofs.Parse.{formed-rules}
-use Rattle.symbol_hash.specs.SymbolHash.{symbolHash}
+use Rattle.symbol_hash.specs.SymbolHash.{symbol_hash}
 use Rattle.model.specs.Shape.{tree}
-use Rattle.model.specs.Climb.{Ways, allLead, breakAt}
-use Rattle.model.specs.Fault.{proofLayer, proofMembers, proofLength, body, givenXor, afterGiven, headOk, Verdict, accepted, noFault, ruling, waysCheck, pathHash, proofCheck, withheldFits, verdict, InGiven, InPath, ProofHolds}
-use Rattle.octets.proofs.SameLaws.{same-yes, yes-same}
-use Rattle.model.proofs.Ways.{after-at}
-use Rattle.model.proofs.ProofWays.{FirstBreaks, WaysSay, ways-say, ways-are}
+use Rattle.model.specs.Climb.{Ways, all_lead, break_at}
+use Rattle.model.specs.Fault.{proof_layer, proof_members, proof_length, body, given_xor, after_given, head_ok, Verdict, accepted, no_fault, ruling, ways_check, path_hash, proof_check, withheld_fits, verdict, InGiven, InPath, ProofHolds}
+use Rattle.octets.proofs.SameLaws.{same_yes, yes_same}
+use Rattle.model.proofs.Ways.{after_at}
+use Rattle.model.proofs.ProofWays.{FirstBreaks, WaysSay, ways_say, ways_are}
 use Rattle.calls.specs.declared.Stop.{Stop}
 use Rattle.calls.specs.declared.Stop.TheVariants.{Length, Head, NoFault}
 use Rattle.calls.specs.declared.Answer.{Answer}
 use Rattle.calls.specs.declared.Answer.TheVariants.{Done, Stopped}
 use Rattle.calls.specs.Stops.{number_of, values_of}
-use Rattle.fault_calls.specs.Checking.{proofSized, judged, proofChecked}
-use Rattle.root_record.specs.Records.{kindIn, rootIn}
+use Rattle.fault_calls.specs.Checking.{proof_sized, judged, proof_checked}
+use Rattle.root_record.specs.Records.{kind_in, root_in}
 use Rattle.calls.proofs.AdmissionLaws.{TableTaken}
-use Rattle.calls.proofs.RecordLaws.{admits-by}
-use Rattle.fault_calls.proofs.CheckingLaws.{sizes, judged-so, passed}
-use Rattle.guarantees.specs.Layouts.{bytesFrom, hashFor, XorOf, kindNo, rootPart}
-use Rattle.guarantees.specs.Trees.{Hasher, hashBy}
+use Rattle.calls.proofs.RecordLaws.{admits_by}
+use Rattle.fault_calls.proofs.CheckingLaws.{sizes, judged_so, passed}
+use Rattle.guarantees.specs.Layouts.{bytes_from, hash_for, XorOf, kind_no, root_part}
+use Rattle.guarantees.specs.Trees.{Hasher, hash_by}
 use Rattle.guarantees.specs.Refusals.{TableLength, HeadRight, NamesTable}
 use Rattle.guarantees.specs.Answers.{Answered, done, test, unless, two, Just}
 use Rattle.guarantees.specs.Terms.{equations_of}
-use Rattle.guarantees.specs.FaultProofs.{givenSymbol, Named, given, Exact, path, AllLead, ProofBreaks, Fits, ProofLengths, ProofRight, AcceptsProofJustWhen, proofTests, ProofCheckerAnswers, Holds, HoldsExactly, HoldsItsSymbols, FaultProofs}
-use Rattle.guarantees.proofs.Answers.{all_done, stops-unless, stops-two, passes-unless, passes-two}
+use Rattle.guarantees.specs.FaultProofs.{given_symbol, Named, given, Exact, path, AllLead, ProofBreaks, Fits, ProofLengths, ProofRight, AcceptsProofJustWhen, proof_tests, ProofCheckerAnswers, Holds, HoldsExactly, HoldsItsSymbols, FaultProofs}
+use Rattle.guarantees.proofs.Answers.{all_done, stops_unless, stops_two, passes-unless, passes-two}
 use Rattle.guarantees.specs.Tables.{AllInTwo}
-use Rattle.guarantees.proofs.Tables.{rules-ok, right-formed, formed-right, covered-all}
-use Rattle.guarantees.proofs.Refusals.{depth-fits, table-long, taken-so, by-admitted-by}
-use Rattle.guarantees.proofs.Trees.{hash-in}
-use Rattle.guarantees.proofs.Records.{head-right, right-head, names_table, table-named}
-use Rattle.guarantees.proofs.Layouts.{xor-one}
-use Rattle.guarantees.proofs.ProofPlaces.{fromMember, given-xor-of, given-held, held-given, way-leads, leads-way, way-broken, broken-way, way-held, held-way, path-leads, leads-path, path-broken, broken-path, path-hash, path-held, held-path}
-use Rattle.guarantees.proofs.ProofHeads.{named-fitting, as-named, as_read, length-named, named_ok, ok_named}
+use Rattle.guarantees.proofs.Tables.{rules_ok, right-formed, formed-right, covered_all}
+use Rattle.guarantees.proofs.Refusals.{depth-fits, table_long, taken_so, by_admitted_by}
+use Rattle.guarantees.proofs.Trees.{hash_in_lem}
+use Rattle.guarantees.proofs.Records.{head-right, right-head, names_table_lem, table-named}
+use Rattle.guarantees.proofs.Layouts.{xor_one}
+use Rattle.guarantees.proofs.ProofPlaces.{from_member, given_xor_of, given-held, held-given, way_leads, leads_way, way_broken, broken_way, way_held, held_way, path-leads, leads-path, path-broken, broken-path, path-hash, path-held, held-path}
+use Rattle.guarantees.proofs.ProofHeads.{named_fitting, as_named, as_read, length-named, named_ok, ok_named}
 use Rattle.guarantees.proofs.ProofWritten.{writes-layout}
 
 -- ---- what is read by the head's names is what is named
@@ -62,8 +62,8 @@ module _ (depth : ℕ) (tbl : List (List (List ℕ))) (b : List ℕ) (shallow : 
   g = length (given h)
 
   -- the withheld member's path follows the given members
-  path-there : afterGiven j (given h) (drop 12 b) ≡ fromMember b j g
-  path-there = after-at b j (given h) 12
+  path_there : after_given j (given h) (drop 12 b) ≡ from_member b j g
+  path_there = after_at b j (given h) 12
 
   -- ---- what the proof holds
 
@@ -73,122 +73,122 @@ module _ (depth : ℕ) (tbl : List (List (List ℕ))) (b : List ℕ) (shallow : 
       ⊎_elim
       (λ y.
       let (p, k, w) = given-held b j l m s (given h) 12 y in
-      let (u, up, e) = way-held b j p (get_or (given h) p 0) l m s w in
+      let (u, up, e) = way_held b j p (get_or (given h) p 0) l m s w in
       inl (p, u, k, up, e))
-      (λ y. inr (path-held b l m s j g h.withheld (subst (λ (c : List ℕ). InPath tree j h.withheld c l m s) path-there y)))
-      (as-named depth tbl b shallow o h
-      (λ i y ys. InGiven tree i ys (drop 12 b) l m s ⊎ InPath tree i y (afterGiven i ys (drop 12 b)) l m s) x)
+      (λ y. inr (path-held b l m s j g h.withheld (subst (λ (c : List ℕ). InPath tree j h.withheld c l m s) path_there y)))
+      (as_named depth tbl b shallow o h
+      (λ i y ys. InGiven tree i ys (drop 12 b) l m s ⊎ InPath tree i y (after_given i ys (drop 12 b)) l m s) x)
 
   named-held : (l m : ℕ) (s : List ℕ) → Holds h l m s → ProofHolds tree tbl b l m s
   unfolding ProofHolds body
   named-held l m s x =
-      as_read depth tbl b shallow o h (λ i y ys. InGiven tree i ys (drop 12 b) l m s ⊎ InPath tree i y (afterGiven i ys (drop 12 b)) l m s)
-      (⊎_elim (λ (p, u, k, up, e). inl (held-given b j l m s (given h) 12 p k (held-way b j p (get_or (given h) p 0) l m s u up e)))
-      (λ (u, a, up, e). inr (subst (λ (c : List ℕ). InPath tree j h.withheld c l m s) (sym path-there) (held-path b l m s j g h.withheld u a up e)))
+      as_read depth tbl b shallow o h (λ i y ys. InGiven tree i ys (drop 12 b) l m s ⊎ InPath tree i y (after_given i ys (drop 12 b)) l m s)
+      (⊎_elim (λ (p, u, k, up, e). inl (held-given b j l m s (given h) 12 p k (held_way b j p (get_or (given h) p 0) l m s u up e)))
+      (λ (u, a, up, e). inr (subst (λ (c : List ℕ). InPath tree j h.withheld c l m s) (sym path_there) (held-path b l m s j g h.withheld u a up e)))
       x)
 
   -- ---- its hashes
 
   module _ (H : Hasher) (root : List ℕ) where
     abbrev checks : Ways → ℕ → ℕ → List ℕ → Type 0
-    checks w i y ys = waysCheck tree H root i y 0 ys (drop 12 b) ≡ w
+    checks w i y ys = ways_check tree H root i y 0 ys (drop 12 b) ≡ w
 
     -- what the check says of the ways that are named, and what they say of it
     abbrev Say : Ways → Type 0
     Say w = WaysSay tree H root b j h.withheld (given h) 12 0 w
 
-    say-named : (w : Ways) → proofCheck tree H root tbl b ≡ w → Say w
-    unfolding proofCheck body
-    say-named w e =
-        subst Say (as-named depth tbl b shallow o h (checks w) e) (ways-say tree H root b j h.withheld (given h) 12 0)
+    say_named : (w : Ways) → proof_check tree H root tbl b ≡ w → Say w
+    unfolding proof_check body
+    say_named w e =
+        subst Say (as_named depth tbl b shallow o h (checks w) e) (ways_say tree H root b j h.withheld (given h) 12 0)
 
-    named-say : (w : Ways) → Say w → proofCheck tree H root tbl b ≡ w
-    unfolding proofCheck body
-    named-say w s = as_read depth tbl b shallow o h (checks w) (ways-are tree H root b j h.withheld (given h) 12 0 w s)
+    named_say : (w : Ways) → Say w → proof_check tree H root tbl b ≡ w
+    unfolding proof_check body
+    named_say w s = as_read depth tbl b shallow o h (checks w) (ways_are tree H root b j h.withheld (given h) 12 0 w s)
 
-    lead-named : proofCheck tree H root tbl b ≡ allLead → AllLead H root h
-    lead-named e =
-        let s = say-named allLead e in
+    lead_named : proof_check tree H root tbl b ≡ all_lead → AllLead H root h
+    lead_named e =
+        let s = say_named all_lead e in
         record {
-          given-lead = λ p k. way-leads H root b j p (get_or (given h) p 0) (s.given p k);
+          given_lead = λ p k. way_leads H root b j p (get_or (given h) p 0) (s.given p k);
           withheld-leads = path-leads H root b j g h.withheld s.path;
         }
 
-    named-lead : AllLead H root h → proofCheck tree H root tbl b ≡ allLead
-    named-lead a =
-        named-say allLead
+    named_lead : AllLead H root h → proof_check tree H root tbl b ≡ all_lead
+    named_lead a =
+        named_say all_lead
         (record {
-          given = λ p k. leads-way H root b j p (get_or (given h) p 0) (a.given-lead p k);
+          given = λ p k. leads_way H root b j p (get_or (given h) p 0) (a.given_lead p k);
           path = leads-path H root b j g h.withheld a.withheld-leads;
         })
 
-    break-named : (l p : ℕ) → proofCheck tree H root tbl b ≡ breakAt l p → ProofBreaks H root h l p
-    break-named l p e =
-        let (q, at, t) = say-named (breakAt l p) e in
+    break_named : (l p : ℕ) → proof_check tree H root tbl b ≡ break_at l p → ProofBreaks H root h l p
+    break_named l p e =
+        let (q, at, t) = say_named (break_at l p) e in
         let is : q ≡ p = omega arith in
         let s = subst (FirstBreaks tree H root b j h.withheld (given h) 12 l) is t in
         record {
-          lead-before = λ r k. way-leads H root b j r (get_or (given h) r 0) (s.before r k);
+          lead_before = λ r k. way_leads H root b j r (get_or (given h) r 0) (s.before r k);
           breaks =
-              ⊎_elim (λ (k, c). inl (k, way-broken H root b j p (get_or (given h) p 0) l c))
+              ⊎_elim (λ (k, c). inl (k, way_broken H root b j p (get_or (given h) p 0) l c))
               (λ (k, c). let (a, w) = path-broken H root b j g h.withheld l c in inr (k, a, w)) s.here;
         }
 
-    named-break : (l p : ℕ) → ProofBreaks H root h l p → proofCheck tree H root tbl b ≡ breakAt l p
-    named-break l p x =
-        named-say (breakAt l p) (
+    named_break : (l p : ℕ) → ProofBreaks H root h l p → proof_check tree H root tbl b ≡ break_at l p
+    named_break l p x =
+        named_say (break_at l p) (
           p,
           omega arith,
           record {
-            before = λ r k. leads-way H root b j r (get_or (given h) r 0) (x.lead-before r k);
+            before = λ r k. leads_way H root b j r (get_or (given h) r 0) (x.lead_before r k);
             here =
-                ⊎_elim (λ (k, c). inl (k, broken-way H root b j p (get_or (given h) p 0) l c))
+                ⊎_elim (λ (k, c). inl (k, broken_way H root b j p (get_or (given h) p 0) l c))
                 (λ (k, a, w). inr (k, broken-path H root b j g h.withheld l (a, w))) x.breaks;
           },
         )
 
     -- one or the other
-    pub leads-or-breaks : AllLead H root h ⊎ ((l : ℕ) × (p : ℕ) × ProofBreaks H root h l p)
-    leads-or-breaks = go (proofCheck tree H root tbl b) refl
+    pub leads_or_breaks : AllLead H root h ⊎ ((l : ℕ) × (p : ℕ) × ProofBreaks H root h l p)
+    leads_or_breaks = go (proof_check tree H root tbl b) refl
       where
-        go : (w : Ways) → proofCheck tree H root tbl b ≡ w → AllLead H root h ⊎ ((l : ℕ) × (p : ℕ) × ProofBreaks H root h l p)
-        go allLead e = inl (lead-named e)
-        go (breakAt l p) e = inr (l, p, break-named l p e)
+        go : (w : Ways) → proof_check tree H root tbl b ≡ w → AllLead H root h ⊎ ((l : ℕ) × (p : ℕ) × ProofBreaks H root h l p)
+        go all_lead e = inl (lead_named e)
+        go (break_at l p) e = inr (l, p, break_named l p e)
 
     -- ---- its exclusive-or
 
     module _ (x : Exact h) where
-      xor_is : XorOf (λ p. givenSymbol b j p 0) g (givenXor j (given h) (drop 12 b))
-      unfolding givenSymbol layerOf equationOf
+      xor_is : XorOf (λ p. given_symbol b j p 0) g (given_xor j (given h) (drop 12 b))
+      unfolding given_symbol layer_of equation_of
       xor_is =
-          given-xor-of b j (given h) 12 (λ p. givenSymbol b j p 0)
-          (omega (arith, ap (λ (n : ℕ). n * (j + 1)) (named-fitting depth tbl b shallow o h).given-count))
-          (λ p. let e : 12 + 256 * (p * (j + 1) + 0) ≡ 12 + 256 * (p * suc j) = omega arith in ap (λ (n : ℕ). bytesFrom b n 256) e)
+          given_xor_of b j (given h) 12 (λ p. given_symbol b j p 0)
+          (omega (arith, ap (λ (n : ℕ). n * (j + 1)) (named_fitting depth tbl b shallow o h).given-count))
+          (λ p. let e : 12 + 256 * (p * (j + 1) + 0) ≡ 12 + 256 * (p * suc j) = omega arith in ap (λ (n : ℕ). bytes_from b n 256) e)
 
-      committed-is : pathHash tree root j h.withheld (afterGiven j (given h) (drop 12 b)) ≡ hashFor root (path H root h) j h.withheld
-      committed-is = ap (pathHash tree root j h.withheld) path-there ∙ path-hash H root b j g h.withheld
+      committed-is : path_hash tree root j h.withheld (after_given j (given h) (drop 12 b)) ≡ hash_for root (path H root h) j h.withheld
+      committed-is = ap (path_hash tree root j h.withheld) path_there ∙ path-hash H root b j g h.withheld
 
       equals : ℕ → ℕ → List ℕ → Type 0
-      equals i y ys = same (H i y (givenXor i ys (drop 12 b))) (pathHash tree root i y (afterGiven i ys (drop 12 b))) ≡ true
+      equals i y ys = same (H i y (given_xor i ys (drop 12 b))) (path_hash tree root i y (after_given i ys (drop 12 b))) ≡ true
 
-      fits-named : withheldFits tree H root tbl b ≡ true → Fits H root h
-      unfolding withheldFits body equals
+      fits-named : withheld_fits tree H root tbl b ≡ true → Fits H root h
+      unfolding withheld_fits body equals
       fits-named t s y =
-          ap (H j h.withheld) (xor-one _ g s _ y xor_is) ∙ same-yes _ _ (as-named depth tbl b shallow o h equals t) ∙ committed-is
+          ap (H j h.withheld) (xor_one _ g s _ y xor_is) ∙ same_yes _ _ (as_named depth tbl b shallow o h equals t) ∙ committed-is
 
-      named-fits : Fits H root h → withheldFits tree H root tbl b ≡ true
-      unfolding withheldFits body equals
-      named-fits f = as_read depth tbl b shallow o h equals (yes-same (f _ xor_is ∙ sym committed-is))
+      named-fits : Fits H root h → withheld_fits tree H root tbl b ≡ true
+      unfolding withheld_fits body equals
+      named-fits f = as_read depth tbl b shallow o h equals (yes_same (f _ xor_is ∙ sym committed-is))
 
 -- two readings of one head
 module _ (depth : ℕ) (tbl : List (List (List ℕ))) (b : List ℕ) (shallow : depth ≤ 9) (o : TableOk depth tbl) (h z : Named depth tbl b) (H : Hasher) (root : List ℕ) (l p : ℕ) where
-  pub breaks-as : ProofBreaks H root h l p → ProofBreaks H root z l p
-  breaks-as k = break-named depth tbl b shallow o z H root l p (named-break depth tbl b shallow o h H root l p k)
+  pub breaks_as : ProofBreaks H root h l p → ProofBreaks H root z l p
+  breaks_as k = break_named depth tbl b shallow o z H root l p (named_break depth tbl b shallow o h H root l p k)
 
   pub never_both : AllLead H root h → ProofBreaks H root z l p → ⊥
   never_both a k =
-      let e = named-lead depth tbl b shallow o h H root a in
-      let f = named-break depth tbl b shallow o z H root l p k in
+      let e = named_lead depth tbl b shallow o h H root a in
+      let f = named_break depth tbl b shallow o z H root l p k in
       let zero_one : ◌≡◌ {A = ℕ} 0 1 = cc in
       omega arith
 
@@ -196,10 +196,10 @@ module _ (depth : ℕ) (tbl : List (List (List ℕ))) (b : List ℕ) (shallow : 
 
 module _ (depth : ℕ) (r table b : List ℕ) where
   abbrev root : List ℕ
-  root = rootPart r
+  root = root_part r
 
   abbrev H : Hasher
-  H = hashBy (kindNo r 0)
+  H = hash_by (kind_no r 0)
 
   abbrev ws : List ℕ
   ws = words_of table
@@ -228,7 +228,7 @@ module _ (depth : ℕ) (r table b : List ℕ) where
   stop : (z : Stop) (k : ℕ) (right : Type 0) (later : Answered) → number_of (Stopped z) ≡ suc k → values_of (Stopped z) ≡ (0, 0) → (right → ⊥)
       → By (test (suc k) (unless right) later) (Stopped z)
   stop z k right later n v x =
-      record { just = rw (n, v) (stops-unless x); only = λ e. absurd (omega (arith, ap number_of e)) }
+      record { just = rw (n, v) (stops_unless x); only = λ e. absurd (omega (arith, ap number_of e)) }
 
   pass : (a : Answer) (k : ℕ) (right : Type 0) (later : Answered) → right → By later a → By (test k (unless right) later) a
   pass a k right later x y = record { just = passes-unless x y.just; only = y.only }
@@ -241,16 +241,16 @@ module _ (depth : ℕ) (r table b : List ℕ) where
     rules = formed-rules depth ws f dr.1
 
     -- the head names h, and the length is the one that it demands
-    module _ (h : Named depth tbl b) (x : length b ≡ proofLength (proofLayer b) (length (proofMembers tbl b))) where
-      exact-of : (z : Named depth tbl b) → Exact z
-      exact-of z = x ∙ length-named depth tbl b dr.1 rules z
+    module _ (h : Named depth tbl b) (x : length b ≡ proof_length (proof_layer b) (length (proof_members tbl b))) where
+      exact_of : (z : Named depth tbl b) → Exact z
+      exact_of z = x ∙ length-named depth tbl b dr.1 rules z
 
-      at_8 : AllLead H root h → Judged from8 (pick (withheldFits tree H root tbl b) noFault accepted)
+      at_8 : AllLead H root h → Judged from8 (pick (withheld_fits tree H root tbl b) no_fault accepted)
       at_8 a =
-          pick_ind (Judged from8) (withheldFits tree H root tbl b)
-          (λ t. stop NoFault 7 _ done refl refl (λ (z, n). n (fits-named depth tbl b dr.1 rules z H root (exact-of z) t)))
+          pick_ind (Judged from8) (withheld_fits tree H root tbl b)
+          (λ t. stop NoFault 7 _ done refl refl (λ (z, n). n (fits-named depth tbl b dr.1 rules z H root (exact_of z) t)))
           (λ t.
-          let n : Fits H root h → ⊥ = λ y. both (named-fits depth tbl b dr.1 rules h H root (exact-of h) y) t in
+          let n : Fits H root h → ⊥ = λ y. both (named-fits depth tbl b dr.1 rules h H root (exact_of h) y) t in
           pass Done 8 _ done (h, n)
           (record {
             just = all_done;
@@ -260,118 +260,118 @@ module _ (depth : ℕ) (r table b : List ℕ) where
                 lengths-right = lr;
                 head-right = hr;
                 table-right = formed-right depth ws f;
-                table-covered = covers;
+                table_covered = covers;
                 table-named = names;
                 named = h;
-                exact = exact-of h;
+                exact = exact_of h;
               };
-              all-lead = a;
+              all_lead_lem = a;
               differs = n;
             };
           }))
 
-      at_7 : (w : Ways) → proofCheck tree H root tbl b ≡ w → Judged from7 (ruling w (withheldFits tree H root tbl b))
+      at_7 : (w : Ways) → proof_check tree H root tbl b ≡ w → Judged from7 (ruling w (withheld_fits tree H root tbl b))
       unfolding ruling
-      at_7 allLead e =
-          let rest = at_8 (lead-named depth tbl b dr.1 rules h H root e) in
+      at_7 all_lead e =
+          let rest = at_8 (lead_named depth tbl b dr.1 rules h H root e) in
           record {
-            just = passes-two (λ l p (z, k). let q = named-break depth tbl b dr.1 rules z H root l p k in let zero_one : ◌≡◌ {A = ℕ} 0 1 = cc in omega arith) rest.just;
+            just = passes-two (λ l p (z, k). let q = named_break depth tbl b dr.1 rules z H root l p k in let zero_one : ◌≡◌ {A = ℕ} 0 1 = cc in omega arith) rest.just;
             only = rest.only;
           }
-      at_7 (breakAt l p) e =
+      at_7 (break_at l p) e =
           record {
-            just = stops-two l p (h, break-named depth tbl b dr.1 rules h H root l p e)
-                (λ m q (z, k). let t = named-break depth tbl b dr.1 rules z H root m q k in (cc, cc));
+            just = stops_two l p (h, break_named depth tbl b dr.1 rules h H root l p e)
+                (λ m q (z, k). let t = named_break depth tbl b dr.1 rules z H root m q k in (cc, cc));
             only = λ f. absurd (omega (arith, ap number_of f));
           }
 
-    at-6 : Judged from6 (verdict tree H root tbl b)
+    at_6 : Judged from6 (verdict tree H root tbl b)
     unfolding verdict
-    at-6 =
-        pick_ind (Judged from6) (not (headOk tbl b))
-        (λ t. stop Head 5 _ from2 refl refl (λ h. both (named_ok depth tbl b dr.1 rules h) (not_yes (headOk tbl b) t)))
+    at_6 =
+        pick_ind (Judged from6) (not (head_ok tbl b))
+        (λ t. stop Head 5 _ from2 refl refl (λ h. both (named_ok depth tbl b dr.1 rules h) (not_yes (head_ok tbl b) t)))
         (λ t.
-        let h : Named depth tbl b = ok_named depth tbl b dr.1 rules (not-no (headOk tbl b) t) in
-        let n : ℕ = proofLength (proofLayer b) (length (proofMembers tbl b)) in
+        let h : Named depth tbl b = ok_named depth tbl b dr.1 rules (not_no (head_ok tbl b) t) in
+        let n : ℕ = proof_length (proof_layer b) (length (proof_members tbl b)) in
         pass _ 6 _ from2 h
         (pick_ind (Judged from2) (not (eqb (length b) n))
         (λ u. stop Length 1 _ from7 refl refl
         (λ (z, x). both (eq-eqb (length b) n (x ∙ sym (length-named depth tbl b dr.1 rules z))) (not_yes (eqb (length b) n) u)))
         (λ u.
-        let x : length b ≡ n = eqb-true (length b) n (not-no (eqb (length b) n) u) in
-        pass _ 2 _ from7 (h, exact-of h x h) (at_7 h x (proofCheck tree H root tbl b) refl))))
+        let x : length b ≡ n = eqb-true (length b) n (not_no (eqb (length b) n) u) in
+        pass _ 2 _ from7 (h, exact_of h x h) (at_7 h x (proof_check tree H root tbl b) refl))))
 
   abbrev ruled : Answer
-  ruled = judged (verdict tree (symbolHash (kindIn r)) root tbl b)
+  ruled = judged (verdict tree (symbol_hash (kind_in r)) root tbl b)
 
   -- the lengths of record, proof and table
   abbrev own : Bool
-  own = proofSized (length r) (length b)
+  own = proof_sized (length r) (length b)
 
-  pub lengths-own : own ≡ true → TableLength table → ProofLengths r table b
-  lengths-own l t =
+  pub lengths_own : own ≡ true → TableLength table → ProofLengths r table b
+  lengths_own l t =
       let (v, w) = sizes (length r) (length b) l in
-      record { record-length = v; table-length = t; head-there = w }
+      record { record_length = v; table-length = t; head_there = w }
 
-  pub own-lengths : ProofLengths r table b → (own ≡ true) × TableLength table
-  own-lengths lr = (yes_and (eq-eqb (length r) 556 lr.record-length) (le-leb 12 (length b) lr.head-there), lr.table-length)
+  pub own_lengths : ProofLengths r table b → (own ≡ true) × TableLength table
+  own_lengths lr = (yes_and (eq-eqb (length r) 556 lr.record_length) (le-leb 12 (length b) lr.head_there), lr.table-length)
 
-  checked : Just (proofChecked depth r table b) (proofTests depth r table b)
-  unfolding proofChecked rootIn
+  checked : Just (proof_checked depth r table b) (proof_tests depth r table b)
+  unfolding proof_checked root_in
   checked =
-      by-admitted-by depth (ProofLengths r table b) own r table ruled lengths-own own-lengths
+      by_admitted_by depth (ProofLengths r table b) own r table ruled lengths_own own_lengths
       (λ f lr hr w c n.
-      subst (λ (h : Hasher). Just (judged (verdict tree h root tbl b)) from6) (hash-in r) (at-6 (depth_is depth f) lr hr (right-formed depth ws w) c n).just)
+      subst (λ (h : Hasher). Just (judged (verdict tree h root tbl b)) from6) (hash_in_lem r) (at_6 (depth_is depth f) lr hr (right-formed depth ws w) c n).just)
 
-  accepted-right : proofChecked depth r table b ≡ Done → ProofRight depth r table b
-  unfolding rootIn
+  accepted-right : proof_checked depth r table b ≡ Done → ProofRight depth r table b
+  unfolding root_in
   accepted-right e =
       let p = passed depth r table b e in
       let k = p.admits in
       let t = k.taken in
-      (at-6 (depth_is depth t.deep) (lengths-own k.lengths (table-long table t.length-fits)) (head-right depth r k.head)
+      (at_6 (depth_is depth t.deep) (lengths_own k.lengths (table_long table t.length-fits)) (head-right depth r k.head)
       (accepted-formed depth ws t.accepted).1
-      (covered-all depth tbl (found-covered depth tbl (accepted-table depth ws t.accepted) t.covered)) (names_table r table k.named)).only
-      (ap judged (ap (λ (h : Hasher). verdict tree h root tbl b) (hash-in r) ∙ p.accepts))
+      (covered_all depth tbl (found_covered depth tbl (accepted-table depth ws t.accepted) t.covered)) (names_table_lem r table k.named)).only
+      (ap judged (ap (λ (h : Hasher). verdict tree h root tbl b) (hash_in_lem r) ∙ p.accepts))
 
   -- a right proof is accepted
-  right-done : ProofRight depth r table b → proofChecked depth r table b ≡ Done
-  unfolding verdict ruling rootIn
+  right-done : ProofRight depth r table b → proof_checked depth r table b ≡ Done
+  unfolding verdict ruling root_in
   right-done x =
       let y = x.ready in
-      let t : depthFits depth ≡ true = depth-fits depth y.depth-right in
+      let t : depth_fits depth ≡ true = depth-fits depth y.depth-right in
       let lr = y.lengths-right in
       let o : TableOk depth tbl = formed-rules depth ws (right-formed depth ws y.table-right) y.depth-right.1 in
       let h = y.named in
-      let unfit : withheldFits tree H root tbl b ≡ false =
-      by-test (withheldFits tree H root tbl b) (λ u. absurd (x.differs (fits-named depth tbl b y.depth-right.1 o h H root y.exact u))) (λ u. u) in
-      let k : TableTaken depth table = taken-so depth table t lr.table-length y.table-right y.table-covered in
-      sym (judged-so depth r table b
-      (admits-by depth own r table
-      (record { lengths = (own-lengths lr).0; head = right-head depth r y.head-right; taken = k; named = table-named r table y.table-named })))
+      let unfit : withheld_fits tree H root tbl b ≡ false =
+      by_test (withheld_fits tree H root tbl b) (λ u. absurd (x.differs (fits-named depth tbl b y.depth-right.1 o h H root y.exact u))) (λ u. u) in
+      let k : TableTaken depth table = taken_so depth table t lr.table-length y.table-right y.table_covered in
+      sym (judged_so depth r table b
+      (admits_by depth own r table
+      (record { lengths = (own_lengths lr).0; head = right-head depth r y.head-right; taken = k; named = table-named r table y.table-named })))
       ∙ ap judged
-      (ap (λ (h : Hasher). verdict tree h root tbl b) (sym (hash-in r))
+      (ap (λ (h : Hasher). verdict tree h root tbl b) (sym (hash_in_lem r))
       ∙ pick_no _ _ _ (ap not (named_ok depth tbl b y.depth-right.1 o h))
       ∙ pick_no _ _ _ (ap not (eq-eqb (length b) _ (y.exact ∙ sym (length-named depth tbl b y.depth-right.1 o h))))
-      ∙ ap₂ ruling (named-lead depth tbl b y.depth-right.1 o h H root x.all-lead) unfit
+      ∙ ap₂ ruling (named_lead depth tbl b y.depth-right.1 o h H root x.all_lead_lem) unfit
       ∙ pick_no false _ _ refl)
 
-accepts-just-when : AcceptsProofJustWhen
-accepts-just-when depth r table b = (accepted-right depth r table b, right-done depth r table b)
+accepts_just_when : AcceptsProofJustWhen
+accepts_just_when depth r table b = (accepted-right depth r table b, right-done depth r table b)
 
 checker-answers : ProofCheckerAnswers
 checker-answers depth r table b = checked depth r table b
 
 -- ---- what a proof holds
 
-holds-exactly : HoldsExactly
-holds-exactly depth tbl b shallow r h l m s =
-    let o = rules-ok depth tbl r in
+holds_exactly : HoldsExactly
+holds_exactly depth tbl b shallow r h l m s =
+    let o = rules_ok depth tbl r in
     (held-named depth tbl b shallow o h l m s, named-held depth tbl b shallow o h l m s)
 
-holds-its-symbols : HoldsItsSymbols
-holds-its-symbols depth tbl b shallow r h f lay l m s =
-    let o = rules-ok depth tbl r in (
+holds_its_symbols : HoldsItsSymbols
+holds_its_symbols depth tbl b shallow r h f lay l m s =
+    let o = rules_ok depth tbl r in (
       λ x. ⊎_elim
           (λ (p, u, k, up, e). (inl (p, u, k, up), e ∙ lay.given-symbols p u k up.0 ∙ sym (ap₂ f up.1 up.2)))
           (λ (u, a, up, e). (inr (u, a, up), e ∙ lay.path-symbols u a up.0 ∙ sym (ap₂ f up.1 up.2)))
@@ -386,9 +386,9 @@ holds-its-symbols depth tbl b shallow r h f lay l m s =
 pub fault-proofs : FaultProofs
 fault-proofs =
     record {
-      accepts-just-when = accepts-just-when;
+      accepts_just_when = accepts_just_when;
       checker-answers = checker-answers;
-      holds-exactly = holds-exactly;
-      holds-its-symbols = holds-its-symbols;
+      holds_exactly = holds_exactly;
+      holds_its_symbols = holds_its_symbols;
       writes-layout = writes-layout;
     }

@@ -8,21 +8,21 @@ use native.Mathlib.Omega.{arith}
 use lib.ListN.{length}
 use lib.Dec.{ltb, eqb}
 use borrow.Author.Tests.{ltb-true, eqb-true, eq-eqb}
-use Rattle.octets.proofs.Choice.{by-test, pick_ind, pick_yes, pick_no, and_yes}
+use Rattle.octets.proofs.Choice.{by_test, pick_ind, pick_yes, pick_no, and_yes}
 use Rattle.parity_table.specs.Members.{every, ascending, last_of}
 use Rattle.model.specs.Symbols.{bit, count, others}
-use Rattle.model.proofs.Counts.{isIt, others-none, member-later}
+use Rattle.model.proofs.Counts.{is_it, others-none, member_later}
 use Rattle.guarantees.specs.Tables.{IsMember}
 
 member-first : (x : ℕ) (xs : List ℕ) → IsMember x (x ∷ xs)
 member-first x xs = (0, omega arith, refl)
 
 -- what holds of every element holds of a member
-pub every-member-of : (p : ℕ → Bool) (xs : List ℕ) → every p xs ≡ true → (x : ℕ) → IsMember x xs → p x ≡ true
+pub every-member_of : (p : ℕ → Bool) (xs : List ℕ) → every p xs ≡ true → (x : ℕ) → IsMember x xs → p x ≡ true
 unfolding every
-every-member-of p [] a x (q, h, e) = absurd (omega arith)
-every-member-of p (y ∷ ys) a x (zero, h, e) = ap p (sym e) ∙ (and_yes (p y) (every p ys) a).0
-every-member-of p (y ∷ ys) a x (suc q, h, e) = every-member-of p ys (and_yes (p y) (every p ys) a).1 x (q, omega arith, e)
+every-member_of p [] a x (q, h, e) = absurd (omega arith)
+every-member_of p (y ∷ ys) a x (zero, h, e) = ap p (sym e) ∙ (and_yes (p y) (every p ys) a).0
+every-member_of p (y ∷ ys) a x (suc q, h, e) = every-member_of p ys (and_yes (p y) (every p ys) a).1 x (q, omega arith, e)
 
 -- a member other than x is one of the others
 pub member-other : (x y : ℕ) (xs : List ℕ) → IsMember y xs → y ≢ x → IsMember y (others x xs)
@@ -32,34 +32,34 @@ member-other x y (z ∷ zs) (zero, h, e) n =
     pick_ind (λ (l : List ℕ). IsMember y l) (eqb z x) (λ t. absurd (n (sym e ∙ eqb-true z x t))) (λ t. (0, omega arith, e))
 member-other x y (z ∷ zs) (suc q, h, e) n =
     let m = member-other x y zs (q, omega arith, e) n in
-    pick_ind (λ (l : List ℕ). IsMember y l) (eqb z x) (λ t. m) (λ t. member-later y z (others x zs) m)
+    pick_ind (λ (l : List ℕ). IsMember y l) (eqb z x) (λ t. m) (λ t. member_later y z (others x zs) m)
 
 -- a member that passes, of a list in which one does
-pub passing-member : (a : ℕ → Bool) (xs : List ℕ) → 1 ≤ count a xs → (x : ℕ) × IsMember x xs × (a x ≡ true)
+pub passing_member : (a : ℕ → Bool) (xs : List ℕ) → 1 ≤ count a xs → (x : ℕ) × IsMember x xs × (a x ≡ true)
 unfolding count
-passing-member a [] h = absurd (omega arith)
-passing-member a (y ∷ ys) h =
-    by-test (a y) (λ t. (y, member-first y ys, t))
+passing_member a [] h = absurd (omega arith)
+passing_member a (y ∷ ys) h =
+    by_test (a y) (λ t. (y, member-first y ys, t))
     (λ t.
     let b : bit (a y) ≡ 0 = ap bit t in
-    let (x, m, p) = passing-member a ys (omega arith) in (x, member-later x y ys m, p))
+    let (x, m, p) = passing_member a ys (omega arith) in (x, member_later x y ys m, p))
 
 -- two of them, of an ascending list in which two do
-pub two-passing : (a : ℕ → Bool) (xs : List ℕ) → ascending xs ≡ true → 2 ≤ count a xs
+pub two_passing : (a : ℕ → Bool) (xs : List ℕ) → ascending xs ≡ true → 2 ≤ count a xs
     → (x : ℕ) × (y : ℕ) × IsMember x xs × IsMember y xs × (x < y) × (a x ≡ true) × (a y ≡ true)
 unfolding count ascending
-two-passing a [] r h = absurd (omega arith)
-two-passing a (z ∷ zs) r h =
+two_passing a [] r h = absurd (omega arith)
+two_passing a (z ∷ zs) r h =
     let (above, rest) = and_yes (every (ltb z) zs) (ascending zs) r in
-    by-test (a z)
+    by_test (a z)
     (λ t.
     let b : bit (a z) ≡ 1 = ap bit t in
-    let (y, m, p) = passing-member a zs (omega arith) in
-    (z, y, member-first z zs, member-later y z zs m, ltb-true z y (every-member-of (ltb z) zs above y m), t, p))
+    let (y, m, p) = passing_member a zs (omega arith) in
+    (z, y, member-first z zs, member_later y z zs m, ltb-true z y (every-member_of (ltb z) zs above y m), t, p))
     (λ t.
     let b : bit (a z) ≡ 0 = ap bit t in
-    let (x, y, mx, my, l, p, q) = two-passing a zs rest (omega arith) in
-    (x, y, member-later x z zs mx, member-later y z zs my, l, p, q))
+    let (x, y, mx, my, l, p, q) = two_passing a zs rest (omega arith) in
+    (x, y, member_later x z zs mx, member_later y z zs my, l, p, q))
 
 -- the list before a member, and after it
 pub member_apart : (x : ℕ) (xs : List ℕ) → IsMember x xs → (front : List ℕ) × (back : List ℕ) × (xs ≡ front ++ (x ∷ back))
@@ -78,16 +78,16 @@ last_apart (x ∷ y ∷ ys) z h = let (front, s) = last_apart (y ∷ ys) x (omeg
 -- ---- members, one of them set apart
 
 module _ (x : ℕ) where
-  pub count-apart : (front back : List ℕ) → 1 ≤ count (isIt x) (front ++ (x ∷ back))
+  pub count-apart : (front back : List ℕ) → 1 ≤ count (is_it x) (front ++ (x ∷ back))
   unfolding count
   count-apart [] back = omega (arith, ap bit (eq-eqb x x refl))
   count-apart (y ∷ front) back = omega (arith, count-apart front back)
 
   -- it stands there only
-  pub others_apart : (front back : List ℕ) → count (isIt x) (front ++ (x ∷ back)) ≤ 1 → others x (front ++ (x ∷ back)) ≡ front ++ back
+  pub others_apart : (front back : List ℕ) → count (is_it x) (front ++ (x ∷ back)) ≤ 1 → others x (front ++ (x ∷ back)) ≡ front ++ back
   unfolding count others
   others_apart [] back h =
       pick_yes (eqb x x) _ _ (eq-eqb x x refl) ∙ others-none x back (omega (arith, ap bit (eq-eqb x x refl)))
   others_apart (y ∷ front) back h =
-      by-test (eqb y x) (λ t. absurd (omega (arith, ap bit t, count-apart front back)))
+      by_test (eqb y x) (λ t. absurd (omega (arith, ap bit t, count-apart front back)))
       (λ t. pick_no (eqb y x) _ _ t ∙ ap {B = List ℕ} (λ l. y ∷ l) (others_apart front back (omega (arith, ap bit t))))

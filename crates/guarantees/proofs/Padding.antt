@@ -10,7 +10,7 @@ use lib.Seq.{take-append_seam, get_or-append_seam, get_or-append-add}
 use Rattle.octets.specs.BigEndian.{be}
 use Rattle.sha256.specs.Padding.{pad}
 use Rattle.sha256.proofs.PaddingLaws.{length-pad}
-use Rattle.guarantees.specs.Layouts.{wordNo}
+use Rattle.guarantees.specs.Layouts.{word_no}
 use Rattle.guarantees.specs.Padding.{Padded}
 
 -- ---- eight bytes of a number
@@ -26,8 +26,8 @@ byte_more : (x a : ℕ) → x / (a * 256) * 256 + x / a % 256 ≡ x / a
 byte_more x a = ap (λ (n : ℕ). n * 256 + x / a % 256) (sym (div-div-eq-div-mul x a 256)) ∙ div-add-mod' (x / a) 256
 
 -- added up
-words-be : (x : ℕ) → x < 2 ^ 64 → 2 ^ 32 * wordNo (be 8 x) 0 + wordNo (be 8 x) 1 ≡ x
-unfolding wordNo be
+words-be : (x : ℕ) → x < 2 ^ 64 → 2 ^ 32 * word_no (be 8 x) 0 + word_no (be 8 x) 1 ≡ x
+unfolding word_no be
 words-be x h =
     let one : x / 1 ≡ x = omega arith in
     let top : x / 2 ^ 56 % 256 ≡ x / 2 ^ 56 = omega arith in
@@ -62,46 +62,46 @@ module _ (m : List ℕ) where
   unfolding pad
   after q n e = ap (λ (k : ℕ). get_or (pad m) k 0) e ∙ get_or-append-add m (128 ∷ (fill ++ size)) (suc n) 0
 
-  zero-at : (q n : ℕ) → q ≡ length m + suc n → n < gap → get_or (pad m) q 0 ≡ 0
-  zero-at q n e h =
+  zero_at : (q n : ℕ) → q ≡ length m + suc n → n < gap → get_or (pad m) q 0 ≡ 0
+  zero_at q n e h =
       after q n e ∙ get_or-append fill size 0 n (omega (arith, length-replicate {A = ℕ} gap 0)) ∙ get_or-replicate gap n 0 0 h
 
-  size-at : (q i : ℕ) → q ≡ length m + suc (gap + i) → get_or (pad m) q 0 ≡ get_or size i 0
-  size-at q i e =
+  size_at : (q i : ℕ) → q ≡ length m + suc (gap + i) → get_or (pad m) q 0 ≡ get_or size i 0
+  size_at q i e =
       let k : gap + i ≡ length fill + i = ap (λ (n : ℕ). n + i) (sym (length-replicate {A = ℕ} gap 0)) in
       after q (gap + i) e ∙ ap (λ (n : ℕ). get_or (fill ++ size) n 0) k ∙ get_or-append-add fill size i 0
 
   byte_at : (q : ℕ) → length m ≤ q → get_or (pad m) q 0 < 256
   byte_at q h = elim (dec_lt (length m) q) [
     | yes l ↦ elim (dec_lt (q - length m - 1) gap) [
-      | yes g ↦ omega (arith, zero-at q (q - length m - 1) (omega arith) g)
-      | no g ↦ omega (arith, size-at q (q - length m - 1 - gap) (omega arith), byte-be 8 (length m * 8) (q - length m - 1 - gap))
+      | yes g ↦ omega (arith, zero_at q (q - length m - 1) (omega arith) g)
+      | no g ↦ omega (arith, size_at q (q - length m - 1 - gap) (omega arith), byte-be 8 (length m * 8) (q - length m - 1 - gap))
     ]
     | no l ↦
         let e : q ≡ length m = omega arith in
         omega (arith, ap (λ (k : ℕ). get_or (pad m) k 0) e ∙ one_at)
   ]
 
-  word_size : (w v : ℕ) → 4 * w ≡ length m + suc (gap + 4 * v) → wordNo (pad m) w ≡ wordNo size v
-  unfolding wordNo
+  word_size : (w v : ℕ) → 4 * w ≡ length m + suc (gap + 4 * v) → word_no (pad m) w ≡ word_no size v
+  unfolding word_no
   word_size w v e =
       omega
-      (arith, size-at (4 * w) (4 * v) e, size-at (4 * w + 1) (4 * v + 1) (omega arith), size-at (4 * w + 2) (4 * v + 2) (omega arith), size-at (4 * w + 3) (4 * v + 3) (omega arith))
+      (arith, size_at (4 * w) (4 * v) e, size_at (4 * w + 1) (4 * v + 1) (omega arith), size_at (4 * w + 2) (4 * v + 2) (omega arith), size_at (4 * w + 3) (4 * v + 3) (omega arith))
 
-  message-at : take (length m) (pad m) ≡ m
+  message_at : take (length m) (pad m) ≡ m
   unfolding pad
-  message-at = take-append_seam m _
+  message_at = take-append_seam m _
 
 pub padded : (m : List ℕ) → Padded m
 padded m =
     let l = length-pad m in
     record {
-      whole-blocks = omega (arith, l);
+      whole_blocks = omega (arith, l);
       room = omega (arith, l);
       least = omega (arith, l);
-      message = message-at m;
+      message = message_at m;
       one_bit = one_at m;
-      zeros = λ q a b. zero-at m q (q - length m - 1) (omega arith) (omega (arith, l));
+      zeros = λ q a b. zero_at m q (q - length m - 1) (omega arith) (omega (arith, l));
       bytes = byte_at m;
       bits = λ h.
           omega

@@ -22,7 +22,7 @@ pub data test (k : ℕ) (wrong : ℕ × ℕ → Type 0) (later : ℕ → ℕ × 
 
 -- a test that returns a number alone: it finds that this isn't so
 pub record unless (right : Type 0) (v : ℕ × ℕ) : Type 0 where
-  pub is-not : right → ⊥
+  pub is_not : right → ⊥
   pub alone : v ≡ (0, 0)
 
 -- one that returns a value too, and one that returns two

@@ -7,14 +7,14 @@ use Rattle.std.specs.Prelude.{◌≡◌, ◌↔◌, true, List, ℕ}
 use Rattle.octets.specs.BigEndian.{bytes_of}
 use Rattle.table_bytes.specs.Bytes.{words_of}
 use Rattle.parity_table.specs.Parse.{table_of}
-use Rattle.house_table.specs.House.{houseTable, houseWords}
+use Rattle.house_table.specs.House.{house_table, house_words}
 use Rattle.symbol_hash.specs.declared.Kind.{Kind}
 use Rattle.calls.specs.declared.Answer.{Answer}
 use Rattle.calls.specs.declared.Answer.TheVariants.{Done}
-use Rattle.calls.specs.Tests.{wordsTested, admitted}
-use Rattle.volume_calls.specs.Writing.{treeWritten, treeWrittenBy}
-use Rattle.fault_calls.specs.Checking.{proofChecked}
-use Rattle.fault_calls.specs.Repairing.{repairTested}
+use Rattle.calls.specs.Tests.{words_tested, admitted}
+use Rattle.volume_calls.specs.Writing.{tree_written, tree_written_by}
+use Rattle.fault_calls.specs.Checking.{proof_checked}
+use Rattle.fault_calls.specs.Repairing.{repair_tested}
 use Rattle.recoding.specs.Recoding.{recoded}
 use Rattle.guarantees.specs.Answers.{Answers}
 use Rattle.guarantees.specs.Tables.{TableRight, FirstWrongWord, AllInTwo, FirstNotInTwo}
@@ -38,29 +38,29 @@ module _ (d : ℕ) (ws : List ℕ) (before : Type 0) (a : Answer) where
   TakenOnly = a ≡ Done → TableRight d ws × AllInTwo d (table_of ws)
 
   pub record Table : Type 0 where
-    pub stops-with-3 : StopsWith3
-    pub stops-with-10 : StopsWith10
+    pub stops_with_3 : StopsWith3
+    pub stops_with_10 : StopsWith10
     pub taken-only : TakenOnly
 
 -- ---- every call that takes a table
 
 pub record Change1 : Type 0 where
-  pub words-check : (d : ℕ) (ws : List ℕ) → Table d ws (DepthRight d) (wordsTested d ws)
-  pub table-check : (d : ℕ) (table : List ℕ) → Table d (words_of table) (DepthRight d × TableLength table) (admitted d true table)
-  pub tree-writer : (d : ℕ) (kind : Kind) (table b t m r : List ℕ)
-      → Table d (words_of table) (DepthRight d × WriterLengths d table b t m r) (treeWritten d kind table b t m r).answer
-  pub tree-writer-by : (d number : ℕ) (table b t m r : List ℕ)
-      → Table d (words_of table) (DepthRight d × WriterLengths d table b t m r × KindRight number) (treeWrittenBy d number table b t m r).answer
+  pub words_check : (d : ℕ) (ws : List ℕ) → Table d ws (DepthRight d) (words_tested d ws)
+  pub table_check : (d : ℕ) (table : List ℕ) → Table d (words_of table) (DepthRight d × TableLength table) (admitted d true table)
+  pub tree_writer : (d : ℕ) (kind : Kind) (table b t m r : List ℕ)
+      → Table d (words_of table) (DepthRight d × WriterLengths d table b t m r) (tree_written d kind table b t m r).answer
+  pub tree_writer_by : (d number : ℕ) (table b t m r : List ℕ)
+      → Table d (words_of table) (DepthRight d × WriterLengths d table b t m r × KindRight number) (tree_written_by d number table b t m r).answer
   pub proof-checker : (d : ℕ) (r table b : List ℕ)
-      → Table d (words_of table) (DepthRight d × ProofLengths r table b × HeadRight d r) (proofChecked d r table b)
+      → Table d (words_of table) (DepthRight d × ProofLengths r table b × HeadRight d r) (proof_checked d r table b)
   pub repairer : (d : ℕ) (r table t m o : List ℕ)
-      → Table d (words_of table) (DepthRight d × RepairLengths d r table t m o × HeadRight d r) (repairTested d r table t m o)
+      → Table d (words_of table) (DepthRight d × RepairLengths d r table t m o × HeadRight d r) (repair_tested d r table t m o)
   pub recoder : (d : ℕ) (r table t m t' m' r' : List ℕ)
       → Table d (words_of table) (DepthRight d × RecodeLengths d r table t m t' m' r' × HeadRight d r) (recoded d r table t m t' m' r').answer
   -- and a table is taken just when it is so
-  pub words-taken : (d : ℕ) (ws : List ℕ) → (wordsTested d ws ≡ Done) ↔ (DepthRight d × TableRight d ws × AllInTwo d (table_of ws))
+  pub words-taken : (d : ℕ) (ws : List ℕ) → (words_tested d ws ≡ Done) ↔ (DepthRight d × TableRight d ws × AllInTwo d (table_of ws))
   pub table_taken : (d : ℕ) (table : List ℕ)
       → (admitted d true table ≡ Done) ↔ (DepthRight d × TableLength table × TableRight d (words_of table) × AllInTwo d (equations_of table))
   -- the house table is, at every depth; so it is taken at each that there is
-  pub house-covered : (d : ℕ) → AllInTwo d (houseTable d)
-  pub house-taken : (d : ℕ) → DepthRight d → (wordsTested d (houseWords d) ≡ Done) × (admitted d true (bytes_of (houseWords d)) ≡ Done)
+  pub house_covered : (d : ℕ) → AllInTwo d (house_table d)
+  pub house-taken : (d : ℕ) → DepthRight d → (words_tested d (house_words d) ≡ Done) × (admitted d true (bytes_of (house_words d)) ≡ Done)

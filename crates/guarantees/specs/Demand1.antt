@@ -12,21 +12,21 @@ use Rattle.sha256.specs.Call.{answer, after}
 use Rattle.sha256.specs.declared.Answer.TheVariants as hashed
 use Rattle.parity_table.specs.declared.Answer.{Answer as Read}
 use Rattle.parity_table.specs.declared.Answer.TheVariants.{Whole}
-use Rattle.house_table.specs.House.{houseWords, houseAnswer, houseOut}
+use Rattle.house_table.specs.House.{house_words, house_answer, house_out}
 use Rattle.model.specs.Shape.{tree}
-use Rattle.model.specs.Symbols.{symAt}
-use Rattle.model.specs.Writer.{writeTree, writtenMarks, writtenRoot, filled, block_of}
-use Rattle.model.specs.Sampling.{sampleBytes}
-use Rattle.symbol_hash.specs.SymbolHash.{symbolHash}
+use Rattle.model.specs.Symbols.{sym_at}
+use Rattle.model.specs.Writer.{write_tree, written_marks, written_root, filled, block_of}
+use Rattle.model.specs.Sampling.{sample_bytes}
+use Rattle.symbol_hash.specs.SymbolHash.{symbol_hash}
 use Rattle.symbol_hash.specs.declared.Kind.{Kind}
-use Rattle.root_record.specs.Records.{kind_of, kindIn, sizeIn, recordOf}
+use Rattle.root_record.specs.Records.{kind_of, kind_in, size_in, record_of}
 use Rattle.calls.specs.declared.Answer.{Answer}
 use Rattle.calls.specs.declared.Answer.TheVariants.{Done}
-use Rattle.volume_calls.specs.Reading.{blockGiven, block_read}
-use Rattle.volume_calls.specs.Writing.{TreeLeft, treeWritten, treeWrittenBy}
-use Rattle.sample_calls.specs.Taking.{sampleTaken}
-use Rattle.fault_calls.specs.Repairing.{Result, RepairLeft, repairTested, repairOf, repaired}
-use Rattle.recoding.specs.Recoding.{otherKind, recoded}
+use Rattle.volume_calls.specs.Reading.{block_given, block_read}
+use Rattle.volume_calls.specs.Writing.{TreeLeft, tree_written, tree_written_by}
+use Rattle.sample_calls.specs.Taking.{sample_taken}
+use Rattle.fault_calls.specs.Repairing.{Result, RepairLeft, repair_tested, repair_of, repaired}
+use Rattle.recoding.specs.Recoding.{other_kind, recoded}
 use Rattle.guarantees.specs.Refusals.{Refusals}
 use Rattle.guarantees.specs.FaultProofs.{ProofCheckerAnswers}
 use Rattle.guarantees.specs.Terms.{equations_of}
@@ -40,19 +40,19 @@ pub record Condition (success : Type 0) (old new now : List ℕ) : Type 0 where
 
 -- the house table, as words or as bytes, into the buffer `lent`, which has as many entries as the table
 abbrev pub HouseWriter : List ℕ → List ℕ → Read → Type 0
-HouseWriter new lent a = Condition (a ≡ Whole) lent new (houseOut a new lent)
+HouseWriter new lent a = Condition (a ≡ Whole) lent new (house_out a new lent)
 
 -- a tree, its marks and its record are written
 pub record TreeWriter (depth : ℕ) (kind : Kind) (table block t m r : List ℕ) (w : TreeLeft Answer) : Type 0 where
-  pub tree-bytes : Condition (w.answer ≡ Done) t (writeTree tree (symbolHash kind) (equations_of table) (filled tree depth block) t) w.tree
-  pub mark-bytes : Condition (w.answer ≡ Done) m (writtenMarks tree depth) w.marks
-  pub record-bytes : Condition (w.answer ≡ Done) r (recordOf kind depth (length block) table (writtenRoot tree (symbolHash kind) w.tree)) w.root-record
+  pub tree-bytes : Condition (w.answer ≡ Done) t (write_tree tree (symbol_hash kind) (equations_of table) (filled tree depth block) t) w.tree
+  pub mark-bytes : Condition (w.answer ≡ Done) m (written_marks tree depth) w.marks
+  pub record_bytes_lem : Condition (w.answer ≡ Done) r (record_of kind depth (length block) table (written_root tree (symbol_hash kind) w.tree)) w.root_record
 
 -- tree, marks and output are repaired: what 01's steps make of them
 pub record Repairer (r table t m o : List ℕ) (a : Answer) (w : RepairLeft Result) : Type 0 where
-  pub tree-bytes : Condition (a ≡ Done) t (repairOf r table t m o).tree w.tree
-  pub mark-bytes : Condition (a ≡ Done) m (repairOf r table t m o).marks w.marks
-  pub out-bytes : Condition (a ≡ Done) o (repairOf r table t m o).out w.out
+  pub tree-bytes : Condition (a ≡ Done) t (repair_of r table t m o).tree w.tree
+  pub mark-bytes : Condition (a ≡ Done) m (repair_of r table t m o).marks w.marks
+  pub out-bytes : Condition (a ≡ Done) o (repair_of r table t m o).out w.out
 
 -- ---- every public call; the two checks of a table, the sample check and the proof check only read
 
@@ -62,18 +62,18 @@ pub record Demand1 : Type 0 where
   pub proof-checker : ProofCheckerAnswers
   -- every lent buffer
   pub hasher : (m d : List ℕ) → Condition (answer m d ≡ hashed.Done) d (sha256 m) (after m d)
-  pub house-words : (depth : ℕ) (lent : List ℕ) → HouseWriter (houseWords depth) lent (houseAnswer depth (length lent) (length (houseWords depth)))
+  pub house-words : (depth : ℕ) (lent : List ℕ) → HouseWriter (house_words depth) lent (house_answer depth (length lent) (length (house_words depth)))
   pub house-bytes : (depth : ℕ) (lent : List ℕ)
-      → HouseWriter (bytes_of (houseWords depth)) lent (houseAnswer depth (length lent) (length (houseWords depth) * 4))
-  pub tree-writer : (depth : ℕ) (kind : Kind) (table block t m r : List ℕ) → TreeWriter depth kind table block t m r (treeWritten depth kind table block t m r)
+      → HouseWriter (bytes_of (house_words depth)) lent (house_answer depth (length lent) (length (house_words depth) * 4))
+  pub tree_writer : (depth : ℕ) (kind : Kind) (table block t m r : List ℕ) → TreeWriter depth kind table block t m r (tree_written depth kind table block t m r)
   -- .. its kind as a number, from C
-  pub tree-writer-by : (depth number : ℕ) (table block t m r : List ℕ)
-      → TreeWriter depth (kind_of number) table block t m r (treeWrittenBy depth number table block t m r)
-  pub block-reader : (depth : ℕ) (r t m b : List ℕ)
-      → Condition ((block_read depth r t m b).answer ≡ Done) b (blockGiven depth r t b) (block_read depth r t m b).block
+  pub tree_writer_by : (depth number : ℕ) (table block t m r : List ℕ)
+      → TreeWriter depth (kind_of number) table block t m r (tree_written_by depth number table block t m r)
+  pub block_reader : (depth : ℕ) (r t m b : List ℕ)
+      → Condition ((block_read depth r t m b).answer ≡ Done) b (block_given depth r t b) (block_read depth r t m b).block
   pub sampler : (depth i : ℕ) (t m s : List ℕ)
-      → Condition ((sampleTaken depth i t m s).answer ≡ Done) s (sampleBytes tree (symAt tree t) depth i) (sampleTaken depth i t m s).sample
-  pub repairer : (depth : ℕ) (r table t m o : List ℕ) → Repairer r table t m o (repairTested depth r table t m o) (repaired depth r table t m o)
+      → Condition ((sample_taken depth i t m s).answer ≡ Done) s (sample_bytes tree (sym_at tree t) depth i) (sample_taken depth i t m s).sample
+  pub repairer : (depth : ℕ) (r table t m o : List ℕ) → Repairer r table t m o (repair_tested depth r table t m o) (repaired depth r table t m o)
   -- the source is only read
   pub recoder : (depth : ℕ) (r table t m t' m' r' : List ℕ)
-      → TreeWriter depth (otherKind (kindIn r)) table (take (sizeIn r) (block_of tree depth t)) t' m' r' (recoded depth r table t m t' m' r')
+      → TreeWriter depth (other_kind (kind_in r)) table (take (size_in r) (block_of tree depth t)) t' m' r' (recoded depth r table t m t' m' r')

@@ -3,7 +3,7 @@
 use Rattle.std.specs.Prelude.{◌≡◌, ◌↔◌, ◌≢◌, true, List, ℕ, ◌+◌, ◌-◌, ◌*◌, ◌/◌, ◌%◌, ◌^◌, length, get_or, ltb, eqb}
 use Rattle.octets.specs.Choice.{pick}
 use Rattle.sha256.specs.Call.{answer}
-use Rattle.house_table.specs.House.{houseWords, houseAnswer}
+use Rattle.house_table.specs.House.{house_words, house_answer}
 use Rattle.model.specs.Repair.{End, working, whole, fault, unavailable, twins}
 use Rattle.repair.specs.declared.End.{End as ReportEnd}
 use Rattle.repair.specs.declared.End.TheVariants as report
@@ -12,98 +12,98 @@ use Rattle.calls.specs.declared.Stop.{Stop}
 use Rattle.calls.specs.declared.Answer.{Answer}
 use Rattle.calls.specs.declared.Answer.TheVariants.{Done}
 use Rattle.calls.specs.Stops.{number_of, values_of}
-use Rattle.calls.specs.Tests.{readAnswer, admitted}
+use Rattle.calls.specs.Tests.{read_answer, admitted}
 use Rattle.fault_calls.specs.declared.Outcome.TheVariants as outcome
-use Rattle.fault_calls.specs.Checking.{proofChecked}
-use Rattle.fault_calls.specs.Repairing.{Result, ended, misfilled, stopped, outcomeOf, repairTested, repaired}
-use Rattle.cedunmi_c.specs.Result.{hashAnswer, callResult, treeInC, blockInC, sampleInC, repairedInC}
-use Rattle.volume_calls.specs.Writing.{TreeLeft, treeWrittenBy}
+use Rattle.fault_calls.specs.Checking.{proof_checked}
+use Rattle.fault_calls.specs.Repairing.{Result, ended, misfilled, stopped, outcome_of, repair_tested, repaired}
+use Rattle.cedunmi_c.specs.Result.{hash_answer, call_result, tree_in_c, block_in_c, sample_in_c, repaired_in_c}
+use Rattle.volume_calls.specs.Writing.{TreeLeft, tree_written_by}
 use Rattle.volume_calls.specs.Reading.{BlockLeft, block_read}
 use Rattle.recoding.specs.Recoding.{recoded}
-use Rattle.sample_calls.specs.Taking.{SampleLeft, sampleTaken}
-use Rattle.sample_calls.specs.Checking.{sampleChecked}
-use Rattle.guarantees.specs.Layouts.{kindNo, valueNo, blockSize}
+use Rattle.sample_calls.specs.Taking.{SampleLeft, sample_taken}
+use Rattle.sample_calls.specs.Checking.{sample_checked}
+use Rattle.guarantees.specs.Layouts.{kind_no, value_no, block_size}
 use Rattle.guarantees.specs.Refusals.{DepthRight, TableLength, HeadRight, NamesTable}
 
 -- cmt_number, cmt_value, cmt_second_value
-abbrev pub cmtNumber : ℕ → ℕ
-cmtNumber r = r % 256
+abbrev pub cmt_number : ℕ → ℕ
+cmt_number r = r % 256
 
-abbrev pub cmtValue : ℕ → ℕ
-cmtValue r = r / 256 % 16777216
+abbrev pub cmt_value : ℕ → ℕ
+cmt_value r = r / 256 % 16777216
 
-abbrev pub cmtSecondValue : ℕ → ℕ
-cmtSecondValue r = r / 4294967296
+abbrev pub cmt_second_value : ℕ → ℕ
+cmt_second_value r = r / 4294967296
 
 -- cmt_repair_end, cmt_repair_stored, cmt_repair_proof_bytes, cmt_repair_layer, cmt_repair_twins_layer, cmt_repair_twins_number
-abbrev pub cmtRepairEnd : ℕ → ℕ
-cmtRepairEnd r = pick (eqb (cmtNumber r) 0) (cmtValue r) 16777216
+abbrev pub cmt_repair_end : ℕ → ℕ
+cmt_repair_end r = pick (eqb (cmt_number r) 0) (cmt_value r) 16777216
 
-abbrev pub cmtRepairStored : ℕ → ℕ
-cmtRepairStored r = pick (eqb (cmtNumber r) 0) (cmtSecondValue r % 65536) 0
+abbrev pub cmt_repair_stored : ℕ → ℕ
+cmt_repair_stored r = pick (eqb (cmt_number r) 0) (cmt_second_value r % 65536) 0
 
-abbrev pub cmtRepairProofBytes : ℕ → ℕ
-cmtRepairProofBytes r = pick (eqb (cmtRepairEnd r) 1) (cmtSecondValue r / 65536) 0
+abbrev pub cmt_repair_proof_bytes : ℕ → ℕ
+cmt_repair_proof_bytes r = pick (eqb (cmt_repair_end r) 1) (cmt_second_value r / 65536) 0
 
-abbrev pub cmtRepairLayer : ℕ → ℕ
-cmtRepairLayer r = pick (eqb (cmtRepairEnd r) 2) (cmtSecondValue r / 65536) 0
+abbrev pub cmt_repair_layer : ℕ → ℕ
+cmt_repair_layer r = pick (eqb (cmt_repair_end r) 2) (cmt_second_value r / 65536) 0
 
-abbrev pub cmtRepairTwinsLayer : ℕ → ℕ
-cmtRepairTwinsLayer r = pick (eqb (cmtRepairEnd r) 3) (cmtSecondValue r / 65536 / 4096) 0
+abbrev pub cmt_repair_twins_layer : ℕ → ℕ
+cmt_repair_twins_layer r = pick (eqb (cmt_repair_end r) 3) (cmt_second_value r / 65536 / 4096) 0
 
-abbrev pub cmtRepairTwinsNumber : ℕ → ℕ
-cmtRepairTwinsNumber r = pick (eqb (cmtRepairEnd r) 3) (cmtSecondValue r / 65536 % 4096) 0
+abbrev pub cmt_repair_twins_number : ℕ → ℕ
+cmt_repair_twins_number r = pick (eqb (cmt_repair_end r) 3) (cmt_second_value r / 65536 % 4096) 0
 
 -- cmt_record_word, its four turns; cmt_record_kind, cmt_record_length, cmt_record_table_bytes
-abbrev pub cmtRecordWord : List ℕ → ℕ → ℕ
-cmtRecordWord r w = 256 * (256 * (256 * (256 * 0 + get_or r (4 * w) 0) + get_or r (4 * w + 1) 0) + get_or r (4 * w + 2) 0) + get_or r (4 * w + 3) 0
+abbrev pub cmt_record_word : List ℕ → ℕ → ℕ
+cmt_record_word r w = 256 * (256 * (256 * (256 * 0 + get_or r (4 * w) 0) + get_or r (4 * w + 1) 0) + get_or r (4 * w + 2) 0) + get_or r (4 * w + 3) 0
 
-abbrev pub cmtRecordKind : List ℕ → ℕ
-cmtRecordKind r = cmtRecordWord r 0 / 1073741824
+abbrev pub cmt_record_kind : List ℕ → ℕ
+cmt_record_kind r = cmt_record_word r 0 / 1073741824
 
-abbrev pub cmtRecordLength : List ℕ → ℕ
-cmtRecordLength r = cmtRecordWord r 1 % 1073741824
+abbrev pub cmt_record_length : List ℕ → ℕ
+cmt_record_length r = cmt_record_word r 1 % 1073741824
 
-abbrev pub cmtRecordTableBytes : List ℕ → ℕ
-cmtRecordTableBytes r = 4 * (cmtRecordWord r 2 % 1073741824)
+abbrev pub cmt_record_table_bytes : List ℕ → ℕ
+cmt_record_table_bytes r = 4 * (cmt_record_word r 2 % 1073741824)
 
 -- cmt_record_depth: the three tests, which return 0 where a word has another kind, then what returns 0 by the depth, in its order; CMT_BLOCK_BYTES is
 -- asked of a depth from 1 to 9 only
-abbrev pub cmtDepthTaken : List ℕ → ℕ → ℕ
-cmtDepthTaken r d = pick (ltb d 1) 0 (pick (ltb 9 d) 0 (pick (ltb (256 * (4 * 2 ^ (d - 1))) (cmtRecordLength r)) 0 d))
+abbrev pub cmt_depth_taken : List ℕ → ℕ → ℕ
+cmt_depth_taken r d = pick (ltb d 1) 0 (pick (ltb 9 d) 0 (pick (ltb (256 * (4 * 2 ^ (d - 1))) (cmt_record_length r)) 0 d))
 
-abbrev pub cmtRecordDepth : List ℕ → ℕ
-cmtRecordDepth r =
-    pick (ltb 1 (cmtRecordKind r)) 0
-    (pick (eqb (cmtRecordWord r 1 / 1073741824) 2)
-    (pick (eqb (cmtRecordWord r 2 / 1073741824) 3) (cmtDepthTaken r (cmtRecordWord r 0 % 1073741824)) 0) 0)
+abbrev pub cmt_record_depth : List ℕ → ℕ
+cmt_record_depth r =
+    pick (ltb 1 (cmt_record_kind r)) 0
+    (pick (eqb (cmt_record_word r 1 / 1073741824) 2)
+    (pick (eqb (cmt_record_word r 2 / 1073741824) 3) (cmt_depth_taken r (cmt_record_word r 0 % 1073741824)) 0) 0)
 
 -- the number r says this number with these values
 pub record Says (r number : ℕ) (values : ℕ × ℕ) : Type 0 where
-  pub number_is : cmtNumber r ≡ number
-  pub value-is : cmtValue r ≡ values.0
-  pub second_is : cmtSecondValue r ≡ values.1
+  pub number_is : cmt_number r ≡ number
+  pub value_is : cmt_value r ≡ values.0
+  pub second_is : cmt_second_value r ≡ values.1
 
 -- the number that a call returns says what it answers
 abbrev pub SaysAnswer : Answer → Type 0
-SaysAnswer a = Says (callResult a) (number_of a) (values_of a)
+SaysAnswer a = Says (call_result a) (number_of a) (values_of a)
 
 -- the number r says this end of a repair: its number, the bytes of its proof, its layer, and the layer and number of its twins
 pub record SaysEnd (r end bytes layer : ℕ) (twins : ℕ × ℕ) : Type 0 where
-  pub end_is : cmtRepairEnd r ≡ end
-  pub bytes-are : cmtRepairProofBytes r ≡ bytes
-  pub layer-is : cmtRepairLayer r ≡ layer
-  pub twins-layer-is : cmtRepairTwinsLayer r ≡ twins.0
-  pub twins-number-is : cmtRepairTwinsNumber r ≡ twins.1
+  pub end_is : cmt_repair_end r ≡ end
+  pub bytes-are : cmt_repair_proof_bytes r ≡ bytes
+  pub layer-is : cmt_repair_layer r ≡ layer
+  pub twins-layer-is : cmt_repair_twins_layer r ≡ twins.0
+  pub twins-number-is : cmt_repair_twins_number r ≡ twins.1
 
 -- it says that the repair has no end
 pub record SaysNoEnd (r : ℕ) : Type 0 where
-  pub end_none : cmtRepairEnd r ≡ 16777216
-  pub stored-none : cmtRepairStored r ≡ 0
-  pub bytes-none : cmtRepairProofBytes r ≡ 0
-  pub layer-none : cmtRepairLayer r ≡ 0
-  pub twins-layer-none : cmtRepairTwinsLayer r ≡ 0
-  pub twins-number-none : cmtRepairTwinsNumber r ≡ 0
+  pub end_none : cmt_repair_end r ≡ 16777216
+  pub stored-none : cmt_repair_stored r ≡ 0
+  pub bytes-none : cmt_repair_proof_bytes r ≡ 0
+  pub layer-none : cmt_repair_layer r ≡ 0
+  pub twins-layer-none : cmt_repair_twins_layer r ≡ 0
+  pub twins-number-none : cmt_repair_twins_number r ≡ 0
 
 -- "The ends are: whole, fault, unavailable, twins", and 02's 13; "a fault [..] reports the proof's length"; "unavailable" is "with this layer"; of a volume of
 -- kind 00 "its twins also report their layer and number" (02, CR 7)
@@ -116,13 +116,13 @@ EndSaid kind r working = ⊥
 
 -- the number r says that a repair, by a record of this kind, came out so, with this many symbols stored
 abbrev pub EndedSaid : ℕ → ℕ → Result → Type 0
-EndedSaid kind r (ended s z) = (cmtRepairStored r ≡ s) × EndSaid kind r z
-EndedSaid kind r (misfilled s) = (cmtRepairStored r ≡ s) × SaysEnd r 13 0 0 (0, 0)
+EndedSaid kind r (ended s z) = (cmt_repair_stored r ≡ s) × EndSaid kind r z
+EndedSaid kind r (misfilled s) = (cmt_repair_stored r ≡ s) × SaysEnd r 13 0 0 (0, 0)
 EndedSaid kind r (stopped w) = ⊥
 
 -- what `cmt_repair` returns
-abbrev pub repairNumber : (depth : ℕ) (r table t m o : List ℕ) → ℕ
-repairNumber depth r table t m o = (repairedInC depth r table t m o).answer
+abbrev pub repair_number : (depth : ℕ) (r table t m o : List ℕ) → ℕ
+repair_number depth r table t m o = (repaired_in_c depth r table t m o).answer
 
 -- of every call; the contract of each says that it returns this number
 pub record Results : Type 0 where
@@ -132,37 +132,37 @@ pub record Results : Type 0 where
       × (end_of (report.Unavailable layer) ≡ unavailable layer) × (end_of (report.Twins layer number) ≡ twins layer number)
   -- and how `repair_tree` comes out: at one of these ends, misfilled, or refused
   pub outcomes : (stored : ℕ) (end : ReportEnd) (stop : Stop)
-      → (outcomeOf (outcome.Ended (record { stored = stored; end = end })) ≡ ended stored (end_of end))
-      × (outcomeOf (outcome.Misfilled stored) ≡ misfilled stored) × (outcomeOf (outcome.Stopped stop) ≡ stopped stop)
-  pub of-hasher : (m digest : List ℕ) → SaysAnswer (hashAnswer (answer m digest))
-  pub of-table-check : (depth : ℕ) (table : List ℕ) → SaysAnswer (admitted depth true table)
-  pub of-house-table : (depth n : ℕ) → SaysAnswer (readAnswer (houseAnswer depth n (length (houseWords depth) * 4)))
-  pub of-tree-writer : (depth number : ℕ) (table b t m r : List ℕ) → SaysAnswer (treeWrittenBy depth number table b t m r).answer
-  pub of-block-reader : (depth : ℕ) (r t m b : List ℕ) → SaysAnswer (block_read depth r t m b).answer
-  pub of-sampler : (depth i : ℕ) (t m s : List ℕ) → SaysAnswer (sampleTaken depth i t m s).answer
-  pub of-sample-checker : (depth i : ℕ) (r s : List ℕ) → SaysAnswer (sampleChecked depth i r s)
-  pub of-proof-checker : (depth : ℕ) (r table b : List ℕ) → SaysAnswer (proofChecked depth r table b)
-  pub of-recoder : (depth : ℕ) (r table t m t' m' r' : List ℕ) → SaysAnswer (recoded depth r table t m t' m' r').answer
+      → (outcome_of (outcome.Ended (record { stored = stored; end = end })) ≡ ended stored (end_of end))
+      × (outcome_of (outcome.Misfilled stored) ≡ misfilled stored) × (outcome_of (outcome.Stopped stop) ≡ stopped stop)
+  pub of_hasher : (m digest : List ℕ) → SaysAnswer (hash_answer (answer m digest))
+  pub of_table_check : (depth : ℕ) (table : List ℕ) → SaysAnswer (admitted depth true table)
+  pub of_house_table : (depth n : ℕ) → SaysAnswer (read_answer (house_answer depth n (length (house_words depth) * 4)))
+  pub of_tree_writer : (depth number : ℕ) (table b t m r : List ℕ) → SaysAnswer (tree_written_by depth number table b t m r).answer
+  pub of_block_reader : (depth : ℕ) (r t m b : List ℕ) → SaysAnswer (block_read depth r t m b).answer
+  pub of_sampler : (depth i : ℕ) (t m s : List ℕ) → SaysAnswer (sample_taken depth i t m s).answer
+  pub of_sample_checker : (depth i : ℕ) (r s : List ℕ) → SaysAnswer (sample_checked depth i r s)
+  pub of_proof_checker : (depth : ℕ) (r table b : List ℕ) → SaysAnswer (proof_checked depth r table b)
+  pub of_recoder : (depth : ℕ) (r table t m t' m' r' : List ℕ) → SaysAnswer (recoded depth r table t m t' m' r').answer
   -- a repair that is refused, and one that came to its end
-  pub of-refusal : (depth : ℕ) (r table t m o : List ℕ) → repairTested depth r table t m o ≢ Done
-      → Says (repairNumber depth r table t m o) (number_of (repairTested depth r table t m o)) (values_of (repairTested depth r table t m o))
-  pub no_end : (depth : ℕ) (r table t m o : List ℕ) → repairTested depth r table t m o ≢ Done → SaysNoEnd (repairNumber depth r table t m o)
-  pub of-repair : (depth : ℕ) (r table t m o : List ℕ) → repairTested depth r table t m o ≡ Done
-      → (cmtNumber (repairNumber depth r table t m o) ≡ 0)
-      × EndedSaid (kindNo r 0) (repairNumber depth r table t m o) (repaired depth r table t m o).answer
+  pub of_refusal : (depth : ℕ) (r table t m o : List ℕ) → repair_tested depth r table t m o ≢ Done
+      → Says (repair_number depth r table t m o) (number_of (repair_tested depth r table t m o)) (values_of (repair_tested depth r table t m o))
+  pub no_end : (depth : ℕ) (r table t m o : List ℕ) → repair_tested depth r table t m o ≢ Done → SaysNoEnd (repair_number depth r table t m o)
+  pub of_repair : (depth : ℕ) (r table t m o : List ℕ) → repair_tested depth r table t m o ≡ Done
+      → (cmt_number (repair_number depth r table t m o) ≡ 0)
+      × EndedSaid (kind_no r 0) (repair_number depth r table t m o) (repaired depth r table t m o).answer
   -- to C a call leaves the buffers that it leaves, and its answer is that number
-  pub tree-in-c : (w : TreeLeft Answer)
-      → ((treeInC w).answer ≡ callResult w.answer) × ((treeInC w).tree ≡ w.tree) × ((treeInC w).marks ≡ w.marks) × ((treeInC w).root-record ≡ w.root-record)
-  pub block-in-c : (w : BlockLeft Answer) → ((blockInC w).answer ≡ callResult w.answer) × ((blockInC w).block ≡ w.block)
-  pub sample-in-c : (w : SampleLeft Answer) → ((sampleInC w).answer ≡ callResult w.answer) × ((sampleInC w).sample ≡ w.sample)
-  pub repair-in-c : (depth : ℕ) (r table t m o : List ℕ)
-      → ((repairedInC depth r table t m o).tree ≡ (repaired depth r table t m o).tree) × ((repairedInC depth r table t m o).marks ≡ (repaired depth r table t m o).marks)
-      × ((repairedInC depth r table t m o).out ≡ (repaired depth r table t m o).out)
+  pub tree_in_c_lem : (w : TreeLeft Answer)
+      → ((tree_in_c w).answer ≡ call_result w.answer) × ((tree_in_c w).tree ≡ w.tree) × ((tree_in_c w).marks ≡ w.marks) × ((tree_in_c w).root_record ≡ w.root_record)
+  pub block_in_c_lem : (w : BlockLeft Answer) → ((block_in_c w).answer ≡ call_result w.answer) × ((block_in_c w).block ≡ w.block)
+  pub sample_in_c_lem : (w : SampleLeft Answer) → ((sample_in_c w).answer ≡ call_result w.answer) × ((sample_in_c w).sample ≡ w.sample)
+  pub repair_in_c_lem : (depth : ℕ) (r table t m o : List ℕ)
+      → ((repaired_in_c depth r table t m o).tree ≡ (repaired depth r table t m o).tree) × ((repaired_in_c depth r table t m o).marks ≡ (repaired depth r table t m o).marks)
+      × ((repaired_in_c depth r table t m o).out ≡ (repaired depth r table t m o).out)
   -- of a record C reads what the calls do: the depth at which 11 lets it pass, and 0 where there is none
-  pub record-depth : (d : ℕ) (r : List ℕ) → DepthRight d → (cmtRecordDepth r ≡ d) ↔ HeadRight d r
-  pub record-no-depth : (r : List ℕ) → (cmtRecordDepth r ≡ 0) ↔ ((d : ℕ) → DepthRight d → HeadRight d r → ⊥)
-  pub record-kind : (r : List ℕ) → cmtRecordKind r ≡ kindNo r 0
-  pub record-length : (r : List ℕ) → cmtRecordLength r ≡ blockSize r
-  pub record-table-bytes : (r : List ℕ) → cmtRecordTableBytes r ≡ 4 * valueNo r 2
+  pub record_depth : (d : ℕ) (r : List ℕ) → DepthRight d → (cmt_record_depth r ≡ d) ↔ HeadRight d r
+  pub record_no_depth : (r : List ℕ) → (cmt_record_depth r ≡ 0) ↔ ((d : ℕ) → DepthRight d → HeadRight d r → ⊥)
+  pub record_kind : (r : List ℕ) → cmt_record_kind r ≡ kind_no r 0
+  pub record_length : (r : List ℕ) → cmt_record_length r ≡ block_size r
+  pub record_table_bytes : (r : List ℕ) → cmt_record_table_bytes r ≡ 4 * value_no r 2
   -- so that a table that 12 lets pass has these bytes
-  pub named-table-bytes : (r table : List ℕ) → TableLength table → NamesTable r table → length table ≡ cmtRecordTableBytes r
+  pub named-table-bytes : (r table : List ℕ) → TableLength table → NamesTable r table → length table ≡ cmt_record_table_bytes r

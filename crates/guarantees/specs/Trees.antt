@@ -5,22 +5,22 @@ use Rattle.octets.specs.Choice.{pick}
 use Rattle.sha256.specs.Hash.{sha256}
 use Rattle.symbol_hash.specs.declared.Kind.{Kind}
 use Rattle.symbol_hash.specs.declared.Kind.TheVariants.{Plain, Placed}
-use Rattle.guarantees.specs.Layouts.{bytesFrom, symbolNo, dataSymbols, allSymbols, hashFor, XorOf}
+use Rattle.guarantees.specs.Layouts.{bytes_from, symbol_no, data_symbols, all_symbols, hash_for, XorOf}
 
 -- ---- the hash of a symbol
 
 -- the kinds that a writer is told, by the kind of the record's first word: "In a new record the first word's kind is 00"; "Kind 01 records remain readable"
-abbrev pub kindBits : Kind → ℕ
-kindBits Placed = 0
-kindBits Plain = 1
+abbrev pub kind_bits : Kind → ℕ
+kind_bits Placed = 0
+kind_bits Plain = 1
 
 -- "a big-endian word (kind 01, layer in the next 6 bits, number in the low 24)", its four bytes: kind and layer, then the number
-abbrev pub placeBytes : ℕ → ℕ → List ℕ
-placeBytes j i = (64 + j % 64) ∷ i / 2 ^ 16 % 256 ∷ i / 2 ^ 8 % 256 ∷ i % 256 ∷ []
+abbrev pub place_bytes : ℕ → ℕ → List ℕ
+place_bytes j i = (64 + j % 64) ∷ i / 2 ^ 16 % 256 ∷ i / 2 ^ 8 % 256 ∷ i % 256 ∷ []
 
 -- the hash of s as symbol i of layer j, by the kind of the record's first word: with 00 "its symbol hash covers [that] word [..] and then the 256 bytes"
-unfoldable pub hashBy : ℕ → ℕ → ℕ → List ℕ → List ℕ
-hashBy kind j i s = pick (eqb kind 0) (sha256 (placeBytes j i ++ s)) (sha256 s)
+unfoldable pub hash_by : ℕ → ℕ → ℕ → List ℕ → List ℕ
+hash_by kind j i s = pick (eqb kind 0) (sha256 (place_bytes j i ++ s)) (sha256 s)
 
 abbrev pub Hasher : Type 0
 Hasher = ℕ → ℕ → List ℕ → List ℕ
@@ -37,23 +37,23 @@ EquationHolds symbol ms = XorOf (λ q. symbol (get_or ms q 0)) (length ms) (repl
 
 -- a tree of depth d "is correctly coded when every equation of every layer holds and every hash stands where the section above puts it"
 pub record CorrectlyCoded (H : Hasher) (d : ℕ) (tbl : List (List (List ℕ))) (f : ℕ → ℕ → List ℕ) : Type 0 where
-  pub sized : (j i : ℕ) → j < d → i < allSymbols j → length (f j i) ≡ 256
-  pub equations-hold : (j e : ℕ) → j < d → e < 3 * dataSymbols j → EquationHolds (f j) (members tbl j e)
-  pub hashes-stand : (j i : ℕ) → suc j < d → i < allSymbols (suc j) → hashFor [] f (suc j) i ≡ H (suc j) i (f (suc j) i)
+  pub sized : (j i : ℕ) → j < d → i < all_symbols j → length (f j i) ≡ 256
+  pub equations_hold : (j e : ℕ) → j < d → e < 3 * data_symbols j → EquationHolds (f j) (members tbl j e)
+  pub hashes_stand : (j i : ℕ) → suc j < d → i < all_symbols (suc j) → hash_for [] f (suc j) i ≡ H (suc j) i (f (suc j) i)
 
 -- "The root is 512 bytes: the hashes of layer 0's sixteen symbols in order."
 pub record RootOf (H : Hasher) (f : ℕ → ℕ → List ℕ) (root : List ℕ) : Type 0 where
   pub full : length root ≡ 512
-  pub hashes : (i : ℕ) → i < 16 → bytesFrom root (32 * i) 32 ≡ H 0 i (f 0 i)
+  pub hashes : (i : ℕ) → i < 16 → bytes_from root (32 * i) 32 ≡ H 0 i (f 0 i)
 
 -- "It agrees with a root and table when it is correctly coded by that table's equations and the hashes of its layer 0 are that root."
 pub record AgreesWith (H : Hasher) (d : ℕ) (tbl : List (List (List ℕ))) (root : List ℕ) (f : ℕ → ℕ → List ℕ) : Type 0 where
-  pub correctly-coded : CorrectlyCoded H d tbl f
-  pub root-of : RootOf H f root
+  pub correctly_coded : CorrectlyCoded H d tbl f
+  pub root_of_lem : RootOf H f root
 
 -- "cut in order into data symbols": a block that is filled up, as 02, CR 5 has it
 abbrev pub HasBlock : ℕ → (ℕ → ℕ → List ℕ) → List ℕ → Type 0
-HasBlock d f block = (i : ℕ) → i < dataSymbols (d - 1) → f (d - 1) i ≡ symbolNo block i
+HasBlock d f block = (i : ℕ) → i < data_symbols (d - 1) → f (d - 1) i ≡ symbol_no block i
 
 -- "two different symbols of equal SHA-256"; with kind 00 "equal hashes meaning those of place and symbol together": both as symbol i of layer j
 pub record Twins (H : Hasher) (j i : ℕ) (s u : List ℕ) : Type 0 where

@@ -9,7 +9,7 @@ use lib.ListN.{length, get_or, drop, length-drop}
 use lib.Seq.{sets, sets-eq, drop-cons, drop-drop}
 use lib.Dec.{ltb, eqb}
 use borrow.Author.Tests.{eq-eqb, ne_eqb, ltb-true}
-use Rattle.octets.specs.BigEndian.{be, wordAt}
+use Rattle.octets.specs.BigEndian.{be, word_at}
 use Rattle.octets.proofs.Choice.{and_yes}
 use Rattle.parity_table.specs.Members.{every}
 use Rattle.parity_table.specs.Parse.{over}
@@ -18,11 +18,11 @@ use Rattle.heads.specs.Heads.{head, kind_at, value_at}
 
 -- ---- a test of a word
 
-pub names-kind : (b : List ℕ) (i kind bound k : ℕ) → k ≡ kind_at b i → (k ≡ kind → ⊥) → false ≡ (eqb (kind_at b i) kind && ltb (value_at b i) bound)
-names-kind b i kind bound k e n = rw (sym e, ne_eqb k kind n)
+pub names_kind : (b : List ℕ) (i kind bound k : ℕ) → k ≡ kind_at b i → (k ≡ kind → ⊥) → false ≡ (eqb (kind_at b i) kind && ltb (value_at b i) bound)
+names_kind b i kind bound k e n = rw (sym e, ne_eqb k kind n)
 
-pub names-value : (b : List ℕ) (i kind bound k v : ℕ) → k ≡ kind_at b i → k ≡ kind → v ≡ value_at b i → ltb v bound ≡ (eqb (kind_at b i) kind && ltb (value_at b i) bound)
-names-value b i kind bound k v e n ev = rw (sym e, eq-eqb k kind n, ev)
+pub names_value : (b : List ℕ) (i kind bound k v : ℕ) → k ≡ kind_at b i → k ≡ kind → v ≡ value_at b i → ltb v bound ≡ (eqb (kind_at b i) kind && ltb (value_at b i) bound)
+names_value b i kind bound k v e n ev = rw (sym e, eq-eqb k kind n, ev)
 
 -- ---- a head that is written
 
@@ -30,10 +30,10 @@ stored : (q : List ℕ) (x : ℕ) → 4 ≤ length q → sets q 0 (be 4 x) ≡ b
 unfolding be
 stored q x h = sets-eq (be 4 x) q 0 h
 
-pub head-put : (k j e x : ℕ) (out a b c : List ℕ) → 12 ≤ length out → a ≡ sets out 0 (be 4 (k * 1073741824 + j)) → b ≡ sets a 4 (be 4 (2147483648 + e))
+pub head_put : (k j e x : ℕ) (out a b c : List ℕ) → 12 ≤ length out → a ≡ sets out 0 (be 4 (k * 1073741824 + j)) → b ≡ sets a 4 (be 4 (2147483648 + e))
     → c ≡ sets b 8 (be 4 (3221225472 + x)) → c ≡ over (head k j e x) out
 unfolding be head
-head-put k j e x out a b c room ea eb ec =
+head_put k j e x out a b c room ea eb ec =
     let u : List ℕ = be 4 (word k j) in
     let v : List ℕ = be 4 (word 2 e) in
     let w : List ℕ = be 4 (word 3 x) in
@@ -62,18 +62,18 @@ be-read x h =
     sum x a b c r s t p q u = omega arith
 
 module _ (b : List ℕ) (i kind : ℕ) where
-  module _ (v : ℕ) (e : wordAt b (4 * i) ≡ word kind v) (small : v < 2 ^ 30) where
-    pub read-kind : kind_at b i ≡ kind
+  module _ (v : ℕ) (e : word_at b (4 * i) ≡ word kind v) (small : v < 2 ^ 30) where
+    pub read_kind : kind_at b i ≡ kind
     unfolding kind_at
-    read-kind = ap (λ (w : ℕ). w / 2 ^ 30) e ∙ omega arith
+    read_kind = ap (λ (w : ℕ). w / 2 ^ 30) e ∙ omega arith
 
-    pub read-value : value_at b i ≡ v
+    pub read_value : value_at b i ≡ v
     unfolding value_at
-    read-value = ap (λ (w : ℕ). w % 2 ^ 30) e ∙ omega arith
+    read_value = ap (λ (w : ℕ). w % 2 ^ 30) e ∙ omega arith
 
-  pub word_read : kind_at b i ≡ kind → wordAt b (4 * i) ≡ word kind (value_at b i)
+  pub word_read : kind_at b i ≡ kind → word_at b (4 * i) ≡ word kind (value_at b i)
   unfolding kind_at value_at
-  word_read e = sym (div-add-mod' (wordAt b (4 * i)) (2 ^ 30)) ∙ ap (λ (k : ℕ). k * 2 ^ 30 + wordAt b (4 * i) % 2 ^ 30) e
+  word_read e = sym (div-add-mod' (word_at b (4 * i)) (2 ^ 30)) ∙ ap (λ (k : ℕ). k * 2 ^ 30 + word_at b (4 * i) % 2 ^ 30) e
 
 -- ---- a head that is written and read
 
@@ -87,22 +87,22 @@ module _ (k a b c : ℕ) where
     unfolding head be
     after-head = refl
 
-    module _ (k-small : k < 4) (a_small : a < 2 ^ 30) (b-small : b < 2 ^ 30) (c-small : c < 2 ^ 30) where
-      pub head-words : let l : List ℕ = head k a b c ++ r in (wordAt l 0 ≡ word k a) × (wordAt l 4 ≡ word 2 b) × (wordAt l 8 ≡ word 3 c)
-      unfolding head wordAt be
+    module _ (k_small : k < 4) (a_small : a < 2 ^ 30) (b-small : b < 2 ^ 30) (c-small : c < 2 ^ 30) where
+      pub head-words : let l : List ℕ = head k a b c ++ r in (word_at l 0 ≡ word k a) × (word_at l 4 ≡ word 2 b) × (word_at l 8 ≡ word 3 c)
+      unfolding head word_at be
       head-words = (be-read (word k a) (omega arith), be-read (word 2 b) (omega arith), be-read (word 3 c) (omega arith))
 
       pub head-kinds : let l : List ℕ = head k a b c ++ r in (kind_at l 0 ≡ k) × (kind_at l 1 ≡ 2) × (kind_at l 2 ≡ 3)
-      head-kinds = (read-kind _ 0 k a head-words.0 a_small, read-kind _ 1 2 b head-words.1 b-small, read-kind _ 2 3 c head-words.2 c-small)
+      head-kinds = (read_kind _ 0 k a head-words.0 a_small, read_kind _ 1 2 b head-words.1 b-small, read_kind _ 2 3 c head-words.2 c-small)
 
-      pub head-values : let l : List ℕ = head k a b c ++ r in (value_at l 0 ≡ a) × (value_at l 1 ≡ b) × (value_at l 2 ≡ c)
-      head-values = (read-value _ 0 k a head-words.0 a_small, read-value _ 1 2 b head-words.1 b-small, read-value _ 2 3 c head-words.2 c-small)
+      pub head_values : let l : List ℕ = head k a b c ++ r in (value_at l 0 ≡ a) × (value_at l 1 ≡ b) × (value_at l 2 ≡ c)
+      head_values = (read_value _ 0 k a head-words.0 a_small, read_value _ 1 2 b head-words.1 b-small, read_value _ 2 3 c head-words.2 c-small)
 
 -- ---- bytes that are read as a head are that head
 
-pub be-of : (a b c d : ℕ) → a < 256 → b < 256 → c < 256 → d < 256 → be 4 (a * 2 ^ 24 + b * 2 ^ 16 + c * 2 ^ 8 + d) ≡ a ∷ b ∷ c ∷ d ∷ []
+pub be_of : (a b c d : ℕ) → a < 256 → b < 256 → c < 256 → d < 256 → be 4 (a * 2 ^ 24 + b * 2 ^ 16 + c * 2 ^ 8 + d) ≡ a ∷ b ∷ c ∷ d ∷ []
 unfolding be
-be-of a b c d ha hb hc hd =
+be_of a b c d ha hb hc hd =
     let x : ℕ = a * 2 ^ 24 + b * 2 ^ 16 + c * 2 ^ 8 + d in
     let p : x / 16777216 % 256 ≡ a = omega arith in
     let q : x / 65536 % 256 ≡ b = omega arith in
@@ -118,8 +118,8 @@ byte (x ∷ l) e (suc i) h = byte l (and_yes (ltb x 256) _ e).1 i (omega arith)
 
 module _ (r : List ℕ) (bytes : every (λ x. ltb x 256) r ≡ true) where
   -- the four bytes from byte i on, and what follows them
-  word-bytes : (i : ℕ) → i + 4 ≤ length r → drop i r ≡ be 4 (wordAt r i) ++ drop (i + 4) r
-  unfolding wordAt
+  word-bytes : (i : ℕ) → i + 4 ≤ length r → drop i r ≡ be 4 (word_at r i) ++ drop (i + 4) r
+  unfolding word_at
   word-bytes i h =
       let e₁ : suc i ≡ i + 1 = omega arith in
       let e₂ : suc (i + 1) ≡ i + 2 = omega arith in
@@ -131,7 +131,7 @@ module _ (r : List ℕ) (bytes : every (λ x. ltb x 256) r ≡ true) where
       ∙ ap (λ (l : List ℕ). get_or r i 0 ∷ l) (step (i + 1) (i + 2) (omega arith) e₂)
       ∙ ap (λ (l : List ℕ). get_or r i 0 ∷ get_or r (i + 1) 0 ∷ l) (step (i + 2) (i + 3) (omega arith) e₃)
       ∙ ap (λ (l : List ℕ). get_or r i 0 ∷ get_or r (i + 1) 0 ∷ get_or r (i + 2) 0 ∷ l) (step (i + 3) (i + 4) (omega arith) e₄)
-      ∙ ap (λ (l : List ℕ). l ++ drop (i + 4) r) (sym (be-of (get_or r i 0) (get_or r (i + 1) 0) (get_or r (i + 2) 0) (get_or r (i + 3) 0) (byte r bytes i (omega arith)) (byte r bytes (i + 1) (omega arith)) (byte r bytes (i + 2) (omega arith)) (byte r bytes (i + 3) (omega arith))))
+      ∙ ap (λ (l : List ℕ). l ++ drop (i + 4) r) (sym (be_of (get_or r i 0) (get_or r (i + 1) 0) (get_or r (i + 2) 0) (get_or r (i + 3) 0) (byte r bytes i (omega arith)) (byte r bytes (i + 1) (omega arith)) (byte r bytes (i + 2) (omega arith)) (byte r bytes (i + 3) (omega arith))))
 
   module _ (k : ℕ) (room : 12 ≤ length r) (first : kind_at r 0 ≡ k) (second : kind_at r 1 ≡ 2) (third : kind_at r 2 ≡ 3) where
     pub head_apart : r ≡ head k (value_at r 0) (value_at r 1) (value_at r 2) ++ drop 12 r

@@ -3,58 +3,58 @@ use Rattle.std.specs.Prelude.{List, [], ◌∷◌, ◌++◌, ℕ, zero, suc, ◌
 use Rattle.octets.specs.Choice.{pick}
 use Rattle.parity_table.specs.declared.Answer.{Answer}
 use Rattle.parity_table.specs.declared.Answer.TheVariants.{Depth, Length, Wrong, Whole}
-use Rattle.parity_table.specs.Shape.{depthFits, k_of}
-use Rattle.parity_table.specs.Table.{layerWord, equationWord, equationsWords, tableWords}
+use Rattle.parity_table.specs.Shape.{depth_fits, k_of}
+use Rattle.parity_table.specs.Table.{layer_word, equation_word, equations_words, table_words}
 
 -- "equation e has data members e mod k and (e+1+⌊e/k⌋) mod k"
-abbrev pub dataOne : ℕ → ℕ → ℕ
-dataOne k e = e % k
+abbrev pub data_one : ℕ → ℕ → ℕ
+data_one k e = e % k
 
-abbrev pub dataTwo : ℕ → ℕ → ℕ
-dataTwo k e = (e + 1 + e / k) % k
+abbrev pub data_two : ℕ → ℕ → ℕ
+data_two k e = (e + 1 + e / k) % k
 
 -- "symbol k+e−1 if e > 0"
-abbrev pub parityBefore : ℕ → ℕ → List ℕ
-parityBefore k zero = []
-parityBefore k (suc e) = (k + e) ∷ []
+abbrev pub parity_before : ℕ → ℕ → List ℕ
+parity_before k zero = []
+parity_before k (suc e) = (k + e) ∷ []
 
 -- ".. and k+e, written ascending"
-unfoldable pub houseEquation : ℕ → ℕ → List ℕ
-houseEquation k e = min (dataOne k e) (dataTwo k e) ∷ max (dataOne k e) (dataTwo k e) ∷ parityBefore k e ++ ((k + e) ∷ [])
+unfoldable pub house_equation : ℕ → ℕ → List ℕ
+house_equation k e = min (data_one k e) (data_two k e) ∷ max (data_one k e) (data_two k e) ∷ parity_before k e ++ ((k + e) ∷ [])
 
 -- n equations, the first being number e
-unfoldable pub houseEquations : ℕ → ℕ → ℕ → List (List ℕ)
-houseEquations k e zero = []
-houseEquations k e (suc n) = houseEquation k e ∷ houseEquations k (suc e) n
+unfoldable pub house_equations : ℕ → ℕ → ℕ → List (List ℕ)
+house_equations k e zero = []
+house_equations k e (suc n) = house_equation k e ∷ house_equations k (suc e) n
 
 -- n layers, the first being number j
-unfoldable pub houseLayers : ℕ → ℕ → List (List (List ℕ))
-houseLayers j zero = []
-houseLayers j (suc n) = houseEquations (k_of j) 0 (3 * k_of j) ∷ houseLayers (suc j) n
+unfoldable pub house_layers : ℕ → ℕ → List (List (List ℕ))
+house_layers j zero = []
+house_layers j (suc n) = house_equations (k_of j) 0 (3 * k_of j) ∷ house_layers (suc j) n
 
 -- the house table of depth d, and its words
-unfoldable pub houseTable : ℕ → List (List (List ℕ))
-houseTable d = houseLayers 0 d
+unfoldable pub house_table : ℕ → List (List (List ℕ))
+house_table d = house_layers 0 d
 
-unfoldable pub houseWords : ℕ → List ℕ
-houseWords d = tableWords (houseTable d)
+unfoldable pub house_words : ℕ → List ℕ
+house_words d = table_words (house_table d)
 
 -- ---- the writer of a house table
 
 -- what it answers for depth d, lent a buffer of n entries where the table has m
-unfoldable pub houseAnswer : ℕ → ℕ → ℕ → Answer
-houseAnswer d n m = pick (depthFits d) (pick (eqb n m) Whole Length) Depth
+unfoldable pub house_answer : ℕ → ℕ → ℕ → Answer
+house_answer d n m = pick (depth_fits d) (pick (eqb n m) Whole Length) Depth
 
 -- what the buffer holds afterwards
-abbrev pub houseOut : Answer → List ℕ → List ℕ → List ℕ
-houseOut Depth table lent = lent
-houseOut Length table lent = lent
-houseOut (Wrong i) table lent = lent
-houseOut Whole table lent = table
+abbrev pub house_out : Answer → List ℕ → List ℕ → List ℕ
+house_out Depth table lent = lent
+house_out Length table lent = lent
+house_out (Wrong i) table lent = lent
+house_out Whole table lent = table
 
 -- the words that it writes one after the other: an equation, and a layer
-abbrev pub houseRow : ℕ → ℕ → List ℕ
-houseRow k e = equationWord e ∷ houseEquation k e
+abbrev pub house_row : ℕ → ℕ → List ℕ
+house_row k e = equation_word e ∷ house_equation k e
 
-abbrev pub houseLayer : ℕ → ℕ → List ℕ
-houseLayer j k = layerWord j ∷ equationsWords 0 (houseEquations k 0 (3 * k))
+abbrev pub house_layer : ℕ → ℕ → List ℕ
+house_layer j k = layer_word j ∷ equations_words 0 (house_equations k 0 (3 * k))

@@ -2,8 +2,8 @@
 ghost use Rattle.std.specs.Prelude.{◌≡◌, true, ◌+◌, ◌*◌, ◌<◌, ◌≤◌, ◌^◌, max, length};
 ghost use Rattle.std.proofs.lemmas.List.Edits.{sets};
 ghost use Rattle.octets.specs.BigEndian.{bytes_of};
-ghost use Rattle.parity_table.specs.Shape.{maxDepth, depthFits};
-ghost use Rattle.house_table.specs.House.{houseWords, houseRow, houseLayer, houseAnswer, houseOut};
+ghost use Rattle.parity_table.specs.Shape.{max_depth, depth_fits};
+ghost use Rattle.house_table.specs.House.{house_words, house_row, house_layer, house_answer, house_out};
 
 use octets::lesser;
 use parity_table::{
@@ -25,10 +25,10 @@ fn high(a: u32, b: u32) -> u32
 
 // Writes equation e of a layer with k data symbols from word at on; answers where it ends.
 fn put_row(out: &mut [u32], at: usize, k: u32, e: u32) -> usize
-    requires { (4 ≤ k) × (k ≤ 4 * 2 ^ maxDepth) × (e < 3 * k)
-        × (at + length (houseRow k e) ≤ length out.old) }
-    ensures { (result ≡ at + length (houseRow k e))
-        × (out.new ≡ sets out.old at (houseRow k e)) }
+    requires { (4 ≤ k) × (k ≤ 4 * 2 ^ max_depth) × (e < 3 * k)
+        × (at + length (house_row k e) ≤ length out.old) }
+    ensures { (result ≡ at + length (house_row k e))
+        × (out.new ≡ sets out.old at (house_row k e)) }
 {
     let a = e % k;
     let b = (e + 1 + e / k) % k;
@@ -48,10 +48,10 @@ fn put_row(out: &mut [u32], at: usize, k: u32, e: u32) -> usize
 
 // Writes layer j, with k data symbols, from word at on; answers where it ends.
 fn put_layer(out: &mut [u32], at: usize, j: u32, k: u32) -> usize
-    requires { (4 ≤ k) × (k ≤ 4 * 2 ^ maxDepth) × (j < maxDepth)
-        × (at + length (houseLayer j k) ≤ length out.old) }
-    ensures { (result ≡ at + length (houseLayer j k))
-        × (out.new ≡ sets out.old at (houseLayer j k)) }
+    requires { (4 ≤ k) × (k ≤ 4 * 2 ^ max_depth) × (j < max_depth)
+        × (at + length (house_layer j k) ≤ length out.old) }
+    ensures { (result ≡ at + length (house_layer j k))
+        × (out.new ≡ sets out.old at (house_layer j k)) }
 {
     out[at] = LAYER + j;
     let mut p = at + 1;
@@ -65,8 +65,8 @@ fn put_layer(out: &mut [u32], at: usize, j: u32, k: u32) -> usize
 
 // How many words the house table of this depth has.
 fn word_count(depth: usize) -> usize
-    requires { depth ≤ maxDepth }
-    ensures { (result ≡ length (houseWords depth)) × (result ≤ 60 * 2 ^ maxDepth) }
+    requires { depth ≤ max_depth }
+    ensures { (result ≡ length (house_words depth)) × (result ≤ 60 * 2 ^ max_depth) }
 {
     let n: usize = 1 << depth;
     60 * (n - 1) + 1
@@ -74,8 +74,8 @@ fn word_count(depth: usize) -> usize
 
 // Writes the house table, into as many words as it has.
 fn put_table(out: &mut [u32], depth: usize)
-    requires { (depth ≤ maxDepth) × (length out.old ≡ length (houseWords depth)) }
-    ensures { out.new ≡ houseWords depth }
+    requires { (depth ≤ max_depth) × (length out.old ≡ length (house_words depth)) }
+    ensures { out.new ≡ house_words depth }
 {
     let mut at: usize = 0;
     let mut j: usize = 0;
@@ -89,8 +89,8 @@ fn put_table(out: &mut [u32], depth: usize)
 
 // Writes the house table of this depth as words, into exactly as many as it has.
 pub fn write(out: &mut [u32], depth: usize) -> Answer
-    ensures { (result ≡ houseAnswer depth (length out.old) (length (houseWords depth)))
-        × (out.new ≡ houseOut result (houseWords depth) out.old) }
+    ensures { (result ≡ house_answer depth (length out.old) (length (house_words depth)))
+        × (out.new ≡ house_out result (house_words depth) out.old) }
 {
     if !depth_fits(depth) {
         return Answer::Depth;
@@ -104,9 +104,9 @@ pub fn write(out: &mut [u32], depth: usize) -> Answer
 
 // Writes the house table as bytes, into as many as it has, by way of words.
 fn put_bytes(out: &mut [u8], depth: usize, words: &mut [u32])
-    requires { (depth ≤ maxDepth) × (length out.old ≡ length (houseWords depth) * 4)
-        × (length (houseWords depth) ≤ length words.old) }
-    ensures { out.new ≡ bytes_of (houseWords depth) }
+    requires { (depth ≤ max_depth) × (length out.old ≡ length (house_words depth) * 4)
+        × (length (house_words depth) ≤ length words.old) }
+    ensures { out.new ≡ bytes_of (house_words depth) }
 {
     let n = out.len() / 4;
     put_table(&mut words[..n], depth);
@@ -115,9 +115,9 @@ fn put_bytes(out: &mut [u8], depth: usize, words: &mut [u32])
 
 // write_bytes, by way of words that have room for the table.
 fn write_in(out: &mut [u8], depth: usize, words: &mut [u32]) -> Answer
-    requires { depthFits depth ≡ true → length (houseWords depth) ≤ length words.old }
-    ensures { (result ≡ houseAnswer depth (length out.old) (length (houseWords depth) * 4))
-        × (out.new ≡ houseOut result (bytes_of (houseWords depth)) out.old) }
+    requires { depth_fits depth ≡ true → length (house_words depth) ≤ length words.old }
+    ensures { (result ≡ house_answer depth (length out.old) (length (house_words depth) * 4))
+        × (out.new ≡ house_out result (bytes_of (house_words depth)) out.old) }
 {
     if !depth_fits(depth) {
         return Answer::Depth;
@@ -132,8 +132,8 @@ fn write_in(out: &mut [u8], depth: usize, words: &mut [u32]) -> Answer
 // write_bytes for a deeper tree. It is entered at a depth that fits, so it never calls itself: but the compiler takes no function that does into
 // another's frame, so that these words are on the stack of a deeper call alone.
 fn write_deep(out: &mut [u8], depth: usize) -> Answer
-    ensures { (result ≡ houseAnswer depth (length out.old) (length (houseWords depth) * 4))
-        × (out.new ≡ houseOut result (bytes_of (houseWords depth)) out.old) }
+    ensures { (result ≡ house_answer depth (length out.old) (length (house_words depth) * 4))
+        × (out.new ≡ house_out result (bytes_of (house_words depth)) out.old) }
 {
     let mut words = [0u32; HOUSE_WORDS];
     let answer = write_in(out, depth, &mut words);
@@ -147,8 +147,8 @@ fn write_deep(out: &mut [u8], depth: usize) -> Answer
 
 // Writes the house table of this depth as bytes, into exactly as many as it has.
 pub fn write_bytes(out: &mut [u8], depth: usize) -> Answer
-    ensures { (result ≡ houseAnswer depth (length out.old) (length (houseWords depth) * 4))
-        × (out.new ≡ houseOut result (bytes_of (houseWords depth)) out.old) }
+    ensures { (result ≡ house_answer depth (length out.old) (length (house_words depth) * 4))
+        × (out.new ≡ house_out result (bytes_of (house_words depth)) out.old) }
 {
     if is_deep(depth) {
         return write_deep(out, depth);

@@ -13,19 +13,19 @@ use Rattle.octets.proofs.Choice.{both, pick_no, pick_yes}
 use Rattle.octets.proofs.ListLaws.{get_d_part}
 use Rattle.parity_table.proofs.Parse.{members-take}
 use Rattle.model.proofs.Members.{every-below}
-use Rattle.equation.proofs.TurnLaws.{members-fit}
-use Rattle.equation.specs.Rooms.{membersAt}
-use Rattle.incidence.specs.Incidence.{Threadable, Threaded, ThreadedTo, below, holdsAt}
+use Rattle.equation.proofs.TurnLaws.{members_fit}
+use Rattle.equation.specs.Rooms.{members_at}
+use Rattle.incidence.specs.Incidence.{Threadable, Threaded, ThreadedTo, below, holds_at}
 
 -- member i of an equation, in the words
-member-word : (ws starts : List ℕ) (q i : ℕ) → i < length (membersAt ws starts q) → get_or (membersAt ws starts q) i 0 ≡ get_or ws (get_or starts q 0 + i) 0
+member-word : (ws starts : List ℕ) (q i : ℕ) → i < length (members_at ws starts q) → get_or (members_at ws starts q) i 0 ≡ get_or ws (get_or starts q 0 + i) 0
 member-word ws starts q i h =
-    ap (λ (l : List ℕ). get_or l i 0) (members-take (drop (get_or starts q 0) ws)) ∙ get_d_part ws (get_or starts q 0) (length (membersAt ws starts q)) i h
+    ap (λ (l : List ℕ). get_or l i 0) (members-take (drop (get_or starts q 0) ws)) ∙ get_d_part ws (get_or starts q 0) (length (members_at ws starts q)) i h
 
 module _ (ws starts : List ℕ) (from : ℕ) where
   -- fewer equations
-  pub threadable-fewer : (n m symbols slots : ℕ) → m ≤ n → Threadable ws starts from n symbols slots → Threadable ws starts from m symbols slots
-  threadable-fewer n m symbols slots h k =
+  pub threadable_fewer : (n m symbols slots : ℕ) → m ≤ n → Threadable ws starts from n symbols slots → Threadable ws starts from m symbols slots
+  threadable_fewer n m symbols slots h k =
       record {
         listed = record { stands = λ e l. k.listed.stands e (omega arith); within = λ e l. k.listed.within e (omega arith) };
         narrow = λ e l. k.narrow e (omega arith);
@@ -38,25 +38,25 @@ module _ (ws starts : List ℕ) (from : ℕ) where
   -- its word, and its slot, among `slots`
   pub record Slot (e i symbols slots : ℕ) : Type 0 where
     pub few : i < 8
-    pub member : i < length (membersAt ws starts (from + e))
+    pub member : i < length (members_at ws starts (from + e))
     pub inside : get_or starts (from + e) 0 + i < length ws
-    pub same : get_or ws (get_or starts (from + e) 0 + i) 0 ≡ get_or (membersAt ws starts (from + e)) i 0
+    pub same : get_or ws (get_or starts (from + e) 0 + i) 0 ≡ get_or (members_at ws starts (from + e)) i 0
     pub symbol : get_or ws (get_or starts (from + e) 0 + i) 0 < symbols
     pub room : 8 * e + i < slots
     pub low : 8 * e + i + 1 < 2 ^ 32
 
   module _ (e symbols slots : ℕ) (k : Threadable ws starts from (e + 1) symbols slots) where
-    pub slot_of : (i size : ℕ) → size ≡ length (membersAt ws starts (from + e)) → i < size → Slot e i symbols slots
+    pub slot_of : (i size : ℕ) → size ≡ length (members_at ws starts (from + e)) → i < size → Slot e i symbols slots
     slot_of i size z h =
-        let l : i < length (membersAt ws starts (from + e)) = omega arith in
+        let l : i < length (members_at ws starts (from + e)) = omega arith in
         let few : i < 8 = omega (arith, k.narrow e (omega arith)) in
         let w = member-word ws starts (from + e) i l in
         record {
           few = few;
           member = l;
-          inside = omega (arith, members-fit ws starts (from + e) (k.listed.stands e (omega arith)));
+          inside = omega (arith, members_fit ws starts (from + e) (k.listed.stands e (omega arith)));
           same = sym w;
-          symbol = omega (arith, w, every-below symbols (membersAt ws starts (from + e)) (k.listed.within e (omega arith)) i l);
+          symbol = omega (arith, w, every-below symbols (members_at ws starts (from + e)) (k.listed.within e (omega arith)) i l);
           room = omega arith;
           low = omega arith;
         }
@@ -70,19 +70,19 @@ module _ (ws starts : List ℕ) (from : ℕ) where
         let b : e ≡ (8 * e + i) / 8 = omega arith in
         subst (λ (q : ℕ). P q ((8 * e + i) / 8)) a (subst (P i) b p)
 
-    holds-member : i < length (membersAt ws starts (from + e)) → holdsAt ws starts from x (8 * e + i) ≡ eqb (get_or (membersAt ws starts (from + e)) i 0) x
-    unfolding holdsAt
+    holds-member : i < length (members_at ws starts (from + e)) → holds_at ws starts from x (8 * e + i) ≡ eqb (get_or (members_at ws starts (from + e)) i 0) x
+    unfolding holds_at
     holds-member l =
         at_slot
         (λ (j q : ℕ).
-        (ltb j (length (membersAt ws starts (from + q))) && eqb (get_or (membersAt ws starts (from + q)) j 0) x) ≡ eqb (get_or (membersAt ws starts (from + e)) i 0) x)
-        (ap (λ (t : Bool). t && eqb (get_or (membersAt ws starts (from + e)) i 0) x) (lt-ltb i (length (membersAt ws starts (from + e))) l))
+        (ltb j (length (members_at ws starts (from + q))) && eqb (get_or (members_at ws starts (from + q)) j 0) x) ≡ eqb (get_or (members_at ws starts (from + e)) i 0) x)
+        (ap (λ (t : Bool). t && eqb (get_or (members_at ws starts (from + e)) i 0) x) (lt-ltb i (length (members_at ws starts (from + e))) l))
 
-    holds-nothing : length (membersAt ws starts (from + e)) ≤ i → holdsAt ws starts from x (8 * e + i) ≡ false
-    unfolding holdsAt
-    holds-nothing l =
-        at_slot (λ (j q : ℕ). (ltb j (length (membersAt ws starts (from + q))) && eqb (get_or (membersAt ws starts (from + q)) j 0) x) ≡ false)
-        (ap (λ (t : Bool). t && eqb (get_or (membersAt ws starts (from + e)) i 0) x) (le-ltb i (length (membersAt ws starts (from + e))) l))
+    holds_nothing : length (members_at ws starts (from + e)) ≤ i → holds_at ws starts from x (8 * e + i) ≡ false
+    unfolding holds_at
+    holds_nothing l =
+        at_slot (λ (j q : ℕ). (ltb j (length (members_at ws starts (from + q))) && eqb (get_or (members_at ws starts (from + q)) j 0) x) ≡ false)
+        (ap (λ (t : Bool). t && eqb (get_or (members_at ws starts (from + e)) i 0) x) (le-ltb i (length (members_at ws starts (from + e))) l))
 
   -- ---- from no slot to all
 
@@ -93,19 +93,19 @@ module _ (ws starts : List ℕ) (from : ℕ) where
 
   module _ (b : ℕ) (last next : List ℕ) (t : ThreadedTo ws starts from b last next) where
     -- slot b holds nothing
-    slot-free : ((x : ℕ) → holdsAt ws starts from x b ≡ false) → ThreadedTo ws starts from (suc b) last next
+    slot_free : ((x : ℕ) → holds_at ws starts from x b ≡ false) → ThreadedTo ws starts from (suc b) last next
     unfolding below
-    slot-free f =
+    slot_free f =
         record {
-          ends = λ x h. t.ends x h ∙ sym (pick_no (holdsAt ws starts from x b) (suc b) (below ws starts from x b) (f x));
+          ends = λ x h. t.ends x h ∙ sym (pick_no (holds_at ws starts from x b) (suc b) (below ws starts from x b) (f x));
           links = λ x s h k. elim (ℕ_discrete s b) [
-            | yes z ↦ both (subst (λ (q : ℕ). holdsAt ws starts from x q ≡ true) z k) (f x)
+            | yes z ↦ both (subst (λ (q : ℕ). holds_at ws starts from x q ≡ true) z k) (f x)
             | no z ↦ t.links x s (omega arith) k
           ];
         }
 
     -- slot b holds y
-    slot-taken : (y : ℕ) → ((x : ℕ) → holdsAt ws starts from x b ≡ eqb y x) → y < length last → b < length next
+    slot-taken : (y : ℕ) → ((x : ℕ) → holds_at ws starts from x b ≡ eqb y x) → y < length last → b < length next
         → ThreadedTo ws starts from (suc b) (set last y (suc b)) (set next b (get_or last y 0))
     unfolding below
     slot-taken y f hl hn =
@@ -115,14 +115,14 @@ module _ (ws starts : List ℕ) (from : ℕ) where
               elim (ℕ_discrete x y) [
                 | yes z ↦
                     ap (λ (q : ℕ). get_or (set last q (suc b)) x 0) (sym z) ∙ get_or-set_same last x (suc b) 0 h'
-                    ∙ sym (pick_yes (holdsAt ws starts from x b) (suc b) (below ws starts from x b) (f x ∙ eq-eqb y x (sym z)))
+                    ∙ sym (pick_yes (holds_at ws starts from x b) (suc b) (below ws starts from x b) (f x ∙ eq-eqb y x (sym z)))
                 | no z ↦
                     get_or-set_other last y x (suc b) 0 z ∙ t.ends x h'
-                    ∙ sym (pick_no (holdsAt ws starts from x b) (suc b) (below ws starts from x b) (f x ∙ ne_eqb y x (λ q. z (sym q))))
+                    ∙ sym (pick_no (holds_at ws starts from x b) (suc b) (below ws starts from x b) (f x ∙ ne_eqb y x (λ q. z (sym q))))
               ];
           links = λ x s h k. elim (ℕ_discrete s b) [
             | yes z ↦
-                let v : y ≡ x = eqb-true y x (sym (f x) ∙ subst (λ (q : ℕ). holdsAt ws starts from x q ≡ true) z k) in
+                let v : y ≡ x = eqb-true y x (sym (f x) ∙ subst (λ (q : ℕ). holds_at ws starts from x q ≡ true) z k) in
                 ap (λ (q : ℕ). get_or (set next b (get_or last y 0)) q 0) z ∙ get_or-set_same next b (get_or last y 0) 0 hn ∙ t.ends y hl
                 ∙ ap₂ (below ws starts from) v (sym z)
             | no z ↦ get_or-set_other next b s (get_or last y 0) 0 z ∙ t.links x s (omega arith) k
@@ -133,9 +133,9 @@ module _ (ws starts : List ℕ) (from : ℕ) where
 
   module _ (e i : ℕ) (last next : List ℕ) (t : ThreadedTo ws starts from (8 * e + i) last next) where
     -- member i
-    pub add-member : (y : ℕ) → i < 8 → i < length (membersAt ws starts (from + e)) → y ≡ get_or (membersAt ws starts (from + e)) i 0 → y < length last → 8 * e + i < length next
+    pub add_member : (y : ℕ) → i < 8 → i < length (members_at ws starts (from + e)) → y ≡ get_or (members_at ws starts (from + e)) i 0 → y < length last → 8 * e + i < length next
         → ThreadedTo ws starts from (8 * e + (i + 1)) (set last y (8 * e + i + 1)) (set next (8 * e + i) (get_or last y 0))
-    add-member y h l v hl hn =
+    add_member y h l v hl hn =
         let a : suc (8 * e + i) ≡ 8 * e + (i + 1) = omega arith in
         let b : suc (8 * e + i) ≡ 8 * e + i + 1 = omega arith in
         subst (λ (q : ℕ). ThreadedTo ws starts from (8 * e + (i + 1)) (set last y q) (set next (8 * e + i) (get_or last y 0))) b
@@ -143,10 +143,10 @@ module _ (ws starts : List ℕ) (from : ℕ) where
         (slot-taken (8 * e + i) last next t y (λ x. holds-member e i x h l ∙ ap (λ (q : ℕ). eqb q x) (sym v)) hl hn))
 
   -- the k slots that are left past its members
-  pub add-rest : (k e i : ℕ) (last next : List ℕ) → i + k ≡ 8 → length (membersAt ws starts (from + e)) ≤ i → ThreadedTo ws starts from (8 * e + i) last next
+  pub add_rest : (k e i : ℕ) (last next : List ℕ) → i + k ≡ 8 → length (members_at ws starts (from + e)) ≤ i → ThreadedTo ws starts from (8 * e + i) last next
       → Threaded ws starts from (e + 1) last next
-  add-rest zero e i last next h l t = let a : 8 * e + i ≡ 8 * (e + 1) = omega arith in subst (λ (q : ℕ). ThreadedTo ws starts from q last next) a t
-  add-rest (suc k) e i last next h l t =
+  add_rest zero e i last next h l t = let a : 8 * e + i ≡ 8 * (e + 1) = omega arith in subst (λ (q : ℕ). ThreadedTo ws starts from q last next) a t
+  add_rest (suc k) e i last next h l t =
       let a : suc (8 * e + i) ≡ 8 * e + suc i = omega arith in
-      add-rest k e (suc i) last next (omega arith) (omega arith)
-      (subst (λ (q : ℕ). ThreadedTo ws starts from q last next) a (slot-free (8 * e + i) last next t (λ x. holds-nothing e i x (omega arith) l)))
+      add_rest k e (suc i) last next (omega arith) (omega arith)
+      (subst (λ (q : ℕ). ThreadedTo ws starts from q last next) a (slot_free (8 * e + i) last next t (λ x. holds_nothing e i x (omega arith) l)))

@@ -1,12 +1,12 @@
 -- What the program prints: 01, "The program `listing`". Definitions only.
 use Rattle.std.specs.Prelude.{List, [], ◌∷◌, ◌++◌, ℕ, ◌+◌, ◌/◌, ◌%◌, length, get_or, replicate, ltb, eqb}
 use Rattle.octets.specs.Choice.{pick}
-use Rattle.octets.specs.Hex.{hexOf, upper}
-use Rattle.house_table.specs.House.{houseTable}
+use Rattle.octets.specs.Hex.{hex_of, upper}
+use Rattle.house_table.specs.House.{house_table}
 use Rattle.model.specs.Shape.{tree}
-use Rattle.model.specs.Symbols.{joined, symbolIn}
-use Rattle.model.specs.Writer.{writeTree}
-use Rattle.symbol_hash.specs.SymbolHash.{symbolHash}
+use Rattle.model.specs.Symbols.{joined, symbol_in}
+use Rattle.model.specs.Writer.{write_tree}
+use Rattle.symbol_hash.specs.SymbolHash.{symbol_hash}
 use Rattle.symbol_hash.specs.declared.Kind.TheVariants.{Plain}
 
 -- ---- characters
@@ -14,8 +14,8 @@ use Rattle.symbol_hash.specs.declared.Kind.TheVariants.{Plain}
 abbrev pub space : ℕ
 space = 32
 
-abbrev pub lineFeed : ℕ
-lineFeed = 10
+abbrev pub line_feed : ℕ
+line_feed = 10
 
 -- "tree"
 abbrev pub word : List ℕ
@@ -29,20 +29,20 @@ decimal n = pick (ltb n 10) ((48 + n) ∷ []) ((48 + n / 10) ∷ (48 + n % 10) �
 
 -- "prints a header (word, depth, symbols)"
 unfoldable pub header : ℕ → ℕ → List ℕ
-header depth symbols = word ++ (space ∷ decimal depth) ++ (space ∷ decimal symbols) ++ (lineFeed ∷ [])
+header depth symbols = word ++ (space ∷ decimal depth) ++ (space ∷ decimal symbols) ++ (line_feed ∷ [])
 
 -- "then each symbol's number in decimal and its first byte as two upper-case hexadecimal digits, each line ended by a line feed"
 unfoldable pub line : ℕ → List ℕ → List ℕ
-line number symbol = decimal number ++ (space ∷ hexOf upper (get_or symbol 0 0 ∷ [])) ++ (lineFeed ∷ [])
+line number symbol = decimal number ++ (space ∷ hex_of upper (get_or symbol 0 0 ∷ [])) ++ (line_feed ∷ [])
 
 unfoldable pub listing : List ℕ → List ℕ
-listing t = header 1 16 ++ joined (λ i. line i (symbolIn t i)) 0 16
+listing t = header 1 16 ++ joined (λ i. line i (symbol_in t i)) 0 16
 
 -- ---- the program
 
 -- "codes it at depth 1 with the house table": the tree that the writer leaves in a buffer that held zeros
 unfoldable pub coded : List ℕ → List ℕ
-coded block = writeTree tree (symbolHash Plain) (houseTable 1) block (replicate 4096 0)
+coded block = write_tree tree (symbol_hash Plain) (house_table 1) block (replicate 4096 0)
 
 -- what it prints of an input: nothing where that is no block of depth 1
 unfoldable pub printed : List ℕ → List ℕ

@@ -8,19 +8,19 @@ use native.Mathlib.Omega.{arith}
 use lib.ListN.{length}
 use lib.Dec.{ltb}
 use borrow.Author.Tests.{ltb-true}
-use Rattle.octets.proofs.Choice.{by-test, and_yes, yes_and, both, not_yes}
+use Rattle.octets.proofs.Choice.{by_test, and_yes, yes_and, both, not_yes}
 use Rattle.octets.specs.ByteLists.{same}
 use Rattle.parity_table.specs.Members.{every}
-use Rattle.parity_table.specs.Table.{layerOf, equationOf}
+use Rattle.parity_table.specs.Table.{layer_of, equation_of}
 use Rattle.model.specs.Shape.{Shape}
-use Rattle.model.specs.Symbols.{count, first_of, others, xorOf, zeros, symAt, committed}
-use Rattle.model.specs.Repair.{absentAt}
-use Rattle.model.specs.Ends.{Within, gapAt}
+use Rattle.model.specs.Symbols.{count, first_of, others, xor_of, zeros, sym_at, committed}
+use Rattle.model.specs.Repair.{absent_at}
+use Rattle.model.specs.Ends.{Within, gap_at}
 use Rattle.model.specs.Finals.{Grown, Refuted}
-use Rattle.octets.proofs.SameLaws.{same-yes, yes-same}
-use Rattle.model.proofs.Bytes.{sym-cancel}
-use Rattle.model.proofs.Members.{length-xorOf, xorOf-cong}
-use Rattle.model.proofs.Counts.{isIt, count-mono, count_same, firstOf-passes, every-none, every-others, every-member, every-both, none-absent, others-held, first_member, xorOf-others, ascending-once}
+use Rattle.octets.proofs.SameLaws.{same_yes, yes_same}
+use Rattle.model.proofs.Bytes.{sym_cancel}
+use Rattle.model.proofs.Members.{length-xor_of, xor_of_cong}
+use Rattle.model.proofs.Counts.{is_it, count_mono, count_same, first_of-passes, every-none, every-others, every-member, every_both, none-absent, others-held, first_member, xor_of-others, ascending_once}
 use Rattle.model.proofs.Tables.{TableLaws}
 
 module _ (S : Shape) (H : ℕ → ℕ → List ℕ → List ℕ) (root : List ℕ) (tbl : List (List (List ℕ))) (t₀ m₀ t : List ℕ) (j : ℕ) where
@@ -28,115 +28,115 @@ module _ (S : Shape) (H : ℕ → ℕ → List ℕ → List ℕ) (root : List �
   -- hashes that t commits to, and no equation can be taken in it. A closed layer of another state is one, and so is a layer of a tree that agrees.
   pub record Filling (g : ℕ → List ℕ) (b : ℕ → Bool) : Type 0 where
     pub sized : (y : ℕ) → y < S.n j → length (g y) ≡ 256
-    pub lent : (y : ℕ) → y < S.n j → gapAt S H root t₀ m₀ t j y ≡ false → symAt S t j y ≡ g y
-    pub in-gaps : Within (S.n j) b (gapAt S H root t₀ m₀ t j)
-    pub fits : (y : ℕ) → y < S.n j → b y ≡ false → H j y (g y) ≡ committed S root (symAt S t) j y
-    pub stops : (e : ℕ) → e < length (layerOf tbl j) → count b (equationOf tbl j e) ≢ 1
-    pub holds : (e : ℕ) → e < length (layerOf tbl j) → count b (equationOf tbl j e) ≡ 0 → xorOf g (equationOf tbl j e) ≡ zeros
+    pub lent : (y : ℕ) → y < S.n j → gap_at S H root t₀ m₀ t j y ≡ false → sym_at S t j y ≡ g y
+    pub in_gaps : Within (S.n j) b (gap_at S H root t₀ m₀ t j)
+    pub fits : (y : ℕ) → y < S.n j → b y ≡ false → H j y (g y) ≡ committed S root (sym_at S t) j y
+    pub stops : (e : ℕ) → e < length (layer_of tbl j) → count b (equation_of tbl j e) ≢ 1
+    pub holds : (e : ℕ) → e < length (layer_of tbl j) → count b (equation_of tbl j e) ≡ 0 → xor_of g (equation_of tbl j e) ≡ zeros
 
   -- What follows, m being the marks of t: what the filling lacks is absent, what is held is the filling's, and no equation refutes the layer.
   pub record Agreement (m : List ℕ) (g : ℕ → List ℕ) (b : ℕ → Bool) : Type 0 where
-    pub fewer : Within (S.n j) b (absentAt S m j)
-    pub held : (y : ℕ) → y < S.n j → absentAt S m j y ≡ false → symAt S t j y ≡ g y
+    pub fewer : Within (S.n j) b (absent_at S m j)
+    pub held : (y : ℕ) → y < S.n j → absent_at S m j y ≡ false → sym_at S t j y ≡ g y
     pub unrefuted : Refuted S H root tbl t m j → ⊥
 
   abbrev f : ℕ → List ℕ
-  f = symAt S t j
+  f = sym_at S t j
 
   module _ (ok : TableLaws S tbl) (hj : j < length tbl) (sized : (y : ℕ) → y < S.n j → length (f y) ≡ 256) (m : List ℕ) (gr : Grown S H root tbl t₀ m₀ t m j) (g : ℕ → List ℕ) (b : ℕ → Bool) (fill : Filling g b) where
     abbrev a : ℕ → Bool
-    a = absentAt S m j
+    a = absent_at S m j
 
     fewer : Within (S.n j) b a
-    fewer = gr b fill.in-gaps (λ e h _ _. fill.stops e h)
+    fewer = gr b fill.in_gaps (λ e h _ _. fill.stops e h)
 
-    held-too : (x : ℕ) → x < S.n j → a x ≡ false → b x ≡ false
-    held-too x h n = by-test (b x) (λ t. both (fewer x h t) n) (λ t. t)
+    held_too : (x : ℕ) → x < S.n j → a x ≡ false → b x ≡ false
+    held_too x h n = by_test (b x) (λ t. both (fewer x h t) n) (λ t. t)
 
-    module _ (e : ℕ) (he : e < length (layerOf tbl j)) where
+    module _ (e : ℕ) (he : e < length (layer_of tbl j)) where
       abbrev ms : List ℕ
-      ms = equationOf tbl j e
+      ms = equation_of tbl j e
 
       within : every (λ y. ltb y (S.n j)) ms ≡ true
       within = ok.within j e hj he
 
-      none-too : count a ms ≡ 0 → count b ms ≡ 0
-      none-too c =
+      none_too : count a ms ≡ 0 → count b ms ≡ 0
+      none_too c =
           every-none (λ y. not (a y) && ltb y (S.n j)) b
-          (λ y q. let (u, v) = and_yes (not (a y)) (ltb y (S.n j)) q in held-too y (ltb-true y (S.n j) v) (not_yes (a y) u))
-          ms (every-both (λ y. not (a y)) (λ y. ltb y (S.n j)) ms (none-absent a ms c) within)
+          (λ y q. let (u, v) = and_yes (not (a y)) (ltb y (S.n j)) q in held_too y (ltb-true y (S.n j) v) (not_yes (a y) u))
+          ms (every_both (λ y. not (a y)) (λ y. ltb y (S.n j)) ms (none-absent a ms c) within)
 
-      count-fewer : count b ms ≤ count a ms
-      count-fewer =
+      count_fewer : count b ms ≤ count a ms
+      count_fewer =
           omega (
             arith,
             count_same (λ y. ltb y (S.n j)) b ms within,
-            count-mono (λ y. ltb y (S.n j) && b y) a (λ y q. let (u, v) = and_yes (ltb y (S.n j)) (b y) q in fewer y (ltb-true y (S.n j) u) v) ms,
+            count_mono (λ y. ltb y (S.n j) && b y) a (λ y q. let (u, v) = and_yes (ltb y (S.n j)) (b y) q in fewer y (ltb-true y (S.n j) u) v) ms,
           )
 
       -- a member of an equation that holds is the exclusive-or of the others
-      member : (h : ℕ → List ℕ) → ((y : ℕ) → y < S.n j → length (h y) ≡ 256) → (x : ℕ) → 1 ≤ count (isIt x) ms → xorOf h ms ≡ zeros → xorOf h (others x ms) ≡ h x
+      member : (h : ℕ → List ℕ) → ((y : ℕ) → y < S.n j → length (h y) ≡ 256) → (x : ℕ) → 1 ≤ count (is_it x) ms → xor_of h ms ≡ zeros → xor_of h (others x ms) ≡ h x
       member h full x c z =
           let below : x < S.n j = ltb-true x (S.n j) (every-member (λ y. ltb y (S.n j)) x ms within c) in
-          let once : count (isIt x) ms ≡ 1 = omega (arith, ascending-once x ms (ok.ascend j e hj he)) in
-          sym-cancel (h x) (xorOf h (others x ms)) (full x below)
-          (length-xorOf h (S.n j) full (others x ms) (every-others (λ y. ltb y (S.n j)) x ms within))
-          (sym (xorOf-others h x ms once) ∙ z)
+          let once : count (is_it x) ms ≡ 1 = omega (arith, ascending_once x ms (ok.ascend j e hj he)) in
+          sym_cancel (h x) (xor_of h (others x ms)) (full x below)
+          (length-xor_of h (S.n j) full (others x ms) (every-others (λ y. ltb y (S.n j)) x ms within))
+          (sym (xor_of-others h x ms once) ∙ z)
 
     -- the held symbols that are not the filling's
     abbrev differs : ℕ → Bool
     differs y = not (a y) && not (same (f y) (g y))
 
-    differs-no : (y : ℕ) → differs y ≡ false → a y ≡ false → f y ≡ g y
-    differs-no y n h = by-test (same (f y) (g y)) (λ s. same-yes _ _ s) (λ s. both (yes_and (ap not h) (ap not s)) n)
+    differs_no : (y : ℕ) → differs y ≡ false → a y ≡ false → f y ≡ g y
+    differs_no y n h = by_test (same (f y) (g y)) (λ s. same_yes _ _ s) (λ s. both (yes_and (ap not h) (ap not s)) n)
 
-    differs-yes : (y : ℕ) → differs y ≡ true → same (f y) (g y) ≡ false
-    differs-yes y d = not_yes (same (f y) (g y)) (and_yes (not (a y)) (not (same (f y) (g y))) d).1
+    differs_yes : (y : ℕ) → differs y ≡ true → same (f y) (g y) ≡ false
+    differs_yes y d = not_yes (same (f y) (g y)) (and_yes (not (a y)) (not (same (f y) (g y))) d).1
 
-    differs-inside : Within (S.n j) differs (gapAt S H root t₀ m₀ t j)
-    differs-inside x h d = by-test (gapAt S H root t₀ m₀ t j x) (λ n. n) (λ n. both (yes-same (fill.lent x h n)) (differs-yes x d))
+    differs-inside : Within (S.n j) differs (gap_at S H root t₀ m₀ t j)
+    differs-inside x h d = by_test (gap_at S H root t₀ m₀ t j x) (λ n. n) (λ n. both (yes_same (fill.lent x h n)) (differs_yes x d))
 
-    differs-not-once : (e : ℕ) → e < length (layerOf tbl j) → count a (equationOf tbl j e) ≡ 0 → xorOf f (equationOf tbl j e) ≡ zeros → count differs (equationOf tbl j e) ≢ 1
-    differs-not-once e he c z one =
-        let ms : List ℕ = equationOf tbl j e in
+    differs_not_once : (e : ℕ) → e < length (layer_of tbl j) → count a (equation_of tbl j e) ≡ 0 → xor_of f (equation_of tbl j e) ≡ zeros → count differs (equation_of tbl j e) ≢ 1
+    differs_not_once e he c z one =
+        let ms : List ℕ = equation_of tbl j e in
         let x : ℕ = first_of differs ms in
-        let mem : 1 ≤ count (isIt x) ms = first_member differs ms (omega arith) in
-        let rest : xorOf f (others x ms) ≡ xorOf g (others x ms) =
-        xorOf-cong f g (λ y. not (differs y) && not (a y))
-        (λ y q. let (u, v) = and_yes (not (differs y)) (not (a y)) q in differs-no y (not_yes (differs y) u) (not_yes (a y) v))
+        let mem : 1 ≤ count (is_it x) ms = first_member differs ms (omega arith) in
+        let rest : xor_of f (others x ms) ≡ xor_of g (others x ms) =
+        xor_of_cong f g (λ y. not (differs y) && not (a y))
+        (λ y q. let (u, v) = and_yes (not (differs y)) (not (a y)) q in differs_no y (not_yes (differs y) u) (not_yes (a y) v))
         (others x ms)
-        (every-both (λ y. not (differs y)) (λ y. not (a y)) (others x ms) (others-held differs x ms one refl)
+        (every_both (λ y. not (differs y)) (λ y. not (a y)) (others x ms) (others-held differs x ms one refl)
         (every-others (λ y. not (a y)) x ms (none-absent a ms c))) in
-        let equal : f x ≡ g x = sym (member e he f sized x mem z) ∙ rest ∙ member e he g fill.sized x mem (fill.holds e he (none-too e he c)) in
-        both (yes-same equal) (differs-yes x (firstOf-passes differs ms (omega arith)))
+        let equal : f x ≡ g x = sym (member e he f sized x mem z) ∙ rest ∙ member e he g fill.sized x mem (fill.holds e he (none_too e he c)) in
+        both (yes_same equal) (differs_yes x (first_of-passes differs ms (omega arith)))
 
     agree : (y : ℕ) → y < S.n j → a y ≡ false → f y ≡ g y
-    agree y h n = differs-no y (by-test (differs y) (λ d. both (gr differs differs-inside differs-not-once y h d) n) (λ d. d)) n
+    agree y h n = differs_no y (by_test (differs y) (λ d. both (gr differs differs-inside differs_not_once y h d) n) (λ d. d)) n
 
-    agree-xor : (xs : List ℕ) → every (λ y. not (a y)) xs ≡ true → every (λ y. ltb y (S.n j)) xs ≡ true → xorOf f xs ≡ xorOf g xs
-    agree-xor xs p q =
-        xorOf-cong f g (λ y. not (a y) && ltb y (S.n j))
+    agree_xor : (xs : List ℕ) → every (λ y. not (a y)) xs ≡ true → every (λ y. ltb y (S.n j)) xs ≡ true → xor_of f xs ≡ xor_of g xs
+    agree_xor xs p q =
+        xor_of_cong f g (λ y. not (a y) && ltb y (S.n j))
         (λ y w. let (u, v) = and_yes (not (a y)) (ltb y (S.n j)) w in agree y (ltb-true y (S.n j) v) (not_yes (a y) u))
-        xs (every-both (λ y. not (a y)) (λ y. ltb y (S.n j)) xs p q)
+        xs (every_both (λ y. not (a y)) (λ y. ltb y (S.n j)) xs p q)
 
-    no-refute : Refuted S H root tbl t m j → ⊥
-    no-refute r =
+    no_refute : Refuted S H root tbl t m j → ⊥
+    no_refute r =
         let e : ℕ = r.equation in
-        let he : e < length (layerOf tbl j) = r.in_table in
-        let ms : List ℕ = equationOf tbl j e in
+        let he : e < length (layer_of tbl j) = r.in_table in
+        let ms : List ℕ = equation_of tbl j e in
         ⊎_elim
-        (λ (none, bad). bad (agree-xor ms (none-absent a ms none) (within e he) ∙ fill.holds e he (none-too e he none)))
+        (λ (none, bad). bad (agree_xor ms (none-absent a ms none) (within e he) ∙ fill.holds e he (none_too e he none)))
         (λ (one, unfit).
         let x : ℕ = first_of a ms in
-        let mem : 1 ≤ count (isIt x) ms = first_member a ms (omega arith) in
+        let mem : 1 ≤ count (is_it x) ms = first_member a ms (omega arith) in
         let below : x < S.n j = ltb-true x (S.n j) (every-member (λ y. ltb y (S.n j)) x ms (within e he) mem) in
-        let none : count b ms ≡ 0 = omega (arith, count-fewer e he, fill.stops e he) in
+        let none : count b ms ≡ 0 = omega (arith, count_fewer e he, fill.stops e he) in
         let held : b x ≡ false = not_yes (b x) (every-member (λ y. not (b y)) x ms (none-absent b ms none) mem) in
         unfit (ap (H j x)
-        (agree-xor (others x ms) (others-held a x ms one refl) (every-others (λ y. ltb y (S.n j)) x ms (within e he))
+        (agree_xor (others x ms) (others-held a x ms one refl) (every-others (λ y. ltb y (S.n j)) x ms (within e he))
         ∙ member e he g fill.sized x mem (fill.holds e he none))
         ∙ fill.fits x below held))
         r.fails
 
     pub agreement : Agreement m g b
-    agreement = record { fewer = fewer; held = agree; unrefuted = no-refute }
+    agreement = record { fewer = fewer; held = agree; unrefuted = no_refute }

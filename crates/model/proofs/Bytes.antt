@@ -14,8 +14,8 @@ use Rattle.model.specs.Symbols.{joined, zeros}
 
 -- ---- equal or not
 
-pub bytes-dec : (xs ys : List ℕ) → Dec (xs ≡ ys)
-bytes-dec = List-discrete ℕ_discrete
+pub bytes_dec : (xs ys : List ℕ) → Dec (xs ≡ ys)
+bytes_dec = List-discrete ℕ_discrete
 
 -- ---- lists of w bytes, one after the other
 
@@ -32,37 +32,37 @@ module _ (g : ℕ → List ℕ) (w : ℕ) where
       next m x h q k = subst (λ (n : ℕ). length (g n) ≡ w) (omega arith) (h (suc q) (omega arith))
 
   -- piece q
-  pub joined-piece : (m x q : ℕ) → q < m → ((p : ℕ) → p < m → length (g (x + p)) ≡ w) → take w (drop (w * q) (joined g x m)) ≡ g (x + q)
+  pub joined_piece : (m x q : ℕ) → q < m → ((p : ℕ) → p < m → length (g (x + p)) ≡ w) → take w (drop (w * q) (joined g x m)) ≡ g (x + q)
   unfolding joined
-  joined-piece zero x q k h = absurd (omega arith)
-  joined-piece (suc m) x zero k h =
+  joined_piece zero x q k h = absurd (omega arith)
+  joined_piece (suc m) x zero k h =
       rw (mul-zero, add-zero) (take_at (g x) (joined g (suc x) m) w (sym (ap (λ (n : ℕ). length (g n)) (add-zero x)) ∙ h 0 (omega arith)))
-  joined-piece (suc m) x (suc q) k h =
+  joined_piece (suc m) x (suc q) k h =
       let one : length (g x) ≡ w = sym (ap (λ (n : ℕ). length (g n)) (add-zero x)) ∙ h 0 (omega arith) in
       let at : w * suc q ≡ w + w * q = mul-suc w q ∙ add_comm (w * q) w in
       ap (λ (n : ℕ). take w (drop n (g x ++ joined g (suc x) m))) at
       ∙ ap (take w) (sym (drop-drop (w * q) w (g x ++ joined g (suc x) m)) ∙ ap (drop (w * q)) (drop_at (g x) (joined g (suc x) m) w one))
-      ∙ joined-piece m (suc x) q (omega arith) (λ p l. subst (λ (n : ℕ). length (g n) ≡ w) (omega arith) (h (suc p) (omega arith)))
+      ∙ joined_piece m (suc x) q (omega arith) (λ p l. subst (λ (n : ℕ). length (g n) ≡ w) (omega arith) (h (suc p) (omega arith)))
       ∙ ap g (omega arith)
 
 -- ---- exclusive-or
 
-pub xors-comm : (xs ys : List ℕ) → xors xs ys ≡ xors ys xs
+pub xors_comm : (xs ys : List ℕ) → xors xs ys ≡ xors ys xs
 unfolding xors
-xors-comm [] [] = refl
-xors-comm [] (y ∷ ys) = refl
-xors-comm (x ∷ xs) [] = refl
-xors-comm (x ∷ xs) (y ∷ ys) = ap₂ (λ (a : ℕ) (l : List ℕ). a ∷ l) (xor_comm x y) (xors-comm xs ys)
+xors_comm [] [] = refl
+xors_comm [] (y ∷ ys) = refl
+xors_comm (x ∷ xs) [] = refl
+xors_comm (x ∷ xs) (y ∷ ys) = ap₂ (λ (a : ℕ) (l : List ℕ). a ∷ l) (xor_comm x y) (xors_comm xs ys)
 
-pub xors-assoc : (xs ys zs : List ℕ) → xors (xors xs ys) zs ≡ xors xs (xors ys zs)
+pub xors_assoc : (xs ys zs : List ℕ) → xors (xors xs ys) zs ≡ xors xs (xors ys zs)
 unfolding xors
-xors-assoc [] ys zs = refl
-xors-assoc (x ∷ xs) [] zs = refl
-xors-assoc (x ∷ xs) (y ∷ ys) [] = refl
-xors-assoc (x ∷ xs) (y ∷ ys) (z ∷ zs) = ap₂ (λ (a : ℕ) (l : List ℕ). a ∷ l) (xor_assoc x y z) (xors-assoc xs ys zs)
+xors_assoc [] ys zs = refl
+xors_assoc (x ∷ xs) [] zs = refl
+xors_assoc (x ∷ xs) (y ∷ ys) [] = refl
+xors_assoc (x ∷ xs) (y ∷ ys) (z ∷ zs) = ap₂ (λ (a : ℕ) (l : List ℕ). a ∷ l) (xor_assoc x y z) (xors_assoc xs ys zs)
 
-pub xors-left-comm : (xs ys zs : List ℕ) → xors xs (xors ys zs) ≡ xors ys (xors xs zs)
-xors-left-comm xs ys zs = sym (xors-assoc xs ys zs) ∙ ap (λ (l : List ℕ). xors l zs) (xors-comm xs ys) ∙ xors-assoc ys xs zs
+pub xors-left_comm : (xs ys zs : List ℕ) → xors xs (xors ys zs) ≡ xors ys (xors xs zs)
+xors-left_comm xs ys zs = sym (xors_assoc xs ys zs) ∙ ap (λ (l : List ℕ). xors l zs) (xors_comm xs ys) ∙ xors_assoc ys xs zs
 
 xors-zeros : (n : ℕ) (xs : List ℕ) → length xs ≡ n → xors xs (replicate n 0) ≡ xs
 unfolding xors
@@ -71,12 +71,12 @@ xors-zeros zero (x ∷ xs) h = absurd (omega arith)
 xors-zeros (suc n) [] h = absurd (omega arith)
 xors-zeros (suc n) (x ∷ xs) h = ap₂ (λ (a : ℕ) (l : List ℕ). a ∷ l) (xor_zero_r x) (xors-zeros n xs (omega arith))
 
-xors-self : (n : ℕ) (xs : List ℕ) → length xs ≡ n → xors xs xs ≡ replicate n 0
+xors_self : (n : ℕ) (xs : List ℕ) → length xs ≡ n → xors xs xs ≡ replicate n 0
 unfolding xors
-xors-self zero [] h = refl
-xors-self zero (x ∷ xs) h = absurd (omega arith)
-xors-self (suc n) [] h = absurd (omega arith)
-xors-self (suc n) (x ∷ xs) h = ap₂ (λ (a : ℕ) (l : List ℕ). a ∷ l) (xor_self x) (xors-self n xs (omega arith))
+xors_self zero [] h = refl
+xors_self zero (x ∷ xs) h = absurd (omega arith)
+xors_self (suc n) [] h = absurd (omega arith)
+xors_self (suc n) (x ∷ xs) h = ap₂ (λ (a : ℕ) (l : List ℕ). a ∷ l) (xor_self x) (xors_self n xs (omega arith))
 
 -- ---- symbols of 256 bytes
 
@@ -84,15 +84,15 @@ pub length-zeros : length zeros ≡ 256
 unfolding zeros
 length-zeros = refl
 
-pub sym-zeros : (s : List ℕ) → length s ≡ 256 → xors s zeros ≡ s
+pub sym_zeros : (s : List ℕ) → length s ≡ 256 → xors s zeros ≡ s
 unfolding zeros
-sym-zeros s h = xors-zeros 256 s h
+sym_zeros s h = xors-zeros 256 s h
 
-pub sym-self : (s : List ℕ) → length s ≡ 256 → xors s s ≡ zeros
+pub sym_self : (s : List ℕ) → length s ≡ 256 → xors s s ≡ zeros
 unfolding zeros
-sym-self s h = xors-self 256 s h
+sym_self s h = xors_self 256 s h
 
 -- two symbols whose exclusive-or is zero are the same
-pub sym-cancel : (s u : List ℕ) → length s ≡ 256 → length u ≡ 256 → xors s u ≡ zeros → u ≡ s
-sym-cancel s u hs hu e =
-    sym (sym-zeros u hu) ∙ xors-comm u zeros ∙ ap (λ (l : List ℕ). xors l u) (sym (sym-self s hs)) ∙ xors-assoc s s u ∙ ap (xors s) e ∙ sym-zeros s hs
+pub sym_cancel : (s u : List ℕ) → length s ≡ 256 → length u ≡ 256 → xors s u ≡ zeros → u ≡ s
+sym_cancel s u hs hu e =
+    sym (sym_zeros u hu) ∙ xors_comm u zeros ∙ ap (λ (l : List ℕ). xors l u) (sym (sym_self s hs)) ∙ xors_assoc s s u ∙ ap (xors s) e ∙ sym_zeros s hs

@@ -9,7 +9,7 @@ use native.Mathlib.Decide.{dec_lt}
 use lib.ListN.{length, take, drop, length-drop, take-append-drop}
 use lib.Seq.{paste, length-paste, drop-paste, take-append-le, drop-append-le, drop-drop, take_at, drop_at, take-add, take_all, take-take, length-take-le}
 use Rattle.model.specs.Shape.{Shape, places, place}
-use Rattle.model.specs.Symbols.{symbolIn, symAt, put_at}
+use Rattle.model.specs.Symbols.{symbol_in, sym_at, put_at}
 
 -- ---- parts of a list after a copy into it
 
@@ -34,8 +34,8 @@ module _ (d s : List ℕ) (at n : ℕ) (hd : at + n ≤ length d) (hs : n ≤ le
       ∙ drop-drop (o - (at + n)) (at + n) d
       ∙ ap (λ (k : ℕ). drop k d) e
 
-  pub paste-there : take n (drop at (paste d at s n)) ≡ take n s
-  paste-there =
+  pub paste_there : take n (drop at (paste d at s n)) ≡ take n s
+  paste_there =
       ap (λ (l : List ℕ). take n (drop at l)) (append_assoc (take at d) (take n s) (drop (at + n) d))
       ∙ ap (take n) (drop_at (take at d) (take n s ++ drop (at + n) d) at (length-take-le at d (omega arith)))
       ∙ take_at (take n s) (drop (at + n) d) n (length-take-le n s hs)
@@ -48,60 +48,60 @@ take-drop-take w (suc o) (suc n) (x ∷ xs) h = take-drop-take w o n xs (omega a
 
 -- ---- m pieces of w bytes, from byte o on, determine the bytes that they make up
 
-pub pieces-same : (w o : ℕ) (a b : List ℕ) (m : ℕ) → ((c : ℕ) → c < m → take w (drop (o + w * c) a) ≡ take w (drop (o + w * c) b))
+pub pieces_same : (w o : ℕ) (a b : List ℕ) (m : ℕ) → ((c : ℕ) → c < m → take w (drop (o + w * c) a) ≡ take w (drop (o + w * c) b))
     → take (w * m) (drop o a) ≡ take (w * m) (drop o b)
-pieces-same w o a b zero h = rw mul-zero
-pieces-same w o a b (suc m) h =
+pieces_same w o a b zero h = rw mul-zero
+pieces_same w o a b (suc m) h =
     let more : w * suc m ≡ w * m + w = mul-suc w m in
     let one : (l : List ℕ) → take (w * suc m) (drop o l) ≡ take (w * m) (drop o l) ++ take w (drop (o + w * m) l) =
     λ l. ap (λ (k : ℕ). take k (drop o l)) more ∙ take-add (w * m) w (drop o l)
     ∙ ap (λ (r : List ℕ). take (w * m) (drop o l) ++ take w r) (drop-drop (w * m) o l) in
-    one a ∙ ap₂ (λ (x y : List ℕ). x ++ y) (pieces-same w o a b m (λ c k. h c (omega arith))) (h m (omega arith)) ∙ sym (one b)
+    one a ∙ ap₂ (λ (x y : List ℕ). x ++ y) (pieces_same w o a b m (λ c k. h c (omega arith))) (h m (omega arith)) ∙ sym (one b)
 
 -- ---- symbols
 
 module _ (S : Shape) where
-  pub symAt-length : (t : List ℕ) (j i : ℕ) → 256 * place S j i + 256 ≤ length t → length (symAt S t j i) ≡ 256
-  unfolding symAt symbolIn
-  symAt-length t j i h = length-take-le 256 (drop (256 * place S j i) t) (omega (arith, length-drop (256 * place S j i) t))
+  pub sym_at-length : (t : List ℕ) (j i : ℕ) → 256 * place S j i + 256 ≤ length t → length (sym_at S t j i) ≡ 256
+  unfolding sym_at symbol_in
+  sym_at-length t j i h = length-take-le 256 (drop (256 * place S j i) t) (omega (arith, length-drop (256 * place S j i) t))
 
   -- m symbols of layer j that two buffers have alike
-  pub symbols-same : (t u : List ℕ) (j m : ℕ) → ((i : ℕ) → i < m → symAt S t j i ≡ symAt S u j i)
+  pub symbols-same : (t u : List ℕ) (j m : ℕ) → ((i : ℕ) → i < m → sym_at S t j i ≡ sym_at S u j i)
       → take (256 * m) (drop (256 * places S j) t) ≡ take (256 * m) (drop (256 * places S j) u)
-  unfolding symAt symbolIn place
+  unfolding sym_at symbol_in place
   symbols-same t u j m h =
       let at : (i : ℕ) → 256 * (places S j + i) ≡ 256 * places S j + 256 * i = λ i. omega arith in
-      pieces-same 256 (256 * places S j) t u m (λ i k. subst (λ (o : ℕ). take 256 (drop o t) ≡ take 256 (drop o u)) (at i) (h i k))
+      pieces_same 256 (256 * places S j) t u m (λ i k. subst (λ (o : ℕ). take 256 (drop o t) ≡ take 256 (drop o u)) (at i) (h i k))
 
   -- two buffers with the same symbols in d layers
-  tops-same : (t u : List ℕ) (d : ℕ) → ((j i : ℕ) → j < d → i < S.n j → symAt S t j i ≡ symAt S u j i) → take (256 * places S d) t ≡ take (256 * places S d) u
+  tops_same : (t u : List ℕ) (d : ℕ) → ((j i : ℕ) → j < d → i < S.n j → sym_at S t j i ≡ sym_at S u j i) → take (256 * places S d) t ≡ take (256 * places S d) u
   unfolding places
-  tops-same t u zero h = refl
-  tops-same t u (suc d) h =
+  tops_same t u zero h = refl
+  tops_same t u (suc d) h =
       let more : 256 * (places S d + S.n d) ≡ 256 * places S d + 256 * S.n d = omega arith in
       let one : (l : List ℕ) → take (256 * (places S d + S.n d)) l ≡ take (256 * places S d) l ++ take (256 * S.n d) (drop (256 * places S d) l) =
       λ l. ap (λ (k : ℕ). take k l) more ∙ take-add (256 * places S d) (256 * S.n d) l in
-      one t ∙ ap₂ (λ (x y : List ℕ). x ++ y) (tops-same t u d (λ j i k. h j i (omega arith))) (symbols-same t u d (S.n d) (λ i. h d i (omega arith))) ∙ sym (one u)
+      one t ∙ ap₂ (λ (x y : List ℕ). x ++ y) (tops_same t u d (λ j i k. h j i (omega arith))) (symbols-same t u d (S.n d) (λ i. h d i (omega arith))) ∙ sym (one u)
 
   -- the symbols of a tree buffer determine it
   pub tree-same : (d : ℕ) (t u : List ℕ) → length t ≡ 256 * places S d → length u ≡ 256 * places S d
-      → ((j i : ℕ) → j < d → i < S.n j → symAt S t j i ≡ symAt S u j i) → t ≡ u
+      → ((j i : ℕ) → j < d → i < S.n j → sym_at S t j i ≡ sym_at S u j i) → t ≡ u
   tree-same d t u ht hu h =
-      sym (take_all (256 * places S d) t (omega arith)) ∙ tops-same t u d h ∙ take_all (256 * places S d) u (omega arith)
+      sym (take_all (256 * places S d) t (omega arith)) ∙ tops_same t u d h ∙ take_all (256 * places S d) u (omega arith)
 
   -- ---- symbols after a store
 
   module _ (t : List ℕ) (j x : ℕ) (v : List ℕ) (room : 256 * place S j x + 256 ≤ length t) (full : length v ≡ 256) where
-    pub put-length : length (put_at S t j x v) ≡ length t
+    pub put_length : length (put_at S t j x v) ≡ length t
     unfolding put_at
-    put-length = length-paste t (256 * place S j x) v 256 room (omega arith)
+    put_length = length-paste t (256 * place S j x) v 256 room (omega arith)
 
-    pub put-there : symAt S (put_at S t j x v) j x ≡ v
-    unfolding put_at symAt symbolIn
-    put-there = paste-there t v (256 * place S j x) 256 room (omega arith) ∙ take_all 256 v (omega arith)
+    pub put_there : sym_at S (put_at S t j x v) j x ≡ v
+    unfolding put_at sym_at symbol_in
+    put_there = paste_there t v (256 * place S j x) 256 room (omega arith) ∙ take_all 256 v (omega arith)
 
-    pub put_other : (l y : ℕ) → place S l y ≢ place S j x → symAt S (put_at S t j x v) l y ≡ symAt S t l y
-    unfolding put_at symAt symbolIn
+    pub put_other : (l y : ℕ) → place S l y ≢ place S j x → sym_at S (put_at S t j x v) l y ≡ sym_at S t l y
+    unfolding put_at sym_at symbol_in
     put_other l y n =
         elim (dec_lt (place S l y) (place S j x)) [
           | yes h ↦ paste-left t v (256 * place S j x) 256 room (omega arith) (256 * place S l y) 256 (omega arith)

@@ -8,39 +8,39 @@ use lib.ListN.{length, get_or}
 use lib.Seq.{ext_get_or}
 use borrow.Author.Tests.{eqb-true}
 use Rattle.octets.specs.ByteLists.{same}
-use Rattle.octets.proofs.Choice.{by-test, both, yes_and, not-no}
-use Rattle.octets.proofs.SameLaws.{yes-same}
+use Rattle.octets.proofs.Choice.{by_test, both, yes_and, not_no}
+use Rattle.octets.proofs.SameLaws.{yes_same}
 use Rattle.model.specs.Shape.{Shape, ShapeOk}
-use Rattle.model.specs.Symbols.{committed, symAt}
-use Rattle.model.specs.Repair.{End, working, whole, fault, unavailable, twins, St, absentAt, repair}
-use Rattle.model.specs.Ends.{Sized, Roomy, gapAt, Intact, Unchanged, Drained}
+use Rattle.model.specs.Symbols.{committed, sym_at}
+use Rattle.model.specs.Repair.{End, working, whole, fault, unavailable, twins, St, absent_at, repair}
+use Rattle.model.specs.Ends.{Sized, Roomy, gap_at, Intact, Unchanged, Drained}
 use Rattle.model.specs.Alike.{complete, kind_of, Alike}
 use Rattle.model.specs.Finals.{LastLayer, Final}
-use Rattle.model.proofs.Shapes.{place-of}
+use Rattle.model.proofs.Shapes.{place_of_lem}
 use Rattle.model.proofs.Tables.{TableLaws}
 use Rattle.model.proofs.Flat.{tree-same}
-use Rattle.model.proofs.Frame.{filled_none, none_filled, drained-if}
+use Rattle.model.proofs.Frame.{filled_none, none_filled, drained_if}
 use Rattle.model.proofs.Confluence.{complete-grown, alike}
 use Rattle.model.proofs.FourEnds.{repair-final}
 
 -- an end of this kind is whole
-whole-kind : (z : End) → complete ≡ kind_of z → z ≡ whole
-whole-kind working e = cc
-whole-kind whole e = refl
-whole-kind (fault j q x n) e = cc
-whole-kind (unavailable j) e = cc
-whole-kind (twins j x) e = cc
+whole_kind : (z : End) → complete ≡ kind_of z → z ≡ whole
+whole_kind working e = cc
+whole_kind whole e = refl
+whole_kind (fault j q x n) e = cc
+whole_kind (unavailable j) e = cc
+whole_kind (twins j x) e = cc
 
 module _ (S : Shape) (sh : ShapeOk S) (H : ℕ → ℕ → List ℕ → List ℕ) (root : List ℕ) (tbl : List (List (List ℕ))) (ok : TableLaws S tbl) (t m : List ℕ) (sz : Sized S tbl t m) where
   -- ---- a tree that is complete as it was lent is in a final state
 
   module _ (c : Intact S H root tbl t m) where
-    gap-none : (l i : ℕ) → l < length tbl → i < S.n l → gapAt S H root t m t l i ≡ false
-    unfolding gapAt
-    gap-none l i hl hi = ap₂ (λ (a b : Bool). a || not b) ((c l hl).full i hi) (yes-same ((c l hl).hashed i hi))
+    gap_none : (l i : ℕ) → l < length tbl → i < S.n l → gap_at S H root t m t l i ≡ false
+    unfolding gap_at
+    gap_none l i hl hi = ap₂ (λ (a b : Bool). a || not b) ((c l hl).full i hi) (yes_same ((c l hl).hashed i hi))
 
     drained-lent : (l : ℕ) → l < length tbl → Drained S H root tbl t m t l
-    drained-lent l hl = drained-if S sh H root tbl ok t m t l hl (λ s w n x h e. both (w x h e) (gap-none l x hl h))
+    drained-lent l hl = drained_if S sh H root tbl ok t m t l hl (λ s w n x h e. both (w x h e) (gap_none l x hl h))
 
     as_lent : St
     as_lent = record { tree = t; marks = m; out = []; used = []; stored = 0; entered = length tbl; end = whole }
@@ -50,11 +50,11 @@ module _ (S : Shape) (sh : ShapeOk S) (H : ℕ → ℕ → List ℕ → List ℕ
     final-lent =
         record {
           always = record {
-            in-depth = omega arith;
+            in_depth = omega arith;
             sized = sz;
             untouched = refl;
             unmarked = refl;
-            counted = sym (filled_none S H root t m t m (length tbl) (λ l i h k. ap (λ (b : Bool). b && not (absentAt S m l i)) (gap-none l i h k)));
+            counted = sym (filled_none S H root t m t m (length tbl) (λ l i h k. ap (λ (b : Bool). b && not (absent_at S m l i)) (gap_none l i h k)));
             above = λ l h. c l (omega arith);
             drained = λ l h. drained-lent l (omega arith);
             held = λ l i h k e. (c l h).hashed i k;
@@ -71,7 +71,7 @@ module _ (S : Shape) (sh : ShapeOk S) (H : ℕ → ℕ → List ℕ → List ℕ
     unfolding as_lent
     intact-ends c =
         let a : Alike S tbl (as_lent c) st = alike S sh H root tbl ok t m t m (λ l h. record { marks = λ i k. refl; symbols = λ i k. refl }) (as_lent c) st (final-lent c) f in
-        (whole-kind st.end a.kinds, sym (a.stored_same (λ l e. let z : ◌≡◌ {A = ℕ} 0 1 = cc in omega arith)))
+        (whole_kind st.end a.kinds, sym (a.stored_same (λ l e. let z : ◌≡◌ {A = ℕ} 0 1 = cc in omega arith)))
 
     -- ---- a final state that is whole, with nothing stored
 
@@ -80,16 +80,16 @@ module _ (S : Shape) (sh : ShapeOk S) (H : ℕ → ℕ → List ℕ → List ℕ
       ended = subst (λ (z : End). LastLayer S H root tbl st (kind_of z)) w f.last
 
       -- no symbol was a gap
-      no_gap : (l i : ℕ) → l < length tbl → i < S.n l → gapAt S H root t m st.tree l i ≡ false
+      no_gap : (l i : ℕ) → l < length tbl → i < S.n l → gap_at S H root t m st.tree l i ≡ false
       no_gap l i hl hi =
-          by-test (gapAt S H root t m st.tree l i)
+          by_test (gap_at S H root t m st.tree l i)
           (λ g. both (yes_and g (ap not ((ended.1 l hl).full i hi))) (none_filled S H root t m st.tree st.marks st.entered (sym f.always.counted ∙ none) l i (omega (arith, ended.0)) hi))
           (λ g. g)
 
-      was-held : (l i : ℕ) → l < length tbl → i < S.n l → absentAt S m l i ≡ false
-      unfolding gapAt
-      was-held l i hl hi =
-          by-test (absentAt S m l i) (λ a. both (ap (λ (b : Bool). b || not (same (H l i (symAt S t l i)) (committed S root (symAt S st.tree) l i))) a) (no_gap l i hl hi)) (λ a. a)
+      was_held : (l i : ℕ) → l < length tbl → i < S.n l → absent_at S m l i ≡ false
+      unfolding gap_at
+      was_held l i hl hi =
+          by_test (absent_at S m l i) (λ a. both (ap (λ (b : Bool). b || not (same (H l i (sym_at S t l i)) (committed S root (sym_at S st.tree) l i))) a) (no_gap l i hl hi)) (λ a. a)
 
       kept-tree : st.tree ≡ t
       kept-tree =
@@ -98,19 +98,19 @@ module _ (S : Shape) (sh : ShapeOk S) (H : ℕ → ℕ → List ℕ → List ℕ
 
       -- every mark is 1
       kept-marks : st.marks ≡ m
-      unfolding absentAt
+      unfolding absent_at
       kept-marks =
           ext_get_or 0 st.marks m (f.always.sized.marks-length ∙ sym sz.marks-length)
           (λ p h.
-          let (l, i, hl, hi, e) = place-of S (length tbl) p (omega (arith, f.always.sized.marks-length)) in
+          let (l, i, hl, hi, e) = place_of_lem S (length tbl) p (omega (arith, f.always.sized.marks-length)) in
           subst (λ (q : ℕ). get_or st.marks q 0 ≡ get_or m q 0) (sym e)
-          (eqb-true _ 1 (not-no _ ((ended.1 l hl).full i hi)) ∙ sym (eqb-true _ 1 (not-no _ (was-held l i hl hi)))))
+          (eqb-true _ 1 (not_no _ ((ended.1 l hl).full i hi)) ∙ sym (eqb-true _ 1 (not_no _ (was_held l i hl hi)))))
 
       unchanged : Unchanged t m st
       unchanged = record { ends-whole = w; none-stored = none; tree-kept = kept-tree; marks-kept = kept-marks }
 
-      was-intact : Intact S H root tbl t m
-      was-intact = subst (λ (u : List ℕ). Intact S H root tbl u m) kept-tree (subst (Intact S H root tbl st.tree) kept-marks ended.1)
+      was_intact : Intact S H root tbl t m
+      was_intact = subst (λ (u : List ℕ). Intact S H root tbl u m) kept-tree (subst (Intact S H root tbl st.tree) kept-marks ended.1)
 
   -- ---- a repair with a roomy output buffer
 
@@ -118,8 +118,8 @@ module _ (S : Shape) (sh : ShapeOk S) (H : ℕ → ℕ → List ℕ → List ℕ
     abbrev fin : Final S H root tbl t m (repair S H root tbl t m o)
     fin = repair-final S sh H root tbl ok t m o ho sz
 
-    pub intact-unchanged : Intact S H root tbl t m → Unchanged t m (repair S H root tbl t m o)
-    intact-unchanged c = let (w, n) = intact-ends (repair S H root tbl t m o) fin c in unchanged (repair S H root tbl t m o) fin w n
+    pub intact_unchanged : Intact S H root tbl t m → Unchanged t m (repair S H root tbl t m o)
+    intact_unchanged c = let (w, n) = intact-ends (repair S H root tbl t m o) fin c in unchanged (repair S H root tbl t m o) fin w n
 
     pub whole-intact : (repair S H root tbl t m o).end ≡ whole → (repair S H root tbl t m o).stored ≡ 0 → Intact S H root tbl t m
-    whole-intact = was-intact (repair S H root tbl t m o) fin
+    whole-intact = was_intact (repair S H root tbl t m o) fin

@@ -13,35 +13,35 @@ use Rattle.parity_table.specs.Members.{every, last_of}
 use Rattle.octets.proofs.Choice.{and_yes, pick_yes, pick_no}
 use Rattle.parity_table.proofs.Chain.{Split}
 use Rattle.octets.specs.ByteLists.{xors}
-use Rattle.model.specs.Symbols.{xorOf, others}
+use Rattle.model.specs.Symbols.{xor_of, others}
 use Rattle.octets.proofs.ListLaws.{length-xors}
-use Rattle.model.proofs.Bytes.{length-zeros, xors-left-comm}
+use Rattle.model.proofs.Bytes.{length-zeros, xors-left_comm}
 
 -- ---- the exclusive-or of symbols whose numbers are below n
 
-pub length-xorOf : (f : ℕ → List ℕ) (n : ℕ) → ((x : ℕ) → x < n → length (f x) ≡ 256) → (xs : List ℕ) → every (λ x. ltb x n) xs ≡ true → length (xorOf f xs) ≡ 256
-unfolding every xorOf
-length-xorOf f n h [] a = length-zeros
-length-xorOf f n h (x ∷ xs) a =
+pub length-xor_of : (f : ℕ → List ℕ) (n : ℕ) → ((x : ℕ) → x < n → length (f x) ≡ 256) → (xs : List ℕ) → every (λ x. ltb x n) xs ≡ true → length (xor_of f xs) ≡ 256
+unfolding every xor_of
+length-xor_of f n h [] a = length-zeros
+length-xor_of f n h (x ∷ xs) a =
     let (u, v) = and_yes (ltb x n) (every (λ x. ltb x n) xs) a in
-    omega (arith, length-xors (f x) (xorOf f xs), h x (ltb-true x n u), length-xorOf f n h xs v)
+    omega (arith, length-xors (f x) (xor_of f xs), h x (ltb-true x n u), length-xor_of f n h xs v)
 
-pub xorOf-cong : (f g : ℕ → List ℕ) (p : ℕ → Bool) → ((x : ℕ) → p x ≡ true → f x ≡ g x) → (xs : List ℕ) → every p xs ≡ true → xorOf f xs ≡ xorOf g xs
-unfolding xorOf every
-xorOf-cong f g p h [] a = refl
-xorOf-cong f g p h (x ∷ xs) a =
+pub xor_of_cong : (f g : ℕ → List ℕ) (p : ℕ → Bool) → ((x : ℕ) → p x ≡ true → f x ≡ g x) → (xs : List ℕ) → every p xs ≡ true → xor_of f xs ≡ xor_of g xs
+unfolding xor_of every
+xor_of_cong f g p h [] a = refl
+xor_of_cong f g p h (x ∷ xs) a =
     let (u, v) = and_yes (p x) (every p xs) a in
-    ap₂ xors (h x u) (xorOf-cong f g p h xs v)
+    ap₂ xors (h x u) (xor_of_cong f g p h xs v)
 
-pub xorOf-same : (f g : ℕ → List ℕ) (n : ℕ) → ((x : ℕ) → x < n → f x ≡ g x) → (xs : List ℕ) → every (λ x. ltb x n) xs ≡ true → xorOf f xs ≡ xorOf g xs
-xorOf-same f g n h = xorOf-cong f g (λ x. ltb x n) (λ x t. h x (ltb-true x n t))
+pub xor_of-same : (f g : ℕ → List ℕ) (n : ℕ) → ((x : ℕ) → x < n → f x ≡ g x) → (xs : List ℕ) → every (λ x. ltb x n) xs ≡ true → xor_of f xs ≡ xor_of g xs
+xor_of-same f g n h = xor_of_cong f g (λ x. ltb x n) (λ x t. h x (ltb-true x n t))
 
 -- ---- the last member and the others, which are below it
 
-xorOf-last : (f : ℕ → List ℕ) (z : ℕ) (xs : List ℕ) → xorOf f (xs ++ (z ∷ [])) ≡ xors (f z) (xorOf f xs)
-unfolding xorOf
-xorOf-last f z [] = refl
-xorOf-last f z (x ∷ xs) = ap (xors (f x)) (xorOf-last f z xs) ∙ xors-left-comm (f x) (f z) (xorOf f xs)
+xor_of-last : (f : ℕ → List ℕ) (z : ℕ) (xs : List ℕ) → xor_of f (xs ++ (z ∷ [])) ≡ xors (f z) (xor_of f xs)
+unfolding xor_of
+xor_of-last f z [] = refl
+xor_of-last f z (x ∷ xs) = ap (xors (f x)) (xor_of-last f z xs) ∙ xors-left_comm (f x) (f z) (xor_of f xs)
 
 others-last : (z : ℕ) (xs : List ℕ) → every (λ x. ltb x z) xs ≡ true → others z (xs ++ (z ∷ [])) ≡ xs
 unfolding every others
@@ -53,23 +53,23 @@ others-last z (x ∷ xs) a =
 -- z is the last of the members
 pub record Last (z : ℕ) (ms : List ℕ) : Type 0 where
   pub below : every (λ x. ltb x z) (others z ms) ≡ true
-  pub apart : (f : ℕ → List ℕ) → xorOf f ms ≡ xors (f z) (xorOf f (others z ms))
+  pub apart : (f : ℕ → List ℕ) → xor_of f ms ≡ xors (f z) (xor_of f (others z ms))
 
 pub last-is : (z : ℕ) (ms : List ℕ) → Split z ms → Last z ms
 last-is z ms s =
     let rest : others z ms ≡ s.others = ap (others z) s.apart ∙ others-last z s.others s.below in
     record {
       below = ap (every (λ x. ltb x z)) rest ∙ s.below;
-      apart = λ f. ap (xorOf f) s.apart ∙ xorOf-last f z s.others ∙ ap (λ (l : List ℕ). xors (f z) (xorOf f l)) (sym rest);
+      apart = λ f. ap (xor_of f) s.apart ∙ xor_of-last f z s.others ∙ ap (λ (l : List ℕ). xors (f z) (xor_of f l)) (sym rest);
     }
 
 module _ (z : ℕ) (ms : List ℕ) (l : Last z ms) where
   -- symbols that are the same up to number z have the same exclusive-or
-  pub last-same : (f g : ℕ → List ℕ) → ((x : ℕ) → x ≤ z → f x ≡ g x) → xorOf f ms ≡ xorOf g ms
-  last-same f g h = l.apart f ∙ ap₂ xors (h z (omega arith)) (xorOf-same f g z (λ x k. h x (omega arith)) (others z ms) l.below) ∙ sym (l.apart g)
+  pub last-same : (f g : ℕ → List ℕ) → ((x : ℕ) → x ≤ z → f x ≡ g x) → xor_of f ms ≡ xor_of g ms
+  last-same f g h = l.apart f ∙ ap₂ xors (h z (omega arith)) (xor_of-same f g z (λ x k. h x (omega arith)) (others z ms) l.below) ∙ sym (l.apart g)
 
-  pub length_rest : (f : ℕ → List ℕ) → ((x : ℕ) → x < z → length (f x) ≡ 256) → length (xorOf f (others z ms)) ≡ 256
-  length_rest f h = length-xorOf f z h (others z ms) l.below
+  pub length_rest : (f : ℕ → List ℕ) → ((x : ℕ) → x < z → length (f x) ≡ 256) → length (xor_of f (others z ms)) ≡ 256
+  length_rest f h = length-xor_of f z h (others z ms) l.below
 
 -- ---- member i of members that all are below n
 
@@ -94,9 +94,9 @@ pub from-here : (xs : List ℕ) (i : ℕ) → i < length xs → drop i xs ≡ ge
 from-here xs i h = drop-cons xs i 0 h ∙ ap (λ n. get_or xs i 0 ∷ drop n xs) (sym (add-one i))
 
 module _ (x : ℕ) (ms : List ℕ) (i : ℕ) where
-  pub others-skip : i < length ms → get_or ms i 0 ≡ x → others x (drop i ms) ≡ others x (drop (i + 1) ms)
+  pub others_skip : i < length ms → get_or ms i 0 ≡ x → others x (drop i ms) ≡ others x (drop (i + 1) ms)
   unfolding others
-  others-skip h e = ap (others x) (from-here ms i h) ∙ pick_yes (eqb (get_or ms i 0) x) _ _ (eq-eqb (get_or ms i 0) x e)
+  others_skip h e = ap (others x) (from-here ms i h) ∙ pick_yes (eqb (get_or ms i 0) x) _ _ (eq-eqb (get_or ms i 0) x e)
 
   pub others-take : i < length ms → (get_or ms i 0 ≡ x → ⊥) → others x (drop i ms) ≡ get_or ms i 0 ∷ others x (drop (i + 1) ms)
   unfolding others

@@ -6,16 +6,16 @@ use Prim.Native.Nat.{ℕ, zero, suc, ◌+◌, ◌*◌, ◌≤◌, ◌<◌}
 use native.Mathlib.Nat.{add-zero, zero-add}
 use native.Mathlib.Omega.{arith}
 use lib.ListN.{length, get_or}
-use Rattle.parity_table.specs.Table.{layerOf, equationOf}
+use Rattle.parity_table.specs.Table.{layer_of, equation_of}
 use Rattle.model.specs.Shape.{Shape, places, place}
 use Rattle.octets.specs.ByteLists.{xors}
-use Rattle.model.specs.Symbols.{xorOf, zeros, others, symAt, put_at}
+use Rattle.model.specs.Symbols.{xor_of, zeros, others, sym_at, put_at}
 use Rattle.model.specs.Writer.{parities}
-use Rattle.model.proofs.Bytes.{sym-self}
-use Rattle.model.proofs.Members.{Last, last-same, length_rest, xorOf-same}
-use Rattle.model.proofs.Shapes.{place-lt, place-differs}
+use Rattle.model.proofs.Bytes.{sym_self}
+use Rattle.model.proofs.Members.{Last, last-same, length_rest, xor_of-same}
+use Rattle.model.proofs.Shapes.{place_lt, place-differs}
 use Rattle.model.proofs.Tables.{TableFits}
-use Rattle.model.proofs.Flat.{put-length, put-there, put_other, symAt-length}
+use Rattle.model.proofs.Flat.{put_length, put_there, put_other, sym_at-length}
 
 module _ (S : Shape) (d j : ℕ) (hj : j < d) where
   -- what the equation of parity symbol k + e has
@@ -26,8 +26,8 @@ module _ (S : Shape) (d j : ℕ) (hj : j < d) where
   -- u is t with the parity symbols from k + e on, for the equations es
   pub record Paritied (e : ℕ) (es : List (List ℕ)) (t u : List ℕ) : Type 0 where
     pub sized : length u ≡ 256 * places S d
-    pub keeps : (l y : ℕ) → y < S.n l → (l ≢ j) ⊎ (y < S.k j + e) → symAt S u l y ≡ symAt S t l y
-    pub holds : (q : ℕ) → q < length es → xorOf (symAt S u j) (get_or es q []) ≡ zeros
+    pub keeps : (l y : ℕ) → y < S.n l → (l ≢ j) ⊎ (y < S.k j + e) → sym_at S u l y ≡ sym_at S t l y
+    pub holds : (q : ℕ) → q < length es → xor_of (sym_at S u j) (get_or es q []) ≡ zeros
 
   -- one parity symbol, v, stored in t
   module _ (e : ℕ) (ms t : List ℕ) (ht : length t ≡ 256 * places S d) (r : Rule e ms) where
@@ -35,26 +35,26 @@ module _ (S : Shape) (d j : ℕ) (hj : j < d) where
     x = S.k j + e
 
     abbrev v : List ℕ
-    v = xorOf (symAt S t j) (others x ms)
+    v = xor_of (sym_at S t j) (others x ms)
 
     room : (y : ℕ) → y < S.n j → 256 * place S j y + 256 ≤ length t
-    room y h = omega (arith, place-lt S d j y hj h)
+    room y h = omega (arith, place_lt S d j y hj h)
 
     full : length v ≡ 256
-    full = length_rest x ms r.last (symAt S t j) (λ y h. symAt-length S t j y (room y (omega (arith, r.fits))))
+    full = length_rest x ms r.last (sym_at S t j) (λ y h. sym_at-length S t j y (room y (omega (arith, r.fits))))
 
     stored-length : length (put_at S t j x v) ≡ 256 * places S d
-    stored-length = put-length S t j x v (room x r.fits) full ∙ ht
+    stored-length = put_length S t j x v (room x r.fits) full ∙ ht
 
-    stored-keeps : (l y : ℕ) → y < S.n l → (l ≢ j) ⊎ (y ≢ x) → symAt S (put_at S t j x v) l y ≡ symAt S t l y
-    stored-keeps l y h n = put_other S t j x v (room x r.fits) full l y (place-differs S l y j x h r.fits n)
+    stored_keeps : (l y : ℕ) → y < S.n l → (l ≢ j) ⊎ (y ≢ x) → sym_at S (put_at S t j x v) l y ≡ sym_at S t l y
+    stored_keeps l y h n = put_other S t j x v (room x r.fits) full l y (place-differs S l y j x h r.fits n)
 
-    stored-holds : xorOf (symAt S (put_at S t j x v) j) ms ≡ zeros
+    stored-holds : xor_of (sym_at S (put_at S t j x v) j) ms ≡ zeros
     stored-holds =
-        r.last.apart (symAt S (put_at S t j x v) j)
-        ∙ ap₂ xors (put-there S t j x v (room x r.fits) full)
-        (xorOf-same (symAt S (put_at S t j x v) j) (symAt S t j) x (λ y h. stored-keeps j y (omega (arith, r.fits)) (inr (λ q. omega arith))) (others x ms) r.last.below)
-        ∙ sym-self v full
+        r.last.apart (sym_at S (put_at S t j x v) j)
+        ∙ ap₂ xors (put_there S t j x v (room x r.fits) full)
+        (xor_of-same (sym_at S (put_at S t j x v) j) (sym_at S t j) x (λ y h. stored_keeps j y (omega (arith, r.fits)) (inr (λ q. omega arith))) (others x ms) r.last.below)
+        ∙ sym_self v full
 
   paritied : (es : List (List ℕ)) (e : ℕ) (t : List ℕ) → length t ≡ 256 * places S d → ((q : ℕ) → q < length es → Rule (e + q) (get_or es q [])) → Paritied e es t (parities S j e es t)
   unfolding parities
@@ -67,23 +67,23 @@ module _ (S : Shape) (d j : ℕ) (hj : j < d) where
       record {
         sized = rest.sized;
         keeps = λ l y hy n. rest.keeps l y hy (⊎_elim (λ u. inl u) (λ u. inr (omega arith)) n)
-            ∙ stored-keeps e ms t ht ru l y hy (⊎_elim (λ u. inl u) (λ u. inr (λ q. omega arith)) n);
-        holds = λ q h. each (symAt S (parities S j (suc e) es t₁) j) q h
-            (last-same (S.k j + e) ms ru.last (symAt S (parities S j (suc e) es t₁) j) (symAt S t₁ j)
+            ∙ stored_keeps e ms t ht ru l y hy (⊎_elim (λ u. inl u) (λ u. inr (λ q. omega arith)) n);
+        holds = λ q h. each (sym_at S (parities S j (suc e) es t₁) j) q h
+            (last-same (S.k j + e) ms ru.last (sym_at S (parities S j (suc e) es t₁) j) (sym_at S t₁ j)
             (λ y b. rest.keeps j y (omega (arith, ru.fits)) (inr (omega arith)))
             ∙ stored-holds e ms t ht ru)
             rest.holds;
       }
     where
-      each : (g : ℕ → List ℕ) (q : ℕ) → q < length (ms ∷ es) → xorOf g ms ≡ zeros → ((p : ℕ) → p < length es → xorOf g (get_or es p []) ≡ zeros) → xorOf g (get_or (ms ∷ es) q []) ≡ zeros
+      each : (g : ℕ → List ℕ) (q : ℕ) → q < length (ms ∷ es) → xor_of g ms ≡ zeros → ((p : ℕ) → p < length es → xor_of g (get_or es p []) ≡ zeros) → xor_of g (get_or (ms ∷ es) q []) ≡ zeros
       each g zero h a b = a
       each g (suc q) h a b = b q (omega arith)
 
 -- all parity symbols of layer j
-pub layer-paritied : (S : Shape) (tbl : List (List (List ℕ))) → TableFits S tbl → (j : ℕ) (hj : j < length tbl) (t : List ℕ) → length t ≡ 256 * places S (length tbl)
-    → Paritied S (length tbl) j hj 0 (layerOf tbl j) t (parities S j 0 (layerOf tbl j) t)
-unfolding equationOf
-layer-paritied S tbl ok j hj t ht =
-    paritied S (length tbl) j hj (layerOf tbl j) 0 t ht
-    (λ q h. subst (λ (n : ℕ). Rule S (length tbl) j hj n (get_or (layerOf tbl j) q [])) (sym (zero-add q))
+pub layer_paritied : (S : Shape) (tbl : List (List (List ℕ))) → TableFits S tbl → (j : ℕ) (hj : j < length tbl) (t : List ℕ) → length t ≡ 256 * places S (length tbl)
+    → Paritied S (length tbl) j hj 0 (layer_of tbl j) t (parities S j 0 (layer_of tbl j) t)
+unfolding equation_of
+layer_paritied S tbl ok j hj t ht =
+    paritied S (length tbl) j hj (layer_of tbl j) 0 t ht
+    (λ q h. subst (λ (n : ℕ). Rule S (length tbl) j hj n (get_or (layer_of tbl j) q [])) (sym (zero-add q))
     (record { fits = omega (arith, ok.full j hj); last = ok.last j q hj h }))

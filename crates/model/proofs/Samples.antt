@@ -9,142 +9,142 @@ use native.Mathlib.Omega.{arith}
 use lib.ListN.{length}
 use lib.Dec.{eqb}
 use borrow.Author.Tests.{eqb-true, eqb-false, eq-eqb, ne_eqb}
-use Rattle.octets.proofs.Choice.{by-test, pick_yes, pick_no, both}
+use Rattle.octets.proofs.Choice.{by_test, pick_yes, pick_no, both}
 use Rattle.model.specs.Shape.{Shape, TreeOk}
-use Rattle.model.specs.Symbols.{symbolIn, committed}
+use Rattle.model.specs.Symbols.{symbol_in, committed}
 use Rattle.model.specs.Coded.{Digests, InTree, Agrees}
 use Rattle.model.specs.Climb.{leads, breaks, Says}
-use Rattle.model.specs.Sampling.{sampleSize, sampleLayer, dataNo, parityNo, sampleNumber, sampleBytes}
-use Rattle.model.specs.SampleCheck.{sampleData, sampleParity, sampleHas, sampleFits, sampleCheck, SampleLeads, SampleTrue, SampleCollision}
-use Rattle.octets.proofs.SameLaws.{same-yes, yes-same}
-use Rattle.model.proofs.Bytes.{joined_length, joined-piece}
-use Rattle.model.proofs.Shapes.{k-double, up_lt, committed-same}
-use Rattle.model.proofs.Binding.{same-or-collide, all-or, hashes}
-use Rattle.model.proofs.Climbs.{climb-says, climb-is}
+use Rattle.model.specs.Sampling.{sample_size, sample_layer, data_no, parity_no, sample_number, sample_bytes}
+use Rattle.model.specs.SampleCheck.{sample_data, sample_parity, sample_has, sample_fits, sample_check, SampleLeads, SampleTrue, SampleCollision}
+use Rattle.octets.proofs.SameLaws.{same_yes, yes_same}
+use Rattle.model.proofs.Bytes.{joined_length, joined_piece}
+use Rattle.model.proofs.Shapes.{k_double, up_lt, committed-same}
+use Rattle.model.proofs.Binding.{same_or_collide, all_or, hashes}
+use Rattle.model.proofs.Climbs.{climb_says, climb-is}
 
 -- ---- the places of a sample
 
 -- the data symbol and the parity symbol of layer j
-abbrev dataIn : ℕ → ℕ → ℕ
-dataIn d j = 2 * (d - 1 - j) - 1
+abbrev data_in : ℕ → ℕ → ℕ
+data_in d j = 2 * (d - 1 - j) - 1
 
-abbrev parityIn : ℕ → ℕ → ℕ
-parityIn d j = 2 * (d - 1 - j)
+abbrev parity_in : ℕ → ℕ → ℕ
+parity_in d j = 2 * (d - 1 - j)
 
 module _ (S : Shape) (d i : ℕ) where
-  base-layer : sampleLayer d 0 ≡ d - 1
-  unfolding sampleLayer
+  base-layer : sample_layer d 0 ≡ d - 1
+  unfolding sample_layer
   base-layer = omega arith
 
-  pub data-layer : (j : ℕ) → suc j < d → sampleLayer d (dataIn d j) ≡ j
-  unfolding sampleLayer
-  data-layer j h = omega arith
+  pub data_layer : (j : ℕ) → suc j < d → sample_layer d (data_in d j) ≡ j
+  unfolding sample_layer
+  data_layer j h = omega arith
 
-  parity-layer : (j : ℕ) → suc j < d → sampleLayer d (parityIn d j) ≡ j
-  unfolding sampleLayer
-  parity-layer j h = omega arith
+  parity_layer : (j : ℕ) → suc j < d → sample_layer d (parity_in d j) ≡ j
+  unfolding sample_layer
+  parity_layer j h = omega arith
 
-  odd_number : (x : ℕ) → x % 2 ≡ 0 → sampleNumber S d i (suc x) ≡ dataNo S (sampleLayer d (suc x)) i
-  unfolding sampleNumber
+  odd_number : (x : ℕ) → x % 2 ≡ 0 → sample_number S d i (suc x) ≡ data_no S (sample_layer d (suc x)) i
+  unfolding sample_number
   odd_number x h = pick_yes (eqb (x % 2) 0) _ _ (eq-eqb (x % 2) 0 h)
 
-  even-number : (x : ℕ) → x % 2 ≡ 1 → sampleNumber S d i (suc x) ≡ parityNo S (sampleLayer d (suc x)) i
-  unfolding sampleNumber
-  even-number x h = pick_no (eqb (x % 2) 0) _ _ (ne_eqb (x % 2) 0 (λ e. omega arith))
+  even_number : (x : ℕ) → x % 2 ≡ 1 → sample_number S d i (suc x) ≡ parity_no S (sample_layer d (suc x)) i
+  unfolding sample_number
+  even_number x h = pick_no (eqb (x % 2) 0) _ _ (ne_eqb (x % 2) 0 (λ e. omega arith))
 
-  pub data-number : (j : ℕ) → suc j < d → sampleNumber S d i (dataIn d j) ≡ dataNo S j i
-  data-number j h =
-      let e : dataIn d j ≡ suc (2 * (d - 1 - j) - 2) = omega arith in
-      ap (sampleNumber S d i) e ∙ odd_number (2 * (d - 1 - j) - 2) (omega arith) ∙ ap (λ (l : ℕ). dataNo S l i) (sym (ap (sampleLayer d) e) ∙ data-layer j h)
+  pub data_number : (j : ℕ) → suc j < d → sample_number S d i (data_in d j) ≡ data_no S j i
+  data_number j h =
+      let e : data_in d j ≡ suc (2 * (d - 1 - j) - 2) = omega arith in
+      ap (sample_number S d i) e ∙ odd_number (2 * (d - 1 - j) - 2) (omega arith) ∙ ap (λ (l : ℕ). data_no S l i) (sym (ap (sample_layer d) e) ∙ data_layer j h)
 
-  parity-number : (j : ℕ) → suc j < d → sampleNumber S d i (parityIn d j) ≡ parityNo S j i
-  parity-number j h =
-      let e : parityIn d j ≡ suc (2 * (d - 1 - j) - 1) = omega arith in
-      ap (sampleNumber S d i) e ∙ even-number (2 * (d - 1 - j) - 1) (omega arith) ∙ ap (λ (l : ℕ). parityNo S l i) (sym (ap (sampleLayer d) e) ∙ parity-layer j h)
+  parity_number : (j : ℕ) → suc j < d → sample_number S d i (parity_in d j) ≡ parity_no S j i
+  parity_number j h =
+      let e : parity_in d j ≡ suc (2 * (d - 1 - j) - 1) = omega arith in
+      ap (sample_number S d i) e ∙ even_number (2 * (d - 1 - j) - 1) (omega arith) ∙ ap (λ (l : ℕ). parity_no S l i) (sym (ap (sample_layer d) e) ∙ parity_layer j h)
 
   -- what holds of the base symbol, of every data symbol and of every parity symbol, with layer and number, holds at each place
-  sample-ind : (R : ℕ → ℕ → ℕ → Type 0) → 1 ≤ d → R 0 (d - 1) i → ((j : ℕ) → suc j < d → R (dataIn d j) j (dataNo S j i))
-      → ((j : ℕ) → suc j < d → R (parityIn d j) j (parityNo S j i)) → (x : ℕ) → x < sampleSize d → R x (sampleLayer d x) (sampleNumber S d i x)
-  unfolding sampleNumber
-  sample-ind R pos b dt pt zero h = subst (λ (l : ℕ). R 0 l i) (sym base-layer) b
-  sample-ind R pos b dt pt (suc x) h =
+  sample_ind : (R : ℕ → ℕ → ℕ → Type 0) → 1 ≤ d → R 0 (d - 1) i → ((j : ℕ) → suc j < d → R (data_in d j) j (data_no S j i))
+      → ((j : ℕ) → suc j < d → R (parity_in d j) j (parity_no S j i)) → (x : ℕ) → x < sample_size d → R x (sample_layer d x) (sample_number S d i x)
+  unfolding sample_number
+  sample_ind R pos b dt pt zero h = subst (λ (l : ℕ). R 0 l i) (sym base-layer) b
+  sample_ind R pos b dt pt (suc x) h =
       let j : ℕ = d - 1 - (x + 2) / 2 in
-      by-test (eqb (x % 2) 0)
+      by_test (eqb (x % 2) 0)
       (λ t.
       let p : x % 2 ≡ 0 = eqb-true (x % 2) 0 t in
       let hj : suc j < d = omega arith in
-      let e : dataIn d j ≡ suc x = omega arith in
-      subst (λ (n : ℕ). R n (sampleLayer d n) (sampleNumber S d i n)) e
-      (subst (λ (l : ℕ). R (dataIn d j) l (sampleNumber S d i (dataIn d j))) (sym (data-layer j hj))
-      (subst (λ (m : ℕ). R (dataIn d j) j m) (sym (data-number j hj)) (dt j hj))))
+      let e : data_in d j ≡ suc x = omega arith in
+      subst (λ (n : ℕ). R n (sample_layer d n) (sample_number S d i n)) e
+      (subst (λ (l : ℕ). R (data_in d j) l (sample_number S d i (data_in d j))) (sym (data_layer j hj))
+      (subst (λ (m : ℕ). R (data_in d j) j m) (sym (data_number j hj)) (dt j hj))))
       (λ t.
       let p : x % 2 ≡ 1 = omega (arith, eqb-false (x % 2) 0 t) in
       let hj : suc j < d = omega arith in
-      let e : parityIn d j ≡ suc x = omega arith in
-      subst (λ (n : ℕ). R n (sampleLayer d n) (sampleNumber S d i n)) e
-      (subst (λ (l : ℕ). R (parityIn d j) l (sampleNumber S d i (parityIn d j))) (sym (parity-layer j hj))
-      (subst (λ (m : ℕ). R (parityIn d j) j m) (sym (parity-number j hj)) (pt j hj))))
+      let e : parity_in d j ≡ suc x = omega arith in
+      subst (λ (n : ℕ). R n (sample_layer d n) (sample_number S d i n)) e
+      (subst (λ (l : ℕ). R (parity_in d j) l (sample_number S d i (parity_in d j))) (sym (parity_layer j hj))
+      (subst (λ (m : ℕ). R (parity_in d j) j m) (sym (parity_number j hj)) (pt j hj))))
 
   -- and back
-  sample-at : (R : ℕ → ℕ → ℕ → Type 0) → ((x : ℕ) → x < sampleSize d → R x (sampleLayer d x) (sampleNumber S d i x))
-      → (x l m : ℕ) → x < sampleSize d → sampleLayer d x ≡ l → sampleNumber S d i x ≡ m → R x l m
-  sample-at R all x l m h p q = subst (λ (n : ℕ). R x l n) q (subst (λ (n : ℕ). R x n (sampleNumber S d i x)) p (all x h))
+  sample_at : (R : ℕ → ℕ → ℕ → Type 0) → ((x : ℕ) → x < sample_size d → R x (sample_layer d x) (sample_number S d i x))
+      → (x l m : ℕ) → x < sample_size d → sample_layer d x ≡ l → sample_number S d i x ≡ m → R x l m
+  sample_at R all x l m h p q = subst (λ (n : ℕ). R x l n) q (subst (λ (n : ℕ). R x n (sample_number S d i x)) p (all x h))
 
 -- ---- accepted just when every hash leads to the root
 
 module _ (S : Shape) (H : ℕ → ℕ → List ℕ → List ℕ) (root : List ℕ) (d i : ℕ) (pos : 1 ≤ d) (s : List ℕ) where
   -- symbol x of the sample has the hash that the sample has for symbol m of layer l
   abbrev pub Fit : ℕ → ℕ → ℕ → Type 0
-  Fit x l m = H l m (symbolIn s x) ≡ sampleHas S root d s l m
+  Fit x l m = H l m (symbol_in s x) ≡ sample_has S root d s l m
 
   -- the check says whether all fit
-  pub all_fit : sampleCheck S H root d i s ≡ leads → (x : ℕ) → x < sampleSize d → Fit x (sampleLayer d x) (sampleNumber S d i x)
-  unfolding sampleCheck sampleFits
+  pub all_fit : sample_check S H root d i s ≡ leads → (x : ℕ) → x < sample_size d → Fit x (sample_layer d x) (sample_number S d i x)
+  unfolding sample_check sample_fits
   all_fit e x h =
-      let says : Says (sampleFits S H root d i s) (sampleLayer d) 0 (sampleSize d) leads =
-      subst (Says (sampleFits S H root d i s) (sampleLayer d) 0 (sampleSize d)) e (climb-says (sampleFits S H root d i s) (sampleLayer d) (sampleSize d) 0) in
-      same-yes _ _ (says x (omega arith) (omega arith))
+      let says : Says (sample_fits S H root d i s) (sample_layer d) 0 (sample_size d) leads =
+      subst (Says (sample_fits S H root d i s) (sample_layer d) 0 (sample_size d)) e (climb_says (sample_fits S H root d i s) (sample_layer d) (sample_size d) 0) in
+      same_yes _ _ (says x (omega arith) (omega arith))
 
-  fit_all : ((x : ℕ) → x < sampleSize d → Fit x (sampleLayer d x) (sampleNumber S d i x)) → sampleCheck S H root d i s ≡ leads
-  unfolding sampleCheck sampleFits
-  fit_all all = climb-is (sampleFits S H root d i s) (sampleLayer d) (sampleSize d) 0 leads (λ x a h. yes-same (all x (omega arith)))
+  fit_all : ((x : ℕ) → x < sample_size d → Fit x (sample_layer d x) (sample_number S d i x)) → sample_check S H root d i s ≡ leads
+  unfolding sample_check sample_fits
+  fit_all all = climb-is (sample_fits S H root d i s) (sample_layer d) (sample_size d) 0 leads (λ x a h. yes_same (all x (omega arith)))
 
   -- only when
-  pub accepted-leads : sampleCheck S H root d i s ≡ leads → SampleLeads S H root d i s
-  unfolding sampleData sampleParity sampleNumber
+  pub accepted-leads : sample_check S H root d i s ≡ leads → SampleLeads S H root d i s
+  unfolding sample_data sample_parity sample_number
   accepted-leads e =
       let all = all_fit e in
       record {
         base = subst (λ (l : ℕ). Fit 0 l i) (base-layer S d i) (all 0 (omega arith));
-        data-symbol = λ j h. sample-at S d i Fit all (dataIn d j) j (dataNo S j i) (omega arith) (data-layer S d i j h) (data-number S d i j h);
-        parity-symbol = λ j h. sample-at S d i Fit all (parityIn d j) j (parityNo S j i) (omega arith) (parity-layer S d i j h) (parity-number S d i j h);
+        data_symbol = λ j h. sample_at S d i Fit all (data_in d j) j (data_no S j i) (omega arith) (data_layer S d i j h) (data_number S d i j h);
+        parity_symbol = λ j h. sample_at S d i Fit all (parity_in d j) j (parity_no S j i) (omega arith) (parity_layer S d i j h) (parity_number S d i j h);
       }
 
   -- when
-  pub leads-accepted : SampleLeads S H root d i s → sampleCheck S H root d i s ≡ leads
-  unfolding sampleData sampleParity
-  leads-accepted w = fit_all (sample-ind S d i Fit pos w.base w.data-symbol w.parity-symbol)
+  pub leads-accepted : SampleLeads S H root d i s → sample_check S H root d i s ≡ leads
+  unfolding sample_data sample_parity
+  leads-accepted w = fit_all (sample_ind S d i Fit pos w.base w.data_symbol w.parity_symbol)
 
   -- ---- it breaks at layer l: one of its symbols has another hash, and every symbol of a layer nearer the base has the committed one
 
   pub record BrokenSample (l : ℕ) : Type 0 where
     pub index : ℕ
-    pub inside : index < sampleSize d
-    pub at-layer : sampleLayer d index ≡ l
-    pub broken : Fit index (sampleLayer d index) (sampleNumber S d i index) → ⊥
-    pub below : (x : ℕ) → x < sampleSize d → l < sampleLayer d x → Fit x (sampleLayer d x) (sampleNumber S d i x)
+    pub inside : index < sample_size d
+    pub at_layer : sample_layer d index ≡ l
+    pub broken : Fit index (sample_layer d index) (sample_number S d i index) → ⊥
+    pub below : (x : ℕ) → x < sample_size d → l < sample_layer d x → Fit x (sample_layer d x) (sample_number S d i x)
 
-  pub sample-breaks : (l : ℕ) → sampleCheck S H root d i s ≡ breaks l → BrokenSample l
-  unfolding sampleCheck sampleFits sampleLayer
+  pub sample-breaks : (l : ℕ) → sample_check S H root d i s ≡ breaks l → BrokenSample l
+  unfolding sample_check sample_fits sample_layer
   sample-breaks l e =
       let (y, first, at) =
-      subst (Says (sampleFits S H root d i s) (sampleLayer d) 0 (sampleSize d)) e (climb-says (sampleFits S H root d i s) (sampleLayer d) (sampleSize d) 0) in
+      subst (Says (sample_fits S H root d i s) (sample_layer d) 0 (sample_size d)) e (climb_says (sample_fits S H root d i s) (sample_layer d) (sample_size d) 0) in
       record {
         index = y;
         inside = omega (arith, first.upto);
-        at-layer = at;
-        broken = λ f. both (yes-same f) first.unfit;
-        below = λ x h k. same-yes _ _ (first.before x (omega arith) (omega arith));
+        at_layer = at;
+        broken = λ f. both (yes_same f) first.unfit;
+        below = λ x h k. same_yes _ _ (first.before x (omega arith) (omega arith));
       }
 
 -- ---- numbers: both symbols of a layer hang under the sample's data symbol of the layer above
@@ -152,42 +152,42 @@ module _ (S : Shape) (H : ℕ → ℕ → List ℕ → List ℕ) (root : List �
 module _ (S : Shape) (sh : TreeOk S) (i : ℕ) where
   -- symbol m of layer l hangs there
   abbrev pub Under : ℕ → ℕ → Type 0
-  Under l m = (u : ℕ) → suc u ≡ l → m % S.k u ≡ dataNo S u i
+  Under l m = (u : ℕ) → suc u ≡ l → m % S.k u ≡ data_no S u i
 
-  base-under : (l : ℕ) → Under l i
-  unfolding dataNo
-  base-under l u e = refl
+  base_under : (l : ℕ) → Under l i
+  unfolding data_no
+  base_under l u e = refl
 
-  pub data-under : (l : ℕ) → Under l (dataNo S l i)
-  unfolding dataNo
-  data-under l u e =
-      ap (λ (n : ℕ). i % n % S.k u) (sym (ap S.k e) ∙ k-double S sh u) ∙ mod-mod_of_dvd (S.k u) i (dvd-mul_left (S.k u) 2)
+  pub data_under : (l : ℕ) → Under l (data_no S l i)
+  unfolding data_no
+  data_under l u e =
+      ap (λ (n : ℕ). i % n % S.k u) (sym (ap S.k e) ∙ k_double S sh u) ∙ mod-mod_of_dvd (S.k u) i (dvd-mul_left (S.k u) 2)
 
-  parity-under : (l : ℕ) → Under l (parityNo S l i)
-  unfolding dataNo parityNo
-  parity-under l u e =
-      let two : S.k l ≡ 2 * S.k u = sym (ap S.k e) ∙ k-double S sh u in
+  parity_under : (l : ℕ) → Under l (parity_no S l i)
+  unfolding data_no parity_no
+  parity_under l u e =
+      let two : S.k l ≡ 2 * S.k u = sym (ap S.k e) ∙ k_double S sh u in
       let six : 3 * S.k l ≡ 6 * S.k u = omega arith in
       ap₂ (λ (a b : ℕ). (a + i % b) % S.k u) two six
       ∙ mul-add-mod_self_right 2 (S.k u) (i % (6 * S.k u))
       ∙ mod-mod_of_dvd (S.k u) i (dvd-mul_left (S.k u) 6)
 
-  data-lt : (l : ℕ) → dataNo S l i < S.n l
-  unfolding dataNo
-  data-lt l = up_lt S sh.shape l i
+  data_lt : (l : ℕ) → data_no S l i < S.n l
+  unfolding data_no
+  data_lt l = up_lt S sh.shape l i
 
-  parity-lt : (l : ℕ) → parityNo S l i < S.n l
-  unfolding parityNo
-  parity-lt l = omega (arith, mod-lt i {m = 3 * S.k l} (omega (arith, sh.shape.some l)), sh.rate l)
+  parity_lt : (l : ℕ) → parity_no S l i < S.n l
+  unfolding parity_no
+  parity_lt l = omega (arith, mod-lt i {m = 3 * S.k l} (omega (arith, sh.shape.some l)), sh.rate l)
 
   -- each place of the sample stands for a symbol of the tree, under the data symbol of the layer above
-  pub places-are : (d : ℕ) → 1 ≤ d → i < S.n (d - 1) → (x : ℕ) → x < sampleSize d
-      → ((sampleLayer d x < d) × (sampleNumber S d i x < S.n (sampleLayer d x))) × Under (sampleLayer d x) (sampleNumber S d i x)
+  pub places-are : (d : ℕ) → 1 ≤ d → i < S.n (d - 1) → (x : ℕ) → x < sample_size d
+      → ((sample_layer d x < d) × (sample_number S d i x < S.n (sample_layer d x))) × Under (sample_layer d x) (sample_number S d i x)
   places-are d pos hi =
-      sample-ind S d i (λ x l m. ((l < d) × (m < S.n l)) × Under l m) pos
-      ((omega arith, hi), base-under (d - 1))
-      (λ j h. ((omega arith, data-lt j), data-under j))
-      (λ j h. ((omega arith, parity-lt j), parity-under j))
+      sample_ind S d i (λ x l m. ((l < d) × (m < S.n l)) × Under l m) pos
+      ((omega arith, hi), base_under (d - 1))
+      (λ j h. ((omega arith, data_lt j), data_under j))
+      (λ j h. ((omega arith, parity_lt j), parity_under j))
 
 -- ---- samples of a tree that agrees
 
@@ -196,80 +196,80 @@ module _ (S : Shape) (sh : TreeOk S) (H : ℕ → ℕ → List ℕ → List ℕ)
   abbrev d : ℕ
   d = length tbl
 
-  in-places : (x : ℕ) → x < sampleSize d → InTree S tbl (sampleLayer d x) (sampleNumber S d i x) × Under S sh i (sampleLayer d x) (sampleNumber S d i x)
-  in-places = places-are S sh i d pos hi
+  in_places : (x : ℕ) → x < sample_size d → InTree S tbl (sample_layer d x) (sample_number S d i x) × Under S sh i (sample_layer d x) (sample_number S d i x)
+  in_places = places-are S sh i d pos hi
 
   -- where the sample's data symbol of the layer above is the tree's, the sample has the committed hash
-  has-is : (s : List ℕ) (l m : ℕ) → Under S sh i l m → ((u : ℕ) → suc u ≡ l → sampleData d s u ≡ f u (dataNo S u i)) → sampleHas S root d s l m ≡ committed S root f l m
-  unfolding sampleHas
-  has-is s l m under above = committed-same S root (λ u i. sampleData d s u) f l m (λ u e. above u e ∙ ap (f u) (sym (under u e)))
+  has_is : (s : List ℕ) (l m : ℕ) → Under S sh i l m → ((u : ℕ) → suc u ≡ l → sample_data d s u ≡ f u (data_no S u i)) → sample_has S root d s l m ≡ committed S root f l m
+  unfolding sample_has
+  has_is s l m under above = committed-same S root (λ u i. sample_data d s u) f l m (λ u e. above u e ∙ ap (f u) (sym (under u e)))
 
   -- ---- a sample that was taken is accepted
 
   abbrev taken : List ℕ
-  taken = sampleBytes S f d i
+  taken = sample_bytes S f d i
 
-  size : (x : ℕ) → x < sampleSize d → length (f (sampleLayer d (0 + x)) (sampleNumber S d i (0 + x))) ≡ 256
-  size x h = rw zero-add (agr.coded.sized (sampleLayer d x) (sampleNumber S d i x) (in-places x h).0)
+  size : (x : ℕ) → x < sample_size d → length (f (sample_layer d (0 + x)) (sample_number S d i (0 + x))) ≡ 256
+  size x h = rw zero-add (agr.coded.sized (sample_layer d x) (sample_number S d i x) (in_places x h).0)
 
-  pub taken-length : length taken ≡ 256 * sampleSize d
-  unfolding sampleBytes
-  taken-length = joined_length (λ x. f (sampleLayer d x) (sampleNumber S d i x)) 256 (sampleSize d) 0 size
+  pub taken-length : length taken ≡ 256 * sample_size d
+  unfolding sample_bytes
+  taken-length = joined_length (λ x. f (sample_layer d x) (sample_number S d i x)) 256 (sample_size d) 0 size
 
   taken_true : SampleTrue S f d i taken
-  unfolding sampleBytes symbolIn
+  unfolding sample_bytes symbol_in
   taken_true x h =
-      joined-piece (λ x. f (sampleLayer d x) (sampleNumber S d i x)) 256 (sampleSize d) 0 x h size
-      ∙ ap (λ (n : ℕ). f (sampleLayer d n) (sampleNumber S d i n)) (zero-add x)
+      joined_piece (λ x. f (sample_layer d x) (sample_number S d i x)) 256 (sample_size d) 0 x h size
+      ∙ ap (λ (n : ℕ). f (sample_layer d n) (sample_number S d i n)) (zero-add x)
 
-  data-true : (s : List ℕ) → SampleTrue S f d i s → (u : ℕ) → suc u < d → sampleData d s u ≡ f u (dataNo S u i)
-  unfolding sampleData
-  data-true s all u h = sample-at S d i (λ x l m. symbolIn s x ≡ f l m) all (dataIn d u) u (dataNo S u i) (omega arith) (data-layer S d i u h) (data-number S d i u h)
+  data_true : (s : List ℕ) → SampleTrue S f d i s → (u : ℕ) → suc u < d → sample_data d s u ≡ f u (data_no S u i)
+  unfolding sample_data
+  data_true s all u h = sample_at S d i (λ x l m. symbol_in s x ≡ f l m) all (data_in d u) u (data_no S u i) (omega arith) (data_layer S d i u h) (data_number S d i u h)
 
-  pub taken-accepted : sampleCheck S H root d i taken ≡ leads
+  pub taken-accepted : sample_check S H root d i taken ≡ leads
   taken-accepted =
       fit_all S H root d i pos taken
       (λ x h.
-      let l : ℕ = sampleLayer d x in
-      let m : ℕ = sampleNumber S d i x in
-      let (inside, under) = in-places x h in
+      let l : ℕ = sample_layer d x in
+      let m : ℕ = sample_number S d i x in
+      let (inside, under) = in_places x h in
       ap (H l m) (taken_true x h) ∙ hashes S sh.shape H digests tbl root f agr l m inside
-      ∙ sym (has-is taken l m under (λ u e. data-true taken taken_true u (omega (arith, inside.0)))))
+      ∙ sym (has_is taken l m under (λ u e. data_true taken taken_true u (omega (arith, inside.0)))))
 
   -- ---- an accepted sample is true, or shows a collision
 
-  module _ (s : List ℕ) (acc : sampleCheck S H root d i s ≡ leads) where
+  module _ (s : List ℕ) (acc : sample_check S H root d i s ≡ leads) where
     abbrev C : Type 0
     C = SampleCollision S H f d i s
 
     -- the data symbol of the layer above l is the tree's
     abbrev Above : ℕ → Type 0
-    Above l = (u : ℕ) → suc u ≡ l → sampleData d s u ≡ f u (dataNo S u i)
+    Above l = (u : ℕ) → suc u ≡ l → sample_data d s u ≡ f u (data_no S u i)
 
-    one : (x : ℕ) → x < sampleSize d → Above (sampleLayer d x) → (symbolIn s x ≡ f (sampleLayer d x) (sampleNumber S d i x)) ⊎ C
+    one : (x : ℕ) → x < sample_size d → Above (sample_layer d x) → (symbol_in s x ≡ f (sample_layer d x) (sample_number S d i x)) ⊎ C
     one x h above =
-        let l : ℕ = sampleLayer d x in
-        let m : ℕ = sampleNumber S d i x in
-        let (inside, under) = in-places x h in
+        let l : ℕ = sample_layer d x in
+        let m : ℕ = sample_number S d i x in
+        let (inside, under) = in_places x h in
         ⊎_elim inl (λ c. inr (record { index = x; inside = h; collide = c }))
-        (same-or-collide H l m (symbolIn s x) (f l m)
-        (all_fit S H root d i pos s acc x h ∙ has-is s l m under above ∙ sym (hashes S sh.shape H digests tbl root f agr l m inside)))
+        (same_or_collide H l m (symbol_in s x) (f l m)
+        (all_fit S H root d i pos s acc x h ∙ has_is s l m under above ∙ sym (hashes S sh.shape H digests tbl root f agr l m inside)))
 
-    above-or : (l : ℕ) → l < d → Above l ⊎ C
-    unfolding sampleData
-    above-or zero h = inl (λ u e. absurd (omega arith))
-    above-or (suc l) h =
-        let x : ℕ = dataIn d l in
-        let at : sampleLayer d x ≡ l = data-layer S d i l h in
+    above_or : (l : ℕ) → l < d → Above l ⊎ C
+    unfolding sample_data
+    above_or zero h = inl (λ u e. absurd (omega arith))
+    above_or (suc l) h =
+        let x : ℕ = data_in d l in
+        let at : sample_layer d x ≡ l = data_layer S d i l h in
         ⊎_elim
         (λ above. ⊎_elim
         (λ e. inl (λ u q.
         let v : l ≡ u = omega arith in
-        subst (λ (n : ℕ). symbolIn s (dataIn d n) ≡ f n (dataNo S n i)) v (e ∙ ap₂ f at (data-number S d i l h))))
+        subst (λ (n : ℕ). symbol_in s (data_in d n) ≡ f n (data_no S n i)) v (e ∙ ap₂ f at (data_number S d i l h))))
         inr (one x (omega arith) (subst Above (sym at) above)))
-        inr (above-or l (omega arith))
+        inr (above_or l (omega arith))
 
-    pub accepted-true : SampleTrue S f d i s ⊎ C
-    accepted-true =
-        all-or (λ x. symbolIn s x ≡ f (sampleLayer d x) (sampleNumber S d i x)) C (sampleSize d)
-        (λ x h. ⊎_elim (one x h) inr (above-or (sampleLayer d x) (in-places x h).0.0))
+    pub accepted_true : SampleTrue S f d i s ⊎ C
+    accepted_true =
+        all_or (λ x. symbol_in s x ≡ f (sample_layer d x) (sample_number S d i x)) C (sample_size d)
+        (λ x h. ⊎_elim (one x h) inr (above_or (sample_layer d x) (in_places x h).0.0))

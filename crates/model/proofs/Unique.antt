@@ -7,33 +7,33 @@ use native.Mathlib.Omega.{arith}
 use native.Mathlib.Decide.{dec_lt}
 use lib.ListN.{length, take, drop}
 use lib.Seq.{take_all}
-use Rattle.parity_table.specs.Table.{layerOf, equationOf}
+use Rattle.parity_table.specs.Table.{layer_of, equation_of}
 use Rattle.model.specs.Shape.{Shape, TreeOk}
-use Rattle.model.specs.Symbols.{xorOf, others, slot}
+use Rattle.model.specs.Symbols.{xor_of, others, slot}
 use Rattle.model.specs.Coded.{Same, Coded}
-use Rattle.model.proofs.Bytes.{sym-cancel}
-use Rattle.model.proofs.Members.{xorOf-same, length_rest}
+use Rattle.model.proofs.Bytes.{sym_cancel}
+use Rattle.model.proofs.Members.{xor_of-same, length_rest}
 use Rattle.model.proofs.Tables.{TableFits}
-use Rattle.model.proofs.Flat.{pieces-same}
+use Rattle.model.proofs.Flat.{pieces_same}
 
 -- eight equal hashes make equal symbols
 slots_same : (a b : List ℕ) → length a ≡ 256 → length b ≡ 256 → ((c : ℕ) → c < 8 → slot a c ≡ slot b c) → a ≡ b
 unfolding slot
 slots_same a b ha hb h =
     sym (take_all 256 a (omega arith))
-    ∙ pieces-same 32 0 a b 8 (λ c k. subst (λ (o : ℕ). take 32 (drop o a) ≡ take 32 (drop o b)) (sym (zero-add (32 * c))) (h c k))
+    ∙ pieces_same 32 0 a b 8 (λ c k. subst (λ (o : ℕ). take 32 (drop o a) ≡ take 32 (drop o b)) (sym (zero-add (32 * c))) (h c k))
     ∙ take_all 256 b (omega arith)
 
 module _ (S : Shape) (sh : TreeOk S) (H : ℕ → ℕ → List ℕ → List ℕ) (tbl : List (List (List ℕ))) (ok : TableFits S tbl) where
   -- a parity symbol is the exclusive-or of the other members of its equation
-  parity-is : (f : ℕ → ℕ → List ℕ) → Coded S H tbl f → (j e : ℕ) → j < length tbl → e < length (layerOf tbl j)
-      → xorOf (f j) (others (S.k j + e) (equationOf tbl j e)) ≡ f j (S.k j + e)
-  parity-is f c j e hj he =
+  parity_is : (f : ℕ → ℕ → List ℕ) → Coded S H tbl f → (j e : ℕ) → j < length tbl → e < length (layer_of tbl j)
+      → xor_of (f j) (others (S.k j + e) (equation_of tbl j e)) ≡ f j (S.k j + e)
+  parity_is f c j e hj he =
       let z : ℕ = S.k j + e in
       let hz : z < S.n j = omega (arith, ok.full j hj) in
       let l = ok.last j e hj he in
-      sym-cancel (f j z) (xorOf (f j) (others z (equationOf tbl j e))) (c.sized j z (hj, hz))
-      (length_rest z (equationOf tbl j e) l (f j) (λ y k. c.sized j y (hj, omega arith)))
+      sym_cancel (f j z) (xor_of (f j) (others z (equation_of tbl j e))) (c.sized j z (hj, hz))
+      (length_rest z (equation_of tbl j e) l (f j) (λ y k. c.sized j y (hj, omega arith)))
       (sym (l.apart (f j)) ∙ c.holds j e hj he)
 
   module _ (f g : ℕ → ℕ → List ℕ) (cf : Coded S H tbl f) (cg : Coded S H tbl g) where
@@ -46,16 +46,16 @@ module _ (S : Shape) (sh : TreeOk S) (H : ℕ → ℕ → List ℕ → List ℕ)
           | no q ↦
               let e : ℕ = i - S.k j in
               let at : S.k j + e ≡ i = omega arith in
-              let he : e < length (layerOf tbl j) = omega (arith, ok.full j hj) in
+              let he : e < length (layer_of tbl j) = omega (arith, ok.full j hj) in
               let z : ℕ = S.k j + e in
-              let rest : xorOf (f j) (others z (equationOf tbl j e)) ≡ xorOf (g j) (others z (equationOf tbl j e)) =
-              xorOf-same (f j) (g j) z (λ y w. layer-same j hj dt b y (omega arith) (omega arith)) (others z (equationOf tbl j e)) (ok.last j e hj he).below in
-              ap (f j) (sym at) ∙ sym (parity-is f cf j e hj he) ∙ rest ∙ parity-is g cg j e hj he ∙ ap (g j) at
+              let rest : xor_of (f j) (others z (equation_of tbl j e)) ≡ xor_of (g j) (others z (equation_of tbl j e)) =
+              xor_of-same (f j) (g j) z (λ y w. layer-same j hj dt b y (omega arith) (omega arith)) (others z (equation_of tbl j e)) (ok.last j e hj he).below in
+              ap (f j) (sym at) ∙ sym (parity_is f cf j e hj he) ∙ rest ∙ parity_is g cg j e hj he ∙ ap (g j) at
         ]
 
     -- a layer determines the data symbols of the one above
-    data-same : (j : ℕ) → suc j < length tbl → ((i : ℕ) → i < S.n (suc j) → f (suc j) i ≡ g (suc j) i) → (y : ℕ) → y < S.k j → f j y ≡ g j y
-    data-same j hj below y hy =
+    data_same : (j : ℕ) → suc j < length tbl → ((i : ℕ) → i < S.n (suc j) → f (suc j) i ≡ g (suc j) i) → (y : ℕ) → y < S.k j → f j y ≡ g j y
+    data_same j hj below y hy =
         let inside : (j < length tbl) × (y < S.n j) = (omega arith, omega (arith, sh.shape.within j)) in
         slots_same (f j y) (g j y) (cf.sized j y inside) (cg.sized j y inside)
         (λ c hc.
@@ -73,7 +73,7 @@ module _ (S : Shape) (sh : TreeOk S) (H : ℕ → ℕ → List ℕ → List ℕ)
         layer-same l (omega (arith, ok.deep)) (subst (λ (z : ℕ). (y : ℕ) → y < S.k z → f z y ≡ g z y) (omega arith) dt) (suc i) i (omega arith) h
     up_same dt (suc m) l e i h =
         let hl : suc l < length tbl = omega (arith, ok.deep) in
-        layer-same l (omega arith) (data-same l hl (λ k hk. up_same dt m (suc l) (omega arith) k hk)) (suc i) i (omega arith) h
+        layer-same l (omega arith) (data_same l hl (λ k hk. up_same dt m (suc l) (omega arith) k hk)) (suc i) i (omega arith) h
 
     -- two correctly coded trees with the same base data are the same
     pub coded-same : ((y : ℕ) → y < S.k (length tbl - 1) → f (length tbl - 1) y ≡ g (length tbl - 1) y) → Same S tbl f g

@@ -1,7 +1,7 @@
 -- Ends of repairs compared. Statements only.
 use Rattle.std.specs.Prelude.{◌≡◌, ◌≢◌, List, ℕ, ◌<◌, length, get_or}
 use Rattle.model.specs.Shape.{Shape, place}
-use Rattle.model.specs.Symbols.{symAt}
+use Rattle.model.specs.Symbols.{sym_at}
 use Rattle.model.specs.Repair.{End, working, whole, fault, unavailable, twins, St}
 
 -- the kind of an end, fault and twins counting as one kind, and its layer
@@ -22,7 +22,7 @@ module _ (S : Shape) (tbl : List (List (List ℕ))) where
   -- layer l has the same marks and the same symbols in two trees
   pub record SameLayer (t m t' m' : List ℕ) (l : ℕ) : Type 0 where
     pub marks : (i : ℕ) → i < S.n l → get_or m (place S l i) 0 ≡ get_or m' (place S l i) 0
-    pub symbols : (i : ℕ) → i < S.n l → symAt S t l i ≡ symAt S t' l i
+    pub symbols : (i : ℕ) → i < S.n l → sym_at S t l i ≡ sym_at S t' l i
 
   -- the same tree and marks were lent
   abbrev pub SameLent : List ℕ → List ℕ → List ℕ → List ℕ → Type 0

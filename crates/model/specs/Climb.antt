@@ -31,11 +31,11 @@ Says fits layer x m (breaks j) = (y : ℕ) × First fits x m y × (layer y ≡ j
 -- what they come to
 pub data Ways : Type 0 where
   -- each leads to the root
-  allLead : Ways
+  all_lead : Ways
   -- the first that doesn't: the layer where it breaks, and its position
-  breakAt : (layer position : ℕ) → Ways
+  break_at : (layer position : ℕ) → Ways
 
 -- the way at position p, then those after it
-unfoldable pub firstBreak : ℕ → Climb → Ways → Ways
-firstBreak p leads later = later
-firstBreak p (breaks l) later = breakAt l p
+unfoldable pub first_break : ℕ → Climb → Ways → Ways
+first_break p leads later = later
+first_break p (breaks l) later = break_at l p

@@ -11,8 +11,8 @@ joined g x zero = []
 joined g x (suc m) = g x ++ joined g (suc x) m
 
 -- symbol x of symbols that stand one after the other: "A symbol is 256 bytes"
-unfoldable pub symbolIn : List ℕ → ℕ → List ℕ
-symbolIn c x = take 256 (drop (256 * x) c)
+unfoldable pub symbol_in : List ℕ → ℕ → List ℕ
+symbol_in c x = take 256 (drop (256 * x) c)
 
 -- ---- exclusive-or
 
@@ -21,9 +21,9 @@ unfoldable pub zeros : List ℕ
 zeros = replicate 256 0
 
 -- the exclusive-or of the symbols f x, x one of the numbers
-unfoldable pub xorOf : (ℕ → List ℕ) → List ℕ → List ℕ
-xorOf f [] = zeros
-xorOf f (x ∷ xs) = xors (f x) (xorOf f xs)
+unfoldable pub xor_of : (ℕ → List ℕ) → List ℕ → List ℕ
+xor_of f [] = zeros
+xor_of f (x ∷ xs) = xors (f x) (xor_of f xs)
 
 -- the numbers other than x, in order
 unfoldable pub others : ℕ → List ℕ → List ℕ
@@ -66,8 +66,8 @@ module _ (S : Shape) where
   -- ---- the tree buffer
 
   -- symbol i of layer j
-  unfoldable pub symAt : List ℕ → ℕ → ℕ → List ℕ
-  symAt t j i = symbolIn t (place S j i)
+  unfoldable pub sym_at : List ℕ → ℕ → ℕ → List ℕ
+  sym_at t j i = symbol_in t (place S j i)
 
   -- the tree with v for symbol i of layer j
   unfoldable pub put_at : List ℕ → ℕ → ℕ → List ℕ → List ℕ

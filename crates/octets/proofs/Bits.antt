@@ -6,17 +6,17 @@ use lib.Bits.{bit_and, bit_xor, and_shr, and_mod, xor_shr, xor_mod}
 
 -- ---- halves and last bits
 
-pub xor-half : (a b : ℕ) → bit_xor a b / 2 ≡ bit_xor (a / 2) (b / 2)
-xor-half a b = xor_shr a b 1
+pub xor_half : (a b : ℕ) → bit_xor a b / 2 ≡ bit_xor (a / 2) (b / 2)
+xor_half a b = xor_shr a b 1
 
-pub xor-bit : (a b : ℕ) → bit_xor a b % 2 ≡ bit_xor (a % 2) (b % 2)
-xor-bit a b = xor_mod a b 1
+pub xor_bit : (a b : ℕ) → bit_xor a b % 2 ≡ bit_xor (a % 2) (b % 2)
+xor_bit a b = xor_mod a b 1
 
-pub and-half : (a b : ℕ) → bit_and a b / 2 ≡ bit_and (a / 2) (b / 2)
-and-half a b = and_shr a b 1
+pub and_half : (a b : ℕ) → bit_and a b / 2 ≡ bit_and (a / 2) (b / 2)
+and_half a b = and_shr a b 1
 
-pub and-bit : (a b : ℕ) → bit_and a b % 2 ≡ bit_and (a % 2) (b % 2)
-and-bit a b = and_mod a b 1
+pub and_bit : (a b : ℕ) → bit_and a b % 2 ≡ bit_and (a % 2) (b % 2)
+and_bit a b = and_mod a b 1
 
 bit-cases : (P : ℕ → Type 0) → P 0 → P 1 → (r : ℕ) → r < 2 → P r
 bit-cases P p q zero h = p
@@ -64,21 +64,21 @@ module _ (f g : ℕ → ℕ → ℕ → ℕ) (fb : Bitwise f) (gb : Bitwise g) (
       fb.last x y z ∙ bits (x % 2) (y % 2) (z % 2) (omega arith) (omega arith) (omega arith) ∙ sym (gb.last x y z) in
       omega arith
 
-  pub bitwise-equal : (x y z : ℕ) → f x y z ≡ g x y z
-  bitwise-equal x y z = up_to (x + y + z) x y z (omega arith) (omega arith) (omega arith)
+  pub bitwise_equal : (x y z : ℕ) → f x y z ≡ g x y z
+  bitwise_equal x y z = up_to (x + y + z) x y z (omega arith) (omega arith) (omega arith)
 
 -- ---- exclusive-or and conjunction
 
 pub xor_assoc : (x y z : ℕ) → bit_xor (bit_xor x y) z ≡ bit_xor x (bit_xor y z)
 xor_assoc =
-    bitwise-equal (λ x y z. bit_xor (bit_xor x y) z) (λ x y z. bit_xor x (bit_xor y z))
-    (record { half = λ x y z. simp xor-half; last = λ x y z. simp xor-bit })
-    (record { half = λ x y z. simp xor-half; last = λ x y z. simp xor-bit })
+    bitwise_equal (λ x y z. bit_xor (bit_xor x y) z) (λ x y z. bit_xor x (bit_xor y z))
+    (record { half = λ x y z. simp xor_half; last = λ x y z. simp xor_bit })
+    (record { half = λ x y z. simp xor_half; last = λ x y z. simp xor_bit })
     (record { b000 = refl; b001 = refl; b010 = refl; b011 = refl; b100 = refl; b101 = refl; b110 = refl; b111 = refl })
 
 pub and_xor : (x y z : ℕ) → bit_and (bit_xor x y) z ≡ bit_xor (bit_and x z) (bit_and y z)
 and_xor =
-    bitwise-equal (λ x y z. bit_and (bit_xor x y) z) (λ x y z. bit_xor (bit_and x z) (bit_and y z))
-    (record { half = λ x y z. simp (and-half, xor-half); last = λ x y z. simp (and-bit, xor-bit) })
-    (record { half = λ x y z. simp (and-half, xor-half); last = λ x y z. simp (and-bit, xor-bit) })
+    bitwise_equal (λ x y z. bit_and (bit_xor x y) z) (λ x y z. bit_xor (bit_and x z) (bit_and y z))
+    (record { half = λ x y z. simp (and_half, xor_half); last = λ x y z. simp (and_bit, xor_bit) })
+    (record { half = λ x y z. simp (and_half, xor_half); last = λ x y z. simp (and_bit, xor_bit) })
     (record { b000 = refl; b001 = refl; b010 = refl; b011 = refl; b100 = refl; b101 = refl; b110 = refl; b111 = refl })

@@ -12,10 +12,10 @@ use Rattle.octets.specs.BigEndian.{be, words, bytes_of}
 low_or : (k x n y : ℕ) → n ≡ x * 2 ^ k → y < 2 ^ k → bit_or n y ≡ n + y
 low_or k x n y e h = rw e (or_shifted x k y h)
 
-pub join-sum : (a b c d : ℕ) → a < 256 → b < 256 → c < 256 → d < 256
+pub join_sum : (a b c d : ℕ) → a < 256 → b < 256 → c < 256 → d < 256
     → bit_or (bit_or (bit_or (a * 2 ^ 24 % 2 ^ 32) (b * 2 ^ 16 % 2 ^ 32)) (c * 2 ^ 8 % 2 ^ 32)) d
     ≡ a * 2 ^ 24 + b * 2 ^ 16 + c * 2 ^ 8 + d
-join-sum a b c d ha hb hc hd =
+join_sum a b c d ha hb hc hd =
     let e1 : a * 2 ^ 24 % 2 ^ 32 ≡ a * 2 ^ 24 = omega arith in
     let e2 : b * 2 ^ 16 % 2 ^ 32 ≡ b * 2 ^ 16 = omega arith in
     let e3 : c * 2 ^ 8 % 2 ^ 32 ≡ c * 2 ^ 8 = omega arith in
@@ -27,11 +27,11 @@ join-sum a b c d ha hb hc hd =
     rw (e1, e2, e3, o1, o2, o3)
 
 -- four stores are the run of stores of a word's bytes
-pub put-sets : (l : List ℕ) (at x : ℕ)
+pub put_sets : (l : List ℕ) (at x : ℕ)
     → set (set (set (set l at (x / 16777216 % 256)) (at + 1) (x / 65536 % 256)) (at + 2) (x / 256 % 256)) (at + 3) (x % 256)
     ≡ sets l at (be 4 x)
 unfolding be
-put-sets l at x =
+put_sets l at x =
     let e1 : at + 1 ≡ suc at = omega arith in
     let e2 : at + 2 ≡ suc (suc at) = omega arith in
     let e3 : at + 3 ≡ suc (suc (suc at)) = omega arith in
@@ -48,7 +48,7 @@ unfolding words
 length-words b zero = refl
 length-words b (suc n) = simp length-append (omega (arith, length-words b n))
 
-pub length-bytesOf : (ws : List ℕ) → length (bytes_of ws) ≡ length ws * 4
+pub length-bytes_of : (ws : List ℕ) → length (bytes_of ws) ≡ length ws * 4
 unfolding bytes_of
-length-bytesOf [] = refl
-length-bytesOf (x ∷ xs) = simp length-append (omega (arith, length-be 4 x, length-bytesOf xs))
+length-bytes_of [] = refl
+length-bytes_of (x ∷ xs) = simp length-append (omega (arith, length-be 4 x, length-bytes_of xs))

@@ -3,9 +3,9 @@ use mathlib.Core.Path.{◌≡◌, refl, sym, ap₂, ◌∙◌}
 use mathlib.Core.Bool.{Bool, true, false, not, ◌&&◌, true≢false, false≢true}
 use Rattle.octets.specs.Choice.{pick}
 
-pub by-test {ℓ} : {X : Type ℓ} (b : Bool) → (b ≡ true → X) → (b ≡ false → X) → X
-by-test true f g = f refl
-by-test false f g = g refl
+pub by_test {ℓ} : {X : Type ℓ} (b : Bool) → (b ≡ true → X) → (b ≡ false → X) → X
+by_test true f g = f refl
+by_test false f g = g refl
 
 pub pick_yes {ℓ} : {X : Type ℓ} (b : Bool) (x y : X) → b ≡ true → pick b x y ≡ x
 unfolding pick
@@ -37,6 +37,6 @@ pub not_yes : (a : Bool) → not a ≡ true → a ≡ false
 not_yes true t = absurd (false≢true t)
 not_yes false t = refl
 
-pub not-no : (a : Bool) → not a ≡ false → a ≡ true
-not-no true t = refl
-not-no false t = absurd (true≢false t)
+pub not_no : (a : Bool) → not a ≡ false → a ≡ true
+not_no true t = refl
+not_no false t = absurd (true≢false t)

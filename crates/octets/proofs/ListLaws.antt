@@ -26,20 +26,20 @@ module _ (l : List ℕ) (at n : ℕ) (inside : at + n ≤ length l) where
   length_part = simp (length-take, length-drop) (omega arith)
 
 -- its end being computed from its start
-pub part-ends : (l : List ℕ) (at n : ℕ) → take (at + n - at) (drop at l) ≡ take n (drop at l)
-part-ends l at n = let e : at + n - at ≡ n = omega arith in rw e
+pub part_ends : (l : List ℕ) (at n : ℕ) → take (at + n - at) (drop at l) ≡ take n (drop at l)
+part_ends l at n = let e : at + n - at ≡ n = omega arith in rw e
 
 pub get_d_part : (l : List ℕ) (at n i : ℕ) → i < n → get_or (take n (drop at l)) i 0 ≡ get_or l (at + i) 0
 get_d_part l at n i h = rw (get_or-take, get_or-drop)
 
 -- ---- filled
 
-replicate-snoc : (n x : ℕ) → replicate n x ++ (x ∷ []) ≡ replicate (suc n) x
-replicate-snoc zero x = refl
-replicate-snoc (suc n) x = ap (λ v. x ∷ v) (replicate-snoc n x)
+replicate_snoc : (n x : ℕ) → replicate n x ++ (x ∷ []) ≡ replicate (suc n) x
+replicate_snoc zero x = refl
+replicate_snoc (suc n) x = ap (λ v. x ∷ v) (replicate_snoc n x)
 
 pub fill_more : (l : List ℕ) (i x : ℕ) → i < length l → take i l ≡ replicate i x → take (i + 1) (set l i x) ≡ replicate (i + 1) x
-fill_more l i x h e = rw (add-one, take-suc-set l i x h, e) (replicate-snoc i x)
+fill_more l i x h e = rw (add-one, take-suc-set l i x h, e) (replicate_snoc i x)
 
 -- ---- compared
 
@@ -58,25 +58,25 @@ same_end a b i ha hb = ap₂ same (drop_of_length-le a ha) (drop_of_length-le b 
 
 -- ---- zeros, by the greatest byte
 
-max-zero : (a b : ℕ) → eqb (max a b) 0 ≡ (eqb a 0 && eqb b 0)
-max-zero zero b = simp unary_clauses refl
-max-zero (suc a) b = rw (ne_eqb (max (suc a) b) 0 (λ e. omega arith), ne_eqb (suc a) 0 (λ e. omega arith))
+max_zero : (a b : ℕ) → eqb (max a b) 0 ≡ (eqb a 0 && eqb b 0)
+max_zero zero b = simp unary_clauses refl
+max_zero (suc a) b = rw (ne_eqb (max (suc a) b) 0 (λ e. omega arith), ne_eqb (suc a) 0 (λ e. omega arith))
 
 -- one byte more
-zero-snoc : (l : List ℕ) (i : ℕ) → i < length l → same (take (suc i) l) (replicate (suc i) 0) ≡ (same (take i l) (replicate i 0) && eqb (get_or l i 0) 0)
+zero_snoc : (l : List ℕ) (i : ℕ) → i < length l → same (take (suc i) l) (replicate (suc i) 0) ≡ (same (take i l) (replicate i 0) && eqb (get_or l i 0) 0)
 unfolding same
-zero-snoc [] i h = absurd (omega arith)
-zero-snoc (x ∷ xs) zero h = and-true (eqb x 0)
-zero-snoc (x ∷ xs) (suc i) h =
-    ap (λ (b : Bool). eqb x 0 && b) (zero-snoc xs i (omega arith)) ∙ sym (and_assoc (eqb x 0) (same (take i xs) (replicate i 0)) (eqb (get_or xs i 0) 0))
+zero_snoc [] i h = absurd (omega arith)
+zero_snoc (x ∷ xs) zero h = and-true (eqb x 0)
+zero_snoc (x ∷ xs) (suc i) h =
+    ap (λ (b : Bool). eqb x 0 && b) (zero_snoc xs i (omega arith)) ∙ sym (and_assoc (eqb x 0) (same (take i xs) (replicate i 0)) (eqb (get_or xs i 0) 0))
 
 pub zero_turn : (l : List ℕ) (i m r : ℕ) → i < length l → r ≡ max m (get_or l i 0) → same (take i l) (replicate i 0) ≡ eqb m 0
     → same (take (i + 1) l) (replicate (i + 1) 0) ≡ eqb r 0
 zero_turn l i m r h er e =
-    rw add-one (zero-snoc l i h ∙ ap (λ (b : Bool). b && eqb (get_or l i 0) 0) e ∙ sym (max-zero m (get_or l i 0)) ∙ ap (λ (n : ℕ). eqb n 0) (sym er))
+    rw add-one (zero_snoc l i h ∙ ap (λ (b : Bool). b && eqb (get_or l i 0) 0) e ∙ sym (max_zero m (get_or l i 0)) ∙ ap (λ (n : ℕ). eqb n 0) (sym er))
 
-pub zero-end : (l : List ℕ) (i m : ℕ) → i ≡ length l → same (take i l) (replicate i 0) ≡ eqb m 0 → eqb m 0 ≡ same l (replicate (length l) 0)
-zero-end l i m h e = sym e ∙ ap₂ (λ (q : List ℕ) (n : ℕ). same q (replicate n 0)) (take_all i l (omega arith)) h
+pub zero_end : (l : List ℕ) (i m : ℕ) → i ≡ length l → same (take i l) (replicate i 0) ≡ eqb m 0 → eqb m 0 ≡ same l (replicate (length l) 0)
+zero_end l i m h e = sym e ∙ ap₂ (λ (q : List ℕ) (n : ℕ). same q (replicate n 0)) (take_all i l (omega arith)) h
 
 -- ---- exclusive-or
 
@@ -86,12 +86,12 @@ length-xors [] ys = omega arith
 length-xors (x ∷ xs) [] = omega arith
 length-xors (x ∷ xs) (y ∷ ys) = omega (arith, length-xors xs ys)
 
-pub getD-xors : (a b : List ℕ) (k : ℕ) → k < length a → k < length b → get_or (xors a b) k 0 ≡ bit_xor (get_or a k 0) (get_or b k 0)
+pub get_d_xors : (a b : List ℕ) (k : ℕ) → k < length a → k < length b → get_or (xors a b) k 0 ≡ bit_xor (get_or a k 0) (get_or b k 0)
 unfolding xors
-getD-xors [] b k h g = absurd (omega arith)
-getD-xors (x ∷ xs) [] k h g = absurd (omega arith)
-getD-xors (x ∷ xs) (y ∷ ys) zero h g = refl
-getD-xors (x ∷ xs) (y ∷ ys) (suc k) h g = getD-xors xs ys k (omega arith) (omega arith)
+get_d_xors [] b k h g = absurd (omega arith)
+get_d_xors (x ∷ xs) [] k h g = absurd (omega arith)
+get_d_xors (x ∷ xs) (y ∷ ys) zero h g = refl
+get_d_xors (x ∷ xs) (y ∷ ys) (suc k) h g = get_d_xors xs ys k (omega arith) (omega arith)
 
 -- a is a₀ with its first i bytes taken together with those of s
 pub record XorSo (a₀ s a : List ℕ) (i : ℕ) : Type 0 where
@@ -99,12 +99,12 @@ pub record XorSo (a₀ s a : List ℕ) (i : ℕ) : Type 0 where
   pub done : (k : ℕ) → k < i → k < length a₀ → get_or a k 0 ≡ get_or (xors a₀ s) k 0
   pub left : (k : ℕ) → i ≤ k → get_or a k 0 ≡ get_or a₀ k 0
 
-pub xor-start : (a₀ s : List ℕ) → XorSo a₀ s a₀ 0
-xor-start a₀ s = record { sized = refl; done = λ k h l. absurd (omega arith); left = λ k h. refl }
+pub xor_start : (a₀ s : List ℕ) → XorSo a₀ s a₀ 0
+xor_start a₀ s = record { sized = refl; done = λ k h l. absurd (omega arith); left = λ k h. refl }
 
-pub xor-turn : (a₀ s a : List ℕ) (i v : ℕ) → length s ≡ length a₀ → i < length a₀ → v ≡ get_or s i 0 → XorSo a₀ s a i
+pub xor_turn : (a₀ s a : List ℕ) (i v : ℕ) → length s ≡ length a₀ → i < length a₀ → v ≡ get_or s i 0 → XorSo a₀ s a i
     → XorSo a₀ s (set a i (bit_xor (get_or a i 0) v)) (i + 1)
-xor-turn a₀ s a i v hs hi hv x =
+xor_turn a₀ s a i v hs hi hv x =
     record {
       sized = length-set a i (bit_xor (get_or a i 0) v) ∙ x.sized;
       done = λ k h l. elim (dec_lt k i) [
@@ -114,13 +114,13 @@ xor-turn a₀ s a i v hs hi hv x =
             ap (λ n. get_or (set a i (bit_xor (get_or a i 0) v)) n 0) e
             ∙ get_or-set_same a i (bit_xor (get_or a i 0) v) 0 (omega (arith, x.sized))
             ∙ ap₂ bit_xor (x.left i (omega arith)) hv
-            ∙ sym (getD-xors a₀ s i hi (omega arith))
+            ∙ sym (get_d_xors a₀ s i hi (omega arith))
             ∙ sym (ap (λ n. get_or (xors a₀ s) n 0) e)
       ];
       left = λ k h. get_or-set_other a i k (bit_xor (get_or a i 0) v) 0 (λ e. omega arith) ∙ x.left k (omega arith);
     }
 
-pub xor-end : (a₀ s a : List ℕ) (i : ℕ) → length s ≡ length a₀ → length a₀ ≤ i → XorSo a₀ s a i → a ≡ xors a₀ s
-xor-end a₀ s a i hs hi x =
+pub xor_end : (a₀ s a : List ℕ) (i : ℕ) → length s ≡ length a₀ → length a₀ ≤ i → XorSo a₀ s a i → a ≡ xors a₀ s
+xor_end a₀ s a i hs hi x =
     ext_get_or 0 a (xors a₀ s) (omega (arith, x.sized, length-xors a₀ s))
     (λ k h. x.done k (omega (arith, x.sized)) (omega (arith, x.sized)))

@@ -17,12 +17,12 @@ pub record Putting (o₀ : List ℕ) (i₀ : ℕ) (W o : List ℕ) (i : ℕ) (R 
   pub long : length o ≡ length o₀
   pub gives : sets o i R ≡ sets o₀ i₀ W
 
-pub putting-start : (o₀ : List ℕ) (i₀ : ℕ) (W : List ℕ) → Putting o₀ i₀ W o₀ i₀ W
-putting-start o₀ i₀ W = record { ends = refl; long = refl; gives = refl }
+pub putting_start : (o₀ : List ℕ) (i₀ : ℕ) (W : List ℕ) → Putting o₀ i₀ W o₀ i₀ W
+putting_start o₀ i₀ W = record { ends = refl; long = refl; gives = refl }
 
-pub putting-step : {o₀ : List ℕ} {i₀ : ℕ} {W o : List ℕ} {i : ℕ} {R : List ℕ} → Putting o₀ i₀ W o i R → (xs ys : List ℕ) → R ≡ xs ++ ys
+pub putting_step : {o₀ : List ℕ} {i₀ : ℕ} {W o : List ℕ} {i : ℕ} {R : List ℕ} → Putting o₀ i₀ W o i R → (xs ys : List ℕ) → R ≡ xs ++ ys
     → (o' : List ℕ) (i' : ℕ) → o' ≡ sets o i xs → i' ≡ i + length xs → Putting o₀ i₀ W o' i' ys
-putting-step {o₀} {i₀} {W} {o} {i} {R} p xs ys q o' i' eo ei =
+putting_step {o₀} {i₀} {W} {o} {i} {R} p xs ys q o' i' eo ei =
     record {
       ends = omega (arith, p.ends, ap length q, length-append xs ys);
       long = ap length eo ∙ length-sets o i xs ∙ p.long;
@@ -34,13 +34,13 @@ putting-step {o₀} {i₀} {W} {o} {i} {R} p xs ys q o' i' eo ei =
           ∙ p.gives;
     }
 
-pub putting-room : {o₀ : List ℕ} {i₀ : ℕ} {W o : List ℕ} {i : ℕ} {R : List ℕ} → Putting o₀ i₀ W o i R → (xs ys : List ℕ) → R ≡ xs ++ ys
+pub putting_room : {o₀ : List ℕ} {i₀ : ℕ} {W o : List ℕ} {i : ℕ} {R : List ℕ} → Putting o₀ i₀ W o i R → (xs ys : List ℕ) → R ≡ xs ++ ys
     → i₀ + length W ≤ length o₀ → i + length xs ≤ length o
-putting-room p xs ys q h = omega (arith, p.ends, p.long, ap length q, length-append xs ys)
+putting_room p xs ys q h = omega (arith, p.ends, p.long, ap length q, length-append xs ys)
 
-pub putting-end : {o₀ : List ℕ} {i₀ : ℕ} {W o : List ℕ} {i : ℕ} {R : List ℕ} → Putting o₀ i₀ W o i R → R ≡ []
+pub putting_end : {o₀ : List ℕ} {i₀ : ℕ} {W o : List ℕ} {i : ℕ} {R : List ℕ} → Putting o₀ i₀ W o i R → R ≡ []
     → (i ≡ i₀ + length W) × (o ≡ sets o₀ i₀ W)
-putting-end {o₀} {i₀} {W} {o} {i} {R} p q = (omega (arith, p.ends, ap length q), ap (sets o i) (sym q) ∙ p.gives)
+putting_end {o₀} {i₀} {W} {o} {i} {R} p q = (omega (arith, p.ends, ap length q), ap (sets o i) (sym q) ∙ p.gives)
 
 -- a list that is written over whole
 pub sets-whole : (W o : List ℕ) → length o ≡ length W → sets o 0 W ≡ W

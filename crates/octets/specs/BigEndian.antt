@@ -7,13 +7,13 @@ be zero x = []
 be (suc n) x = x / 2 ^ (n * 8) % 256 ∷ be n x
 
 -- the 32-bit word in the four bytes from byte i on
-unfoldable pub wordAt : List ℕ → ℕ → ℕ
-wordAt b i = get_or b i 0 * 2 ^ 24 + get_or b (i + 1) 0 * 2 ^ 16 + get_or b (i + 2) 0 * 2 ^ 8 + get_or b (i + 3) 0
+unfoldable pub word_at : List ℕ → ℕ → ℕ
+word_at b i = get_or b i 0 * 2 ^ 24 + get_or b (i + 1) 0 * 2 ^ 16 + get_or b (i + 2) 0 * 2 ^ 8 + get_or b (i + 3) 0
 
 -- the first n words
 unfoldable pub words : List ℕ → ℕ → List ℕ
 words b zero = []
-words b (suc n) = words b n ++ (wordAt b (n * 4) ∷ [])
+words b (suc n) = words b n ++ (word_at b (n * 4) ∷ [])
 
 -- words as bytes, four to a word
 unfoldable pub bytes_of : List ℕ → List ℕ

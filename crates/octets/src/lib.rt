@@ -5,7 +5,7 @@ mod lists;
 ghost use Rattle.std.specs.Prelude.{◌≡◌, ◌+◌, ◌*◌, ◌≤◌, ◌^◌, min, length};
 ghost use Rattle.std.proofs.lemmas.List.Edits.{sets};
 ghost use Rattle.std.proofs.Math.Seq.{paste};
-ghost use Rattle.octets.specs.BigEndian.{be, wordAt};
+ghost use Rattle.octets.specs.BigEndian.{be, word_at};
 
 pub use hex::put_hex;
 pub use lists::{equal_at, fill, fill_words, is_zero, xor_at};
@@ -27,7 +27,7 @@ fn joined(a: u8, b: u8, c: u8, d: u8) -> u32
 // The word in the four bytes from byte at on.
 pub fn word_at(s: &[u8], at: usize) -> u32
     requires { at + 4 ≤ length s.now }
-    ensures { result ≡ wordAt s.now at }
+    ensures { result ≡ word_at s.now at }
 {
     joined(s[at], s[at + 1], s[at + 2], s[at + 3])
 }

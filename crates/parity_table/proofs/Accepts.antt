@@ -12,40 +12,40 @@ use lib.Dec.{ltb}
 use borrow.Author.Tests.{ltb-true, ltb-false}
 use Rattle.parity_table.specs.declared.Answer.{Answer}
 use Rattle.parity_table.specs.declared.Answer.TheVariants.{Depth, Length, Wrong, Whole}
-use Rattle.parity_table.specs.Shape.{maxDepth, depthFits, k_of}
-use Rattle.parity_table.specs.Table.{equationOf, TableOk, WellFormed, FirstWrong}
+use Rattle.parity_table.specs.Shape.{max_depth, depth_fits, k_of}
+use Rattle.parity_table.specs.Table.{equation_of, TableOk, WellFormed, FirstWrong}
 use Rattle.parity_table.specs.Reader.{layered, run, read_of}
 use Rattle.parity_table.specs.Right.{Right}
-use Rattle.parity_table.specs.Parse.{table_of, members_of, index_of, equationsAbove, number_in, HasEquation, Located}
-use Rattle.octets.proofs.ListLaws.{part-ends}
-use Rattle.octets.proofs.Choice.{by-test, pick_ind, pick_yes, pick_no, both}
+use Rattle.parity_table.specs.Parse.{table_of, members_of, index_of, equations_above, number_in, HasEquation, Located}
+use Rattle.octets.proofs.ListLaws.{part_ends}
+use Rattle.octets.proofs.Choice.{by_test, pick_ind, pick_yes, pick_no, both}
 use Rattle.parity_table.proofs.Run.{taken-formed, refused-first, run_ends}
-use Rattle.parity_table.proofs.Shape.{depth_is, k-grows, k-small}
-use Rattle.parity_table.proofs.Parse.{formed-rules, members-at, members-take, start_fits, number_lt, starts-count}
+use Rattle.parity_table.proofs.Shape.{depth_is, k_grows, k_small}
+use Rattle.parity_table.proofs.Parse.{formed-rules, members_at_lem, members-take, start_fits, number_lt, starts-count}
 
 -- ---- the reader is right
 
 pub read_right : (d : ℕ) (ws : List ℕ) → Right d ws (read_of d ws)
 unfolding read_of
 read_right d ws =
-    pick_ind (Right d ws) (depthFits d)
+    pick_ind (Right d ws) (depth_fits d)
     (λ t. run_ends d 0 (layered d 0) ws (Right d ws) (λ q. (t, taken-formed d ws q)) (λ r q. (t, refused-first d ws r q)))
     (λ t. t)
 
 -- what it computes, by the depth
-pub read-depth : (d : ℕ) (ws : List ℕ) → depthFits d ≡ false → Depth ≡ read_of d ws
+pub read-depth : (d : ℕ) (ws : List ℕ) → depth_fits d ≡ false → Depth ≡ read_of d ws
 unfolding read_of
-read-depth d ws t = sym (pick_no (depthFits d) _ _ t)
+read-depth d ws t = sym (pick_no (depth_fits d) _ _ t)
 
-pub read-run : (d : ℕ) (ws : List ℕ) → depthFits d ≡ true → run d 0 (layered d 0) ws ≡ read_of d ws
+pub read-run : (d : ℕ) (ws : List ℕ) → depth_fits d ≡ true → run d 0 (layered d 0) ws ≡ read_of d ws
 unfolding read_of
-read-run d ws t = sym (pick_yes (depthFits d) _ _ t)
+read-run d ws t = sym (pick_yes (depth_fits d) _ _ t)
 
 -- there is one first wrong word
-pub first-unique : (d : ℕ) (ws : List ℕ) (i j : ℕ) → FirstWrong d ws i → FirstWrong d ws j → i ≡ j
-first-unique d ws i j f g =
-    by-test (ltb i j) (λ t. absurd (less d ws i j f g (ltb-true i j t)))
-    (λ t. by-test (ltb j i) (λ u. absurd (less d ws j i g f (ltb-true j i u))) (λ u. omega (arith, ltb-false i j t, ltb-false j i u)))
+pub first_unique : (d : ℕ) (ws : List ℕ) (i j : ℕ) → FirstWrong d ws i → FirstWrong d ws j → i ≡ j
+first_unique d ws i j f g =
+    by_test (ltb i j) (λ t. absurd (less d ws i j f g (ltb-true i j t)))
+    (λ t. by_test (ltb j i) (λ u. absurd (less d ws j i g f (ltb-true j i u))) (λ u. omega (arith, ltb-false i j t, ltb-false j i u)))
   where
     less : (d : ℕ) (ws : List ℕ) (i j : ℕ) → FirstWrong d ws i → FirstWrong d ws j → i < j → ⊥
     less d ws i j f g h = f.wrong (omega (arith, g.within)) (g.before (suc i) h)
@@ -56,7 +56,7 @@ right_unique d ws Depth Depth p q = refl
 right_unique d ws Depth (Wrong j) p q = both q.0 p
 right_unique d ws Depth Whole p q = both q.0 p
 right_unique d ws (Wrong i) Depth p q = both p.0 q
-right_unique d ws (Wrong i) (Wrong j) p q = ap Wrong (first-unique d ws i j p.1 q.1)
+right_unique d ws (Wrong i) (Wrong j) p q = ap Wrong (first_unique d ws i j p.1 q.1)
 right_unique d ws (Wrong i) Whole p q = absurd (p.1.refused q.1)
 right_unique d ws Whole Depth p q = both p.0 q
 right_unique d ws Whole (Wrong j) p q = absurd (q.1.refused p.1)
@@ -67,26 +67,26 @@ right_unique d ws (Wrong i) Length p q = absurd q
 right_unique d ws Whole Length p q = absurd q
 
 -- the reader accepts exactly the well-formed lists, for a depth that there is
-pub accepted-formed : (d : ℕ) (ws : List ℕ) → read_of d ws ≡ Whole → (depthFits d ≡ true) × WellFormed d ws
+pub accepted-formed : (d : ℕ) (ws : List ℕ) → read_of d ws ≡ Whole → (depth_fits d ≡ true) × WellFormed d ws
 accepted-formed d ws e = subst (Right d ws) e (read_right d ws)
 
-pub formed-accepted : (d : ℕ) (ws : List ℕ) → depthFits d ≡ true → WellFormed d ws → read_of d ws ≡ Whole
+pub formed-accepted : (d : ℕ) (ws : List ℕ) → depth_fits d ≡ true → WellFormed d ws → read_of d ws ≡ Whole
 formed-accepted d ws t f = right_unique d ws (read_of d ws) Whole (read_right d ws) (t, f)
 
 -- .. and refuses any other at its first wrong word
-pub refused-wrong : (d : ℕ) (ws : List ℕ) (i : ℕ) → read_of d ws ≡ Wrong i → (depthFits d ≡ true) × FirstWrong d ws i
+pub refused-wrong : (d : ℕ) (ws : List ℕ) (i : ℕ) → read_of d ws ≡ Wrong i → (depth_fits d ≡ true) × FirstWrong d ws i
 refused-wrong d ws i e = subst (Right d ws) e (read_right d ws)
 
 -- ---- an accepted list
 
 module _ (d : ℕ) (ws : List ℕ) (r : read_of d ws ≡ Whole) where
-  pub accepted-depth : (1 ≤ d) × (d ≤ maxDepth)
+  pub accepted-depth : (1 ≤ d) × (d ≤ max_depth)
   accepted-depth = depth_is d (accepted-formed d ws r).0
 
   formed : WellFormed d ws
   formed = (accepted-formed d ws r).1
 
-  shallow : d ≤ maxDepth
+  shallow : d ≤ max_depth
   shallow = accepted-depth.1
 
   -- its table keeps the rules
@@ -94,53 +94,53 @@ module _ (d : ℕ) (ws : List ℕ) (r : read_of d ws ≡ Whole) where
   accepted-table = formed-rules d ws formed shallow
 
   -- its index has an entry for each equation
-  pub index-length : length (index_of ws) ≡ equationsAbove d
+  pub index-length : length (index_of ws) ≡ equations_above d
   index-length = starts-count d ws formed shallow
 
 -- ---- where equation e of layer j stands, by an index
 
 module _ (ws starts : List ℕ) (j e : ℕ) (x : HasEquation ws starts j e) where
-  formed-there : WellFormed x.depth ws
-  formed-there = (accepted-formed x.depth ws x.indexed.accepted).1
+  formed_there : WellFormed x.depth ws
+  formed_there = (accepted-formed x.depth ws x.indexed.accepted).1
 
-  shallow-there : x.depth ≤ maxDepth
-  shallow-there = (accepted-depth x.depth ws x.indexed.accepted).1
+  shallow_there : x.depth ≤ max_depth
+  shallow_there = (accepted-depth x.depth ws x.indexed.accepted).1
 
-  pub layer-known : j < maxDepth
-  layer-known = omega (arith, shallow-there, x.layer)
+  pub layer-known : j < max_depth
+  layer-known = omega (arith, shallow_there, x.layer)
 
-  number-there : number_in j e < length (index_of ws)
-  number-there = number_lt x.depth ws formed-there shallow-there j e x.layer x.equation
+  number_there : number_in j e < length (index_of ws)
+  number_there = number_lt x.depth ws formed_there shallow_there j e x.layer x.equation
 
-  pub start-known : number_in j e < length starts
-  start-known = omega (arith, number-there, ap length x.indexed.index, length-take (length (index_of ws)) starts)
+  pub start_known : number_in j e < length starts
+  start_known = omega (arith, number_there, ap length x.indexed.index, length-take (length (index_of ws)) starts)
 
   start_is : get_or starts (number_in j e) 0 ≡ get_or (index_of ws) (number_in j e) 0
   start_is =
-      sym (get_or-take (length (index_of ws)) starts (number_in j e) 0 number-there)
+      sym (get_or-take (length (index_of ws)) starts (number_in j e) 0 number_there)
       ∙ ap (λ (l : List ℕ). get_or l (number_in j e) 0) x.indexed.index
 
-  fits-there : get_or (index_of ws) (number_in j e) 0 + length (equationOf (table_of ws) j e) ≤ length ws
-  fits-there = start_fits x.depth ws formed-there shallow-there j e x.layer x.equation
+  fits_there : get_or (index_of ws) (number_in j e) 0 + length (equation_of (table_of ws) j e) ≤ length ws
+  fits_there = start_fits x.depth ws formed_there shallow_there j e x.layer x.equation
 
-  pub start-inside : get_or starts (number_in j e) 0 ≤ length ws
-  start-inside = omega (arith, start_is, fits-there)
+  pub start_inside : get_or starts (number_in j e) 0 ≤ length ws
+  start_inside = omega (arith, start_is, fits_there)
 
   pub located : Located ws j e (get_or starts (number_in j e) 0) (length (members_of (drop (get_or starts (number_in j e) 0) ws)))
   located =
       let at : ℕ = get_or starts (number_in j e) 0 in
-      let m : members_of (drop at ws) ≡ equationOf (table_of ws) j e =
+      let m : members_of (drop at ws) ≡ equation_of (table_of ws) j e =
       ap (λ (n : ℕ). members_of (drop n ws)) start_is
-      ∙ members-at x.depth ws formed-there shallow-there j e x.layer x.equation in
+      ∙ members_at_lem x.depth ws formed_there shallow_there j e x.layer x.equation in
       record {
-        inside = omega (arith, start_is, fits-there, ap length m);
+        inside = omega (arith, start_is, fits_there, ap length m);
         members = sym (members-take (drop at ws)) ∙ m;
       }
 
 -- its members, as a part of the words
-pub members-there : (ws : List ℕ) (j e at size : ℕ) → Located ws j e at size → take (at + size - at) (drop at ws) ≡ equationOf (table_of ws) j e
-members-there ws j e at size x = part-ends ws at size ∙ x.members
+pub members_there : (ws : List ℕ) (j e at size : ℕ) → Located ws j e at size → take (at + size - at) (drop at ws) ≡ equation_of (table_of ws) j e
+members_there ws j e at size x = part_ends ws at size ∙ x.members
 
 -- the number of an equation is computed with no loss
-pub number_small : (j e : ℕ) → j < maxDepth → e < 3 * k_of j → (k_of 0 ≤ k_of j) × (k_of j ≤ 4 * 2 ^ maxDepth)
-number_small j e h g = (omega (arith, k-grows 0 j, ap k_of (zero-add j)), k-small j h)
+pub number_small : (j e : ℕ) → j < max_depth → e < 3 * k_of j → (k_of 0 ≤ k_of j) × (k_of j ≤ 4 * 2 ^ max_depth)
+number_small j e h g = (omega (arith, k_grows 0 j, ap k_of (zero-add j)), k_small j h)

@@ -7,23 +7,23 @@ use lib.ListN.{length, take, length-append}
 use lib.Seq.{length-take-le, take_all, take-take}
 use lib.Dec.{leb}
 use borrow.Author.Tests.{leb-true, leb-false}
-use Rattle.octets.proofs.Choice.{by-test}
+use Rattle.octets.proofs.Choice.{by_test}
 use Rattle.parity_table.specs.declared.Answer.{Answer}
 use Rattle.parity_table.specs.declared.Answer.TheVariants.{Depth, Length, Wrong, Whole}
 use Rattle.parity_table.specs.Table.{Begins, FirstWrong}
 use Rattle.parity_table.specs.Reader.{read_of}
 use Rattle.parity_table.specs.Right.{Right}
 use Rattle.parity_table.specs.Longest.{longest}
-use Rattle.parity_table.proofs.Longest.{none-longer}
+use Rattle.parity_table.proofs.Longest.{none_longer}
 use Rattle.parity_table.proofs.Accepts.{read_right, right_unique, accepted-formed}
 
 -- an accepted list has no more words than the longest table
 pub accepted-short : (d : ℕ) (ws : List ℕ) → read_of d ws ≡ Whole → length ws ≤ longest d
-accepted-short d ws r = none-longer d ws (accepted-formed d ws r).1
+accepted-short d ws r = none_longer d ws (accepted-formed d ws r).1
 
 -- no table begins with more words than the longest has
-begins-short : (d : ℕ) (ws : List ℕ) → Begins d ws → length ws ≤ longest d
-begins-short d ws b = omega (arith, none-longer d (ws ++ b.more) b.formed, length-append ws b.more)
+begins_short : (d : ℕ) (ws : List ℕ) → Begins d ws → length ws ≤ longest d
+begins_short d ws b = omega (arith, none_longer d (ws ++ b.more) b.formed, length-append ws b.more)
 
 -- ---- a list with w words or more, w being more than the longest table has
 
@@ -34,10 +34,10 @@ module _ (d w : ℕ) (ws : List ℕ) (past : longest d < w) (long : w ≤ length
   -- its front's first wrong word is one of these w
   place_inside : (i : ℕ) → FirstWrong d (take w ws) i → i < w
   place_inside i f =
-      by-test (leb w i)
+      by_test (leb w i)
       (λ t.
       let h : w ≤ i = leb-true w i t in
-      absurd (omega (arith, begins-short d (take w (take w ws)) (f.before w h), length-take-le w (take w ws) (omega (arith, front_length)))))
+      absurd (omega (arith, begins_short d (take w (take w ws)) (f.before w h), length-take-le w (take w ws) (omega (arith, front_length)))))
       (λ t. leb-false w i t)
 
   -- .. and the list's
@@ -48,7 +48,7 @@ module _ (d w : ℕ) (ws : List ℕ) (past : longest d < w) (long : w ≤ length
         within = omega arith;
         before = λ n g. subst (Begins d) (take-take n w ws (omega arith)) (f.before n g);
         wrong = λ g b. f.wrong (omega (arith, front_length)) (subst (Begins d) (sym (take-take (suc i) w ws h)) b);
-        refused = λ g. absurd (omega (arith, none-longer d ws g));
+        refused = λ g. absurd (omega (arith, none_longer d ws g));
       }
 
   -- what is right of its front is right of it
@@ -56,7 +56,7 @@ module _ (d w : ℕ) (ws : List ℕ) (past : longest d < w) (long : w ≤ length
   front-right Depth r = r
   front-right Length r = r
   front-right (Wrong i) r = (r.0, front-wrong i r.1)
-  front-right Whole r = absurd (omega (arith, none-longer d (take w ws) r.1, front_length))
+  front-right Whole r = absurd (omega (arith, none_longer d (take w ws) r.1, front_length))
 
   front_same : read_of d (take w ws) ≡ read_of d ws
   front_same = right_unique d ws (read_of d (take w ws)) (read_of d ws) (front-right (read_of d (take w ws)) (read_right d (take w ws))) (read_right d ws)
@@ -64,5 +64,5 @@ module _ (d w : ℕ) (ws : List ℕ) (past : longest d < w) (long : w ≤ length
 -- the reader answers of any list what it answers of its front
 pub read-front : (d w : ℕ) (ws : List ℕ) → longest d < w → read_of d (take w ws) ≡ read_of d ws
 read-front d w ws h =
-    by-test (leb w (length ws)) (λ t. front_same d w ws h (leb-true w (length ws) t))
+    by_test (leb w (length ws)) (λ t. front_same d w ws h (leb-true w (length ws) t))
     (λ t. ap (read_of d) (take_all w ws (omega (arith, leb-false w (length ws) t))))

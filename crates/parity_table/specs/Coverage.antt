@@ -2,21 +2,21 @@
 use Rattle.std.specs.Prelude.{◌≡◌, ◌≢◌, List, ℕ, ◌*◌, ◌<◌}
 use Rattle.parity_table.specs.Shape.{k_of}
 use Rattle.parity_table.specs.Members.{IsMember}
-use Rattle.parity_table.specs.Table.{equationOf}
+use Rattle.parity_table.specs.Table.{equation_of}
 
 -- equation e of layer j has symbol i as a member
 abbrev pub Mentions : List (List (List ℕ)) → ℕ → ℕ → ℕ → Type 0
-Mentions tbl j e i = IsMember i (equationOf tbl j e)
+Mentions tbl j e i = IsMember i (equation_of tbl j e)
 
 -- ".. is also a member of at least two equations of that layer"
 pub record InTwo (tbl : List (List (List ℕ))) (j i : ℕ) : Type 0 where
   pub one : ℕ
   pub other : ℕ
   pub different : one ≢ other
-  pub one-there : one < 3 * k_of j
-  pub other-there : other < 3 * k_of j
+  pub one_there : one < 3 * k_of j
+  pub other_there : other < 3 * k_of j
   pub in_one : Mentions tbl j one i
-  pub in-other : Mentions tbl j other i
+  pub in_other : Mentions tbl j other i
 
 -- "A table is now taken only when every data symbol of every layer is also a member of at least two equations of that layer."
 abbrev pub Covered : ℕ → List (List (List ℕ)) → Type 0

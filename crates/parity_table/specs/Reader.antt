@@ -4,8 +4,8 @@ use Rattle.std.specs.Prelude.{Bool, false, ◌&&◌, List, [], ◌∷◌, ℕ, s
 use Rattle.octets.specs.Choice.{pick}
 use Rattle.parity_table.specs.declared.Answer.{Answer}
 use Rattle.parity_table.specs.declared.Answer.TheVariants.{Depth, Wrong, Whole}
-use Rattle.parity_table.specs.Shape.{k_of, depthFits}
-use Rattle.parity_table.specs.Table.{layerWord, equationWord, end_word}
+use Rattle.parity_table.specs.Shape.{k_of, depth_fits}
+use Rattle.parity_table.specs.Table.{layer_word, equation_word, end_word}
 
 -- what may stand next
 pub data Next : Type 0 where
@@ -30,14 +30,14 @@ opened d j e = pick (ltb e (3 * k_of j)) (Equation j e) (layered d (suc j))
 
 -- number w may be a member after m members, at least lo, in an equation whose last is z: below z where z can still be the eighth,
 -- z itself where it isn't the first
-unfoldable pub memberFits : ℕ → ℕ → ℕ → ℕ → Bool
-memberFits z m lo w = leb lo w && pick (ltb w z) (ltb m 7) (eqb w z && ltb 0 m)
+unfoldable pub member_fits : ℕ → ℕ → ℕ → ℕ → Bool
+member_fits z m lo w = leb lo w && pick (ltb w z) (ltb m 7) (eqb w z && ltb 0 m)
 
 -- word number i, w, may stand there
 unfoldable pub fits : ℕ → Next → ℕ → Bool
-fits i (Layer j) w = eqb w (layerWord j)
-fits i (Equation j e) w = eqb w (equationWord e)
-fits i (Member j e m lo) w = memberFits (k_of j + e) m lo w
+fits i (Layer j) w = eqb w (layer_word j)
+fits i (Equation j e) w = eqb w (equation_word e)
+fits i (Member j e m lo) w = member_fits (k_of j + e) m lo w
 fits i End w = eqb w (end_word i)
 fits i Nothing w = false
 
@@ -50,18 +50,18 @@ after d End w = Nothing
 after d Nothing w = Nothing
 
 -- the list has ended, with i words
-unfoldable pub atEnd : ℕ → Next → Answer
-atEnd i (Layer j) = Wrong i
-atEnd i (Equation j e) = Wrong i
-atEnd i (Member j e m lo) = Wrong i
-atEnd i End = Wrong i
-atEnd i Nothing = Whole
+unfoldable pub at_end : ℕ → Next → Answer
+at_end i (Layer j) = Wrong i
+at_end i (Equation j e) = Wrong i
+at_end i (Member j e m lo) = Wrong i
+at_end i End = Wrong i
+at_end i Nothing = Whole
 
 -- the words from number i on
 unfoldable pub run : ℕ → ℕ → Next → List ℕ → Answer
-run d i s [] = atEnd i s
+run d i s [] = at_end i s
 run d i s (w ∷ ws) = pick (fits i s w) (run d (suc i) (after d s w) ws) (Wrong i)
 
 -- what the reader answers of a list of words, for depth d
 unfoldable pub read_of : ℕ → List ℕ → Answer
-read_of d ws = pick (depthFits d) (run d 0 (layered d 0) ws) Depth
+read_of d ws = pick (depth_fits d) (run d 0 (layered d 0) ws) Depth

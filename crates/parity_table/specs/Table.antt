@@ -6,12 +6,12 @@ use Rattle.parity_table.specs.Members.{ascending, last_of}
 -- ---- a table: its layers, their equations, the numbers of the members of each
 
 -- the equations of layer j
-unfoldable pub layerOf : List (List (List ℕ)) → ℕ → List (List ℕ)
-layerOf tbl j = get_or tbl j []
+unfoldable pub layer_of : List (List (List ℕ)) → ℕ → List (List ℕ)
+layer_of tbl j = get_or tbl j []
 
 -- the members of equation e of layer j
-unfoldable pub equationOf : List (List (List ℕ)) → ℕ → ℕ → List ℕ
-equationOf tbl j e = get_or (layerOf tbl j) e []
+unfoldable pub equation_of : List (List (List ℕ)) → ℕ → ℕ → List ℕ
+equation_of tbl j e = get_or (layer_of tbl j) e []
 
 -- equation e of layer j: "2 to 8 members, strictly ascending, the last being k+e for equation e"
 pub record EquationOk (j e : ℕ) (ms : List ℕ) : Type 0 where
@@ -23,8 +23,8 @@ pub record EquationOk (j e : ℕ) (ms : List ℕ) : Type 0 where
 -- the rules of a table of depth d: "Layers come in order, each with equations 0 to 3k−1 in order"
 pub record TableOk (d : ℕ) (tbl : List (List (List ℕ))) : Type 0 where
   pub depth : length tbl ≡ d
-  pub equations : (j : ℕ) → j < d → length (layerOf tbl j) ≡ 3 * k_of j
-  pub members : (j e : ℕ) → j < d → e < 3 * k_of j → EquationOk j e (equationOf tbl j e)
+  pub equations : (j : ℕ) → j < d → length (layer_of tbl j) ≡ 3 * k_of j
+  pub members : (j e : ℕ) → j < d → e < 3 * k_of j → EquationOk j e (equation_of tbl j e)
 
 -- ---- the words of a table
 
@@ -34,35 +34,35 @@ word kind v = kind * 2 ^ 30 + v
 
 -- "Kind 01 opens a layer (its number), 10 opens an equation (its number in the layer), 00 is a member (a symbol number),
 -- 11 ends the list (the number of words before it)". A member's word is its number.
-abbrev pub layerWord : ℕ → ℕ
-layerWord j = word 1 j
+abbrev pub layer_word : ℕ → ℕ
+layer_word j = word 1 j
 
-abbrev pub equationWord : ℕ → ℕ
-equationWord e = word 2 e
+abbrev pub equation_word : ℕ → ℕ
+equation_word e = word 2 e
 
 abbrev pub end_word : ℕ → ℕ
 end_word n = word 3 n
 
 -- the words of equations, the first being number e
-unfoldable pub equationsWords : ℕ → List (List ℕ) → List ℕ
-equationsWords e [] = []
-equationsWords e (ms ∷ es) = equationWord e ∷ (ms ++ equationsWords (suc e) es)
+unfoldable pub equations_words : ℕ → List (List ℕ) → List ℕ
+equations_words e [] = []
+equations_words e (ms ∷ es) = equation_word e ∷ (ms ++ equations_words (suc e) es)
 
 -- the words of layers, the first being number j
-unfoldable pub layersWords : ℕ → List (List (List ℕ)) → List ℕ
-layersWords j [] = []
-layersWords j (es ∷ ls) = layerWord j ∷ (equationsWords 0 es ++ layersWords (suc j) ls)
+unfoldable pub layers_words : ℕ → List (List (List ℕ)) → List ℕ
+layers_words j [] = []
+layers_words j (es ∷ ls) = layer_word j ∷ (equations_words 0 es ++ layers_words (suc j) ls)
 
 -- "Nothing follows the end word"
-unfoldable pub tableWords : List (List (List ℕ)) → List ℕ
-tableWords tbl = layersWords 0 tbl ++ (end_word (length (layersWords 0 tbl)) ∷ [])
+unfoldable pub table_words : List (List (List ℕ)) → List ℕ
+table_words tbl = layers_words 0 tbl ++ (end_word (length (layers_words 0 tbl)) ∷ [])
 
 -- ---- well-formed lists of words, and the first wrong word
 
 pub record WellFormed (d : ℕ) (ws : List ℕ) : Type 0 where
   pub table : List (List (List ℕ))
   pub rules : TableOk d table
-  pub written : ws ≡ tableWords table
+  pub written : ws ≡ table_words table
 
 -- some well-formed table of depth d begins with these words
 pub record Begins (d : ℕ) (ws : List ℕ) : Type 0 where

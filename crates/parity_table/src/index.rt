@@ -1,6 +1,6 @@
 // Where the equations of a table stand in its words, so that each is reached at once.
 ghost use Rattle.std.specs.Prelude.{◌≡◌, ◌*◌, ◌≤◌, ◌<◌, length, drop};
-ghost use Rattle.parity_table.specs.Shape.{maxDepth, k_of};
+ghost use Rattle.parity_table.specs.Shape.{max_depth, k_of};
 ghost use Rattle.parity_table.specs.Parse.{members_of, index_of, over, number_in, HasEquation, Located};
 
 use crate::{END, EQUATION, LAYER, data_count};
@@ -48,7 +48,7 @@ pub fn count_members(ws: &[u32], at: usize) -> usize
 
 // The number of equation e of layer j among all equations.
 pub fn number_of(j: usize, e: usize) -> usize
-    requires { (j < maxDepth) × (e < 3 * k_of j) }
+    requires { (j < max_depth) × (e < 3 * k_of j) }
     ensures { result ≡ number_in j e }
 {
     3 * (data_count(j) - data_count(0)) + e

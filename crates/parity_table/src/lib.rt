@@ -3,7 +3,7 @@
 pub mod index;
 
 ghost use Rattle.std.specs.Prelude.{◌≡◌, ◌<◌};
-ghost use Rattle.parity_table.specs.Shape.{maxDepth, depthFits, isDeep, k_of};
+ghost use Rattle.parity_table.specs.Shape.{max_depth, depth_fits, is_deep, k_of};
 
 // The largest depth of a tree.
 pub const MAX_DEPTH: usize = 9;
@@ -43,7 +43,7 @@ pub const END: u32 = 3 << 30;
 
 // A tree may have this depth.
 pub fn depth_fits(depth: usize) -> bool
-    ensures { result ≡ depthFits depth }
+    ensures { result ≡ depth_fits depth }
 {
     if depth < 1 {
         return false;
@@ -53,7 +53,7 @@ pub fn depth_fits(depth: usize) -> bool
 
 // A tree may have this depth, and it needs the large arrays.
 pub fn is_deep(depth: usize) -> bool
-    ensures { result ≡ isDeep depth }
+    ensures { result ≡ is_deep depth }
 {
     if depth <= SHALLOW {
         return false;
@@ -63,7 +63,7 @@ pub fn is_deep(depth: usize) -> bool
 
 // The data symbols of layer j.
 pub fn data_count(j: usize) -> usize
-    requires { j < maxDepth }
+    requires { j < max_depth }
     ensures { result ≡ k_of j }
 {
     4 << j

@@ -9,12 +9,12 @@ use lib.ListN.{get_or, length, set}
 use Rattle.octets.proofs.Choice.{and_yes}
 use Rattle.model.specs.Shape.{place, tree}
 use Rattle.symbol_hash.specs.declared.Kind.{Kind}
-use Rattle.equation.specs.Rooms.{Stands, Turnable, membersAt}
+use Rattle.equation.specs.Rooms.{Stands, Turnable, members_at}
 use Rattle.equation.specs.Turns.{Took, can, few}
 use Rattle.equation.specs.declared.Turn.{Turn}
 use Rattle.equation.specs.declared.Turn.TheVariants.{Fault, Stored, Twins, Used}
-use Rattle.peeling.proofs.PeelLaws.{Ends, Peeling, fault-ends, member_below, peel-over, peel-start, stored-few, stored_on, turnable, twins-ends, used-fewer, used-on}
-use Rattle.peeling.proofs.PickLaws.{can-is, counted-stored, enough, picked-over, thread-of}
+use Rattle.peeling.proofs.PeelLaws.{Ends, Peeling, fault-ends, member_below, peel-over, peel_start, stored-few, stored_on, turnable, twins-ends, used_fewer, used_on}
+use Rattle.peeling.proofs.PickLaws.{can-is, counted-stored, enough, picked_over, thread_of}
 use Rattle.peeling.proofs.TurnLaws.{seen, unused}
 use Rattle.peeling.specs.Levels.{Peelable}
 use Rattle.peeling.specs.Search.{Counted, Lowerable, Lowered, Ordered, Picked, Thread}
@@ -28,9 +28,9 @@ pub record Searching (kind : Kind) (root ws starts : List ℕ) (from j : ℕ) (t
   pub inside : at ≤ length u
 
 module _ {root ws starts last next : List ℕ} {from j : ℕ} {t₀ m₀ o₀ u₀ a₀ order₀ : List ℕ} (pk : Peelable root ws starts last next t₀ m₀ o₀ u₀ a₀ order₀ from j) where
-  pub search-start : (kind : Kind) (s : ℕ) → Searching kind root ws starts from j t₀ m₀ o₀ u₀ s t₀ m₀ o₀ u₀ a₀ order₀ s 0
-  search-start kind s =
-      record { peeling = peel-start kind root ws starts from j t₀ m₀ o₀ u₀ s; counted = pk.counted; ordered = pk.ordered; inside = omega arith }
+  pub search_start : (kind : Kind) (s : ℕ) → Searching kind root ws starts from j t₀ m₀ o₀ u₀ s t₀ m₀ o₀ u₀ a₀ order₀ s 0
+  search_start kind s =
+      record { peeling = peel_start kind root ws starts from j t₀ m₀ o₀ u₀ s; counted = pk.counted; ordered = pk.ordered; inside = omega arith }
 
   module _ {kind : Kind} {s₀ : ℕ} {t m o u a order : List ℕ} {s at : ℕ} (q : Searching kind root ws starts from j t₀ m₀ o₀ u₀ s₀ t m o u a order s at) where
     listed : length u ≡ length u₀
@@ -39,64 +39,64 @@ module _ {root ws starts last next : List ℕ} {from j : ℕ} {t₀ m₀ o₀ u�
     pub absent-kept : length a ≡ length a₀
     absent-kept = q.counted.sized ∙ listed ∙ sym pk.counted.sized
 
-    pub order-kept : length order ≡ length order₀
-    order-kept = omega (arith, q.ordered.sized, listed, pk.ordered.sized)
+    pub order_kept : length order ≡ length order₀
+    order_kept = omega (arith, q.ordered.sized, listed, pk.ordered.sized)
 
-    pub pick-asks : Ordered u a at order × (length a ≡ length u) × (1 ≤ length u) × (length u ≤ 2 ^ 30) × (at ≤ length u)
-    pick-asks = (q.ordered, q.counted.sized, omega (arith, listed, pk.some), omega (arith, listed, pk.lent.low), q.inside)
+    pub pick_asks : Ordered u a at order × (length a ≡ length u) × (1 ≤ length u) × (length u ≤ 2 ^ 30) × (at ≤ length u)
+    pick_asks = (q.ordered, q.counted.sized, omega (arith, listed, pk.some), omega (arith, listed, pk.lent.low), q.inside)
 
     module _ {e : ℕ} {order' : List ℕ} (l : Picked u a at e order') where
-      none_before : (x : ℕ) → x < e → x < length u₀ → can j m u x (membersAt ws starts (from + x)) ≡ false
+      none_before : (x : ℕ) → x < e → x < length u₀ → can j m u x (members_at ws starts (from + x)) ≡ false
       none_before x h b = can-is u q.counted x (omega (arith, listed)) ∙ l.none x h
 
       -- no equation can be taken
-      pub search-over : length u₀ ≤ e → Ends kind root ws starts from j t₀ m₀ o₀ u₀ s₀ t m o u s outcome.Peeled × (s ≤ s₀ + length u₀)
+      pub search_over : length u₀ ≤ e → Ends kind root ws starts from j t₀ m₀ o₀ u₀ s₀ t m o u s outcome.Peeled × (s ≤ s₀ + length u₀)
           × (Counted ws starts from j (length u) m a × Ordered u a 0 order')
-      search-over h =
-          (peel-over q.peeling (λ x b. none_before x (omega arith) b), stored-few q.peeling, (q.counted, picked-over u a e at l (omega (arith, listed))))
+      search_over h =
+          (peel-over q.peeling (λ x b. none_before x (omega arith) b), stored-few q.peeling, (q.counted, picked_over u a e at l (omega (arith, listed))))
 
       -- equation e is the lowest
       module _ (he : e < length u₀) where
-        aye : can j m u e (membersAt ws starts (from + e)) ≡ true
+        aye : can j m u e (members_at ws starts (from + e)) ≡ true
         aye = can-is u q.counted e (omega (arith, listed)) ∙ l.is-ready (omega (arith, listed))
 
-        none : (x : ℕ) → x < e → can j m u x (membersAt ws starts (from + x)) ≡ false
+        none : (x : ℕ) → x < e → can j m u x (members_at ws starts (from + x)) ≡ false
         none x h = none_before x h (omega arith)
 
-        pub take-asks : Stands ws starts (from + e) × Turnable root (membersAt ws starts (from + e)) t m o u j e
-            × (few j m (membersAt ws starts (from + e)) ≡ true)
-        take-asks =
-            (pk.lent.listed.stands e he, turnable pk.lent he q.peeling, (and_yes (eqb (get_or u e 0) 0) (few j m (membersAt ws starts (from + e))) aye).1)
+        pub take_asks : Stands ws starts (from + e) × Turnable root (members_at ws starts (from + e)) t m o u j e
+            × (few j m (members_at ws starts (from + e)) ≡ true)
+        take_asks =
+            (pk.lent.listed.stands e he, turnable pk.lent he q.peeling, (and_yes (eqb (get_or u e 0) 0) (few j m (members_at ws starts (from + e))) aye).1)
 
         -- it has been taken with the answer r, and the cursor is past it
         module _ {at' : ℕ} (ea : at' ≡ max at (e + 1)) {t' m' o' u' : List ℕ} {r : Turn}
-            (k : Took kind root (membersAt ws starts (from + e)) j e t m o u t' m' o' u' r) where
-          pub search-faulty : (x z : ℕ) → r ≡ Fault x z → Ends kind root ws starts from j t₀ m₀ o₀ u₀ s₀ t' m' o' u' s (outcome.Fault e x z)
-          search-faulty = fault-ends q.peeling he none aye k
+            (k : Took kind root (members_at ws starts (from + e)) j e t m o u t' m' o' u' r) where
+          pub search_faulty : (x z : ℕ) → r ≡ Fault x z → Ends kind root ws starts from j t₀ m₀ o₀ u₀ s₀ t' m' o' u' s (outcome.Fault e x z)
+          search_faulty = fault-ends q.peeling he none aye k
 
-          pub search-twins : (x : ℕ) → r ≡ Twins x → Ends kind root ws starts from j t₀ m₀ o₀ u₀ s₀ t' m' o' u' s (outcome.Twins x)
-          search-twins = twins-ends q.peeling he none aye k
+          pub search_twins : (x : ℕ) → r ≡ Twins x → Ends kind root ws starts from j t₀ m₀ o₀ u₀ s₀ t' m' o' u' s (outcome.Twins x)
+          search_twins = twins-ends q.peeling he none aye k
 
-          ordered-on : u' ≡ set u e 1 → Ordered u' a at' order'
-          ordered-on eu =
+          ordered_on : u' ≡ set u e 1 → Ordered u' a at' order'
+          ordered_on eu =
               subst (λ (z : ℕ). Ordered u' a z order') (sym ea) (subst (λ (y : List ℕ). Ordered y a (max at (e + 1)) order') (sym eu) l.ordered)
 
-          pub used-less : r ≡ Used → unused u' < unused u
-          used-less er = used-fewer q.peeling he none aye k (seen k Used er).changed.1
+          pub used_less : r ≡ Used → unused u' < unused u
+          used_less er = used_fewer q.peeling he none aye k (seen k Used er).changed.1
 
-          pub stored-less : (x : ℕ) → r ≡ Stored x → unused u' < unused u
-          stored-less x er = used-fewer q.peeling he none aye k (seen k (Stored x) er).changed.3
+          pub stored_less : (x : ℕ) → r ≡ Stored x → unused u' < unused u
+          stored_less x er = used_fewer q.peeling he none aye k (seen k (Stored x) er).changed.3
 
           module _ (lt : length t' ≡ length t) (lm : length m' ≡ length m) (lo : length o' ≡ length o) (lu : length u' ≡ length u) where
-            pub search-used : r ≡ Used → Searching kind root ws starts from j t₀ m₀ o₀ u₀ s₀ t' m' o' u' a order' s at'
-            search-used er =
+            pub search_used : r ≡ Used → Searching kind root ws starts from j t₀ m₀ o₀ u₀ s₀ t' m' o' u' a order' s at'
+            search_used er =
                 let w = (seen k Used er).changed in
                 record {
-                  peeling = used-on q.peeling he none aye k lt lm lo lu w.1 er;
+                  peeling = used_on q.peeling he none aye k lt lm lo lu w.1 er;
                   counted =
                       subst (λ (n : ℕ). Counted ws starts from j n m' a) (sym lu)
                       (subst (λ (y : List ℕ). Counted ws starts from j (length u) y a) (sym w.0) q.counted);
-                  ordered = ordered-on w.1;
+                  ordered = ordered_on w.1;
                   inside = omega (arith, lu, listed, q.inside);
                 }
 
@@ -110,32 +110,32 @@ module _ {root ws starts last next : List ℕ} {from j : ℕ} {t₀ m₀ o₀ u�
               marked = omega (arith, known, q.peeling.marks-length, pk.lent.level.marks-room)
 
               thread : Thread ws starts from (length u') last next x
-              thread = subst (λ (n : ℕ). Thread ws starts from n last next x) (sym (lu ∙ listed)) (thread-of pk x known)
+              thread = subst (λ (n : ℕ). Thread ws starts from n last next x) (sym (lu ∙ listed)) (thread_of pk x known)
 
-              counted-on : Counted ws starts from j (length u') m a
-              counted-on = subst (λ (n : ℕ). Counted ws starts from j n m a) (sym lu) q.counted
+              counted_on : Counted ws starts from j (length u') m a
+              counted_on = subst (λ (n : ℕ). Counted ws starts from j n m a) (sym lu) q.counted
 
-              pub lower-asks : Lowerable last next u' a order' at' x
-              lower-asks =
+              pub lower_asks : Lowerable last next u' a order' at' x
+              lower_asks =
                   record {
                     words = ws;
                     starts = starts;
                     from = from;
                     thread = thread;
-                    enough = enough counted-on x (seen k (Stored x) er).changed.1 marked;
-                    ordered = ordered-on (seen k (Stored x) er).changed.3;
-                    sized = counted-on.sized;
+                    enough = enough counted_on x (seen k (Stored x) er).changed.1 marked;
+                    ordered = ordered_on (seen k (Stored x) er).changed.3;
+                    sized = counted_on.sized;
                     low = omega (arith, lu, listed, pk.lent.low);
                   }
 
-              pub search-stored : (a' order'' : List ℕ) → length a' ≡ length a → Ordered u' a' at' order''
+              pub search_stored : (a' order'' : List ℕ) → length a' ≡ length a → Ordered u' a' at' order''
                   → ((ws' starts' : List ℕ) (from' : ℕ) → Thread ws' starts' from' (length u') last next x → Lowered ws' starts' from' (length u') x a a')
                   → Searching kind root ws starts from j t₀ m₀ o₀ u₀ s₀ t' m' o' u' a' order'' (s + 1) at'
-              search-stored a' order'' la od lw =
+              search_stored a' order'' la od lw =
                   let w = (seen k (Stored x) er).changed in
                   record {
                     peeling = stored_on q.peeling he none aye k lt lm lo lu w.3 x er;
-                    counted = counted-stored counted-on x w.1 marked a' m' la w.2 (lw ws starts from thread);
+                    counted = counted-stored counted_on x w.1 marked a' m' la w.2 (lw ws starts from thread);
                     ordered = od;
                     inside = omega (arith, lu, listed, q.inside);
                   }

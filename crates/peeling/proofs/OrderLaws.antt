@@ -9,7 +9,7 @@ use lib.Dec.{eqb, leb, ltb}
 use lib.ListN.{get_or, get_or-replicate, length, length-replicate, replicate, set}
 use lib.Seq.{get_or-set_other, get_or-set_same}
 use borrow.Author.Tests.{eq-eqb, le-leb, le-ltb, lt-leb, lt-ltb, ne_eqb}
-use Rattle.octets.proofs.Choice.{by-test, pick_no, pick_yes, yes_and}
+use Rattle.octets.proofs.Choice.{by_test, pick_no, pick_yes, yes_and}
 use Rattle.octets.specs.Choice.{pick}
 use Rattle.tournament.proofs.TreeLaws.{length-entries, level-entries, level-tournament}
 use Rattle.tournament.specs.Tournament.{Entered, Least, entries}
@@ -26,9 +26,9 @@ module _ {n : ℕ} {p : ℕ → Bool} {order : List ℕ} (k : Order n p order) w
       }
 
   -- .. of all but equation e, whose entry is set
-  pub order-set : (q : ℕ → Bool) (e v : ℕ) (after : List ℕ) → e < n → ((x : ℕ) → x < n → (x ≡ e → ⊥) → q x ≡ p x) → Entered order e v after
+  pub order_set : (q : ℕ → Bool) (e v : ℕ) (after : List ℕ) → e < n → ((x : ℕ) → x < n → (x ≡ e → ⊥) → q x ≡ p x) → Entered order e v after
       → v ≡ pick (q e) e n → Order n q after
-  order-set q e v after l h c ev =
+  order_set q e v after l h c ev =
       let s : length (entries order) ≡ length order / 2 = length-entries order k.tournament.paired in
       record {
         tournament = c.tournament;
@@ -50,16 +50,16 @@ module _ {n : ℕ} {p : ℕ → Bool} {order : List ℕ} (k : Order n p order) w
     least-passes l =
         let (x, lx, ex) = m.found in
         let lx' : x < n = omega (arith, entries-are) in
-        by-test (p x) (λ t. subst (λ (y : ℕ). p y ≡ true) (sym (pick_yes (p x) x n t) ∙ sym (k.entry x lx') ∙ ex) t)
+        by_test (p x) (λ t. subst (λ (y : ℕ). p y ≡ true) (sym (pick_yes (p x) x n t) ∙ sym (k.entry x lx') ∙ ex) t)
         (λ t. absurd (omega (arith, pick_no (p x) x n t, k.entry x lx')))
 
     pub least_first : (x : ℕ) → x < r → x < n → p x ≡ false
     least_first x h l =
-        by-test (p x) (λ t. absurd (omega (arith, pick_yes (p x) x n t, k.entry x l, m.at_most x (omega (arith, entries-are))))) (λ t. t)
+        by_test (p x) (λ t. absurd (omega (arith, pick_yes (p x) x n t, k.entry x l, m.at_most x (omega (arith, entries-are))))) (λ t. t)
 
 -- every entry is n: none passes
-pub order-none : (n : ℕ) (p : ℕ → Bool) (l : ℕ) → l ≡ 2 * n → ((x : ℕ) → p x ≡ false) → Order n p (replicate l n)
-order-none n p l e h =
+pub order_none : (n : ℕ) (p : ℕ → Bool) (l : ℕ) → l ≡ 2 * n → ((x : ℕ) → p x ≡ false) → Order n p (replicate l n)
+order_none n p l e h =
     record {
       tournament = level-tournament l n (omega arith);
       sized = length-replicate l n ∙ e;
@@ -109,14 +109,14 @@ module _ (u a : List ℕ) (at : ℕ) {o : List ℕ} (k : Ordered u a at o) (q : 
         | no z ↦ others x z
       ])
 
-  pub noted-many : (get_or a q 0 - 1 ≡ 1 → ⊥) → Ordered u less at o
-  noted-many d =
+  pub noted_many : (get_or a q 0 - 1 ≡ 1 → ⊥) → Ordered u less at o
+  noted_many d =
       keeps
       (ap (λ (b : Bool). ltb q at && b)
       (ready-here u a q (get_or a q 0 - 1) (omega arith) ∙ ap (λ (b : Bool). eqb (get_or u q 0) 0 && b) (one_less (get_or a q 0) some d)))
 
-  pub noted-late : at ≤ q → Ordered u less at o
-  noted-late d = keeps (ap (λ (b : Bool). b && ready u less q) (le-ltb q at d) ∙ sym (ap (λ (b : Bool). b && ready u a q) (le-ltb q at d)))
+  pub noted_late : at ≤ q → Ordered u less at o
+  noted_late d = keeps (ap (λ (b : Bool). b && ready u less q) (le-ltb q at d) ∙ sym (ap (λ (b : Bool). b && ready u a q) (le-ltb q at d)))
 
   pub noted-used : (get_or u q 0 ≡ 0 → ⊥) → Ordered u less at o
   noted-used d =
@@ -126,5 +126,5 @@ module _ (u a : List ℕ) (at : ℕ) {o : List ℕ} (k : Ordered u a at o) (q : 
 
   pub noted-ready : q < at → get_or u q 0 ≡ 0 → get_or a q 0 - 1 ≡ 1 → (after : List ℕ) → Entered o q q after → Ordered u less at after
   noted-ready b z d after c =
-      order-set k then q q after l (λ x lx. others x) c
+      order_set k then q q after l (λ x lx. others x) c
       (sym (pick_yes (then q) q (length u) (yes_and (lt-ltb q at b) (ready-now u a q (get_or a q 0 - 1) (omega arith) z (omega arith)))))

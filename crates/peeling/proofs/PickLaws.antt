@@ -11,20 +11,20 @@ use lib.Seq.{get_or-set_other, get_or-set_same}
 use borrow.Author.Tests.{le-ltb, lt-ltb, ltb-true}
 use Rattle.octets.proofs.Choice.{and_yes, pick_no}
 use Rattle.tournament.specs.Tournament.{Entered, Least, entries}
-use Rattle.model.proofs.Counts.{Lowest, isIt, lowest-is}
-use Rattle.model.specs.Repair.{absentAt}
+use Rattle.model.proofs.Counts.{Lowest, is_it, lowest-is}
+use Rattle.model.specs.Repair.{absent_at}
 use Rattle.model.specs.Shape.{place, tree}
 use Rattle.model.specs.Symbols.{count, lowest}
-use Rattle.equation.specs.Rooms.{membersAt}
+use Rattle.equation.specs.Rooms.{members_at}
 use Rattle.equation.specs.Turns.{can}
-use Rattle.peeling.proofs.OrderLaws.{least_first, least-passes, order_same, order-set}
-use Rattle.peeling.proofs.SweepLaws.{and-false}
+use Rattle.peeling.proofs.OrderLaws.{least_first, least-passes, order_same, order_set}
+use Rattle.peeling.proofs.SweepLaws.{and_false}
 use Rattle.peeling.proofs.TurnLaws.{count-stored}
 use Rattle.peeling.specs.Levels.{Peelable}
 use Rattle.peeling.specs.Search.{Counted, Lowered, Order, Ordered, Picked, Thread, ready}
 
 module _ {ws starts : List ℕ} {from j : ℕ} {m a : List ℕ} (u : List ℕ) (q : Counted ws starts from j (length u) m a) where
-  pub can-is : (x : ℕ) → x < length u → can j m u x (membersAt ws starts (from + x)) ≡ ready u a x
+  pub can-is : (x : ℕ) → x < length u → can j m u x (members_at ws starts (from + x)) ≡ ready u a x
   can-is x h = ap (λ (c : ℕ). eqb (get_or u x 0) 0 && leb c 1) (sym (q.counts x h))
 
 -- ---- equation e is used
@@ -45,8 +45,8 @@ module _ (u a : List ℕ) (e : ℕ) where
     resized {order} = subst (λ (n : ℕ). Order n then order) (sym (length-set u e 1))
 
     -- no equation was left: the order is empty, as when the cursor stands before them all
-    pub picked-over : {order : List ℕ} → Picked u a at e order → length u ≤ e → Ordered u a 0 order
-    picked-over {order} p h =
+    pub picked_over : {order : List ℕ} → Picked u a at e order → length u ≤ e → Ordered u a 0 order
+    picked_over {order} p h =
         order_same (subst (λ (n : ℕ). Order n then order) (length-set u e 1) p.ordered) (λ x. ltb x 0 && ready u a x)
         (λ x b.
         ap (λ (c : Bool). c && ready u a x) (le-ltb x 0 (omega arith))
@@ -59,8 +59,8 @@ module _ (u a : List ℕ) (at : ℕ) {order : List ℕ} (k : Ordered u a at orde
   before x h f = sym (ap (λ (b : Bool). b && ready u a x) (lt-ltb x at h)) ∙ f
 
   -- is an equation before the cursor, which leaves the order
-  pub picked-before : e < length u → (v : ℕ) (after : List ℕ) → v ≡ length u → Entered order e v after → Picked u a at e after
-  picked-before h v after ev c =
+  pub picked_before : e < length u → (v : ℕ) (after : List ℕ) → v ≡ length u → Entered order e v after → Picked u a at e after
+  picked_before h v after ev c =
       let (b, r) = and_yes (ltb e at) (ready u a e) (least-passes k l h) in
       let he : e < at = ltb-true e at b in
       let z : max at (e + 1) ≡ at = omega arith in
@@ -70,8 +70,8 @@ module _ (u a : List ℕ) (at : ℕ) {order : List ℕ} (k : Ordered u a at orde
         is-ready = λ i. r;
         ordered =
             resized u a e at
-            (order-set k (then u a e at) e v after h (λ x lx d. ap₂ (λ (y : ℕ) (w : Bool). ltb x y && w) z (used-other u a e x d)) c
-            (ev ∙ sym (pick_no (then u a e at e) e (length u) (and-false (ltb e (max at (e + 1))) (ready (set u e 1) a e) (used-here u a e h)))));
+            (order_set k (then u a e at) e v after h (λ x lx d. ap₂ (λ (y : ℕ) (w : Bool). ltb x y && w) z (used-other u a e x d)) c
+            (ev ∙ sym (pick_no (then u a e at e) e (length u) (and_false (ltb e (max at (e + 1))) (ready (set u e 1) a e) (used-here u a e h)))));
       }
 
   -- is none: the equation is the next from the cursor on
@@ -92,17 +92,17 @@ module _ (u a : List ℕ) (at : ℕ) {order : List ℕ} (k : Ordered u a at orde
     gone : (x : ℕ) → x < length u → then u a r at x ≡ false
     gone x b =
         elim (dec_lt x r) [
-          | yes y ↦ and-false (ltb x (max at (r + 1))) (ready (set u r 1) a x) (used-other u a r x (λ z. omega arith) ∙ below x y)
+          | yes y ↦ and_false (ltb x (max at (r + 1))) (ready (set u r 1) a x) (used-other u a r x (λ z. omega arith) ∙ below x y)
           | no y ↦ elim (dec_lt r x) [
             | yes z ↦ ap (λ (c : Bool). c && ready (set u r 1) a x) (le-ltb x (max at (r + 1)) (omega (arith, next.from)))
             | no z ↦
                 let i : x ≡ r = omega arith in
-                rw i (and-false (ltb r (max at (r + 1))) (ready (set u r 1) a r) (used-here u a r (omega arith)))
+                rw i (and_false (ltb r (max at (r + 1))) (ready (set u r 1) a r) (used-here u a r (omega arith)))
           ]
         ]
 
-    pub picked-after : Picked u a at r order
-    picked-after =
+    pub picked_after : Picked u a at r order
+    picked_after =
         record {
           inside = omega (arith, next.upto);
           none = below;
@@ -112,24 +112,24 @@ module _ (u a : List ℕ) (at : ℕ) {order : List ℕ} (k : Ordered u a at orde
 
 -- ---- the counts, once symbol x, which was absent, is stored
 
-module _ {ws starts : List ℕ} {from j n : ℕ} {m a : List ℕ} (q : Counted ws starts from j n m a) (x : ℕ) (gone : absentAt tree m j x ≡ true)
+module _ {ws starts : List ℕ} {from j n : ℕ} {m a : List ℕ} (q : Counted ws starts from j n m a) (x : ℕ) (gone : absent_at tree m j x ≡ true)
     (room : place tree j x < length m) where
   -- each equation has an absent member for each member x
-  pub enough : (e : ℕ) → e < n → count (isIt x) (membersAt ws starts (from + e)) ≤ get_or a e 0
-  enough e h = omega (arith, q.counts e h, count-stored j m x gone room (membersAt ws starts (from + e)))
+  pub enough : (e : ℕ) → e < n → count (is_it x) (members_at ws starts (from + e)) ≤ get_or a e 0
+  enough e h = omega (arith, q.counts e h, count-stored j m x gone room (members_at ws starts (from + e)))
 
   pub counted-stored : (a' m' : List ℕ) → length a' ≡ length a → m' ≡ set m (place tree j x) 1 → Lowered ws starts from n x a a' → Counted ws starts from j n m' a'
   counted-stored a' m' la em l =
       subst (λ (w : List ℕ). Counted ws starts from j n w a') (sym em)
       (record {
         sized = la ∙ q.sized;
-        counts = λ e h. omega (arith, l e h, q.counts e h, count-stored j m x gone room (membersAt ws starts (from + e)));
+        counts = λ e h. omega (arith, l e h, q.counts e h, count-stored j m x gone room (members_at ws starts (from + e)));
       })
 
 -- the thread of a symbol, as the loop has it
-pub thread-of : {root ws starts last next t m o u a order : List ℕ} {from j : ℕ} (k : Peelable root ws starts last next t m o u a order from j) (x : ℕ)
+pub thread_of : {root ws starts last next t m o u a order : List ℕ} {from j : ℕ} (k : Peelable root ws starts last next t m o u a order from j) (x : ℕ)
     → x < k.lent.symbols → Thread ws starts from (length u) last next x
-thread-of k x h =
+thread_of k x h =
     record {
       threaded = k.threaded;
       narrow = λ e l. omega (arith, (k.lent.sized e l).1, k.eight);

@@ -8,61 +8,61 @@ use native.Mathlib.Omega.{arith}
 use lib.Dec.{eqb, ltb}
 use lib.ListN.{get_or, length, set}
 use borrow.Author.Tests.{eqb-false, eqb-true, le-ltb, lt-ltb}
-use Rattle.octets.proofs.Choice.{and_yes, both, by-test, pick_yes, yes_and}
-use Rattle.parity_table.specs.Table.{equationOf, layerOf}
-use Rattle.model.proofs.Counts.{isIt}
+use Rattle.octets.proofs.Choice.{and_yes, both, by_test, pick_yes, yes_and}
+use Rattle.parity_table.specs.Table.{equation_of, layer_of}
+use Rattle.model.proofs.Counts.{is_it}
 use Rattle.model.proofs.Peel.{absent-other, absent-same, count-used}
-use Rattle.model.proofs.Steps.{idle, lowestEq-is, takes}
-use Rattle.model.specs.Repair.{St, absentAt, act, going, lowestEq, peel, step, takeable}
+use Rattle.model.proofs.Steps.{idle, lowest_eq-is, takes}
+use Rattle.model.specs.Repair.{St, absent_at, act, going, lowest_eq, peel, step, takeable}
 use Rattle.model.specs.Shape.{place, tree}
 use Rattle.model.specs.Symbols.{bit, count}
-use Rattle.symbol_hash.specs.SymbolHash.{symbolHash}
+use Rattle.symbol_hash.specs.SymbolHash.{symbol_hash}
 use Rattle.symbol_hash.specs.declared.Kind.{Kind}
 use Rattle.equation.specs.Turns.{Took, can, few}
 use Rattle.equation.specs.declared.Turn.{Turn}
-use Rattle.peeling.proofs.SweepLaws.{and-false}
+use Rattle.peeling.proofs.SweepLaws.{and_false}
 
 -- the unused equations
 abbrev pub unused : List ℕ → ℕ
-unused u = count (isIt 0) u
+unused u = count (is_it 0) u
 
 -- ---- the lowest equation that can be taken
 
 module _ (kind : Kind) (root : List ℕ) (tbl : List (List (List ℕ))) (j : ℕ) where
-  lowest-at : (st : St) (e : ℕ) → ((x : ℕ) → x < e → takeable tree tbl j st x ≡ false) → e < length (layerOf tbl j) → takeable tree tbl j st e ≡ true
-      → lowestEq tree tbl j st ≡ e
-  lowest-at st e none h aye =
-      let l = lowestEq-is tree (symbolHash kind) root tbl j st in
-      elim (dec_lt (lowestEq tree tbl j st) e) [
-        | yes a ↦ both (l.found (omega arith)) (none (lowestEq tree tbl j st) a)
-        | no a ↦ elim (dec_lt e (lowestEq tree tbl j st)) [
+  lowest_at : (st : St) (e : ℕ) → ((x : ℕ) → x < e → takeable tree tbl j st x ≡ false) → e < length (layer_of tbl j) → takeable tree tbl j st e ≡ true
+      → lowest_eq tree tbl j st ≡ e
+  lowest_at st e none h aye =
+      let l = lowest_eq-is tree (symbol_hash kind) root tbl j st in
+      elim (dec_lt (lowest_eq tree tbl j st) e) [
+        | yes a ↦ both (l.found (omega arith)) (none (lowest_eq tree tbl j st) a)
+        | no a ↦ elim (dec_lt e (lowest_eq tree tbl j st)) [
           | yes b ↦ both aye (l.before e (omega arith) b)
           | no b ↦ omega arith
         ]
       ]
 
-  pub step_is : (st : St) (e : ℕ) → going st.end ≡ true → ((x : ℕ) → x < e → takeable tree tbl j st x ≡ false) → e < length (layerOf tbl j)
-      → takeable tree tbl j st e ≡ true → step tree (symbolHash kind) root tbl j st ≡ act tree (symbolHash kind) root j e (equationOf tbl j e) st
+  pub step_is : (st : St) (e : ℕ) → going st.end ≡ true → ((x : ℕ) → x < e → takeable tree tbl j st x ≡ false) → e < length (layer_of tbl j)
+      → takeable tree tbl j st e ≡ true → step tree (symbol_hash kind) root tbl j st ≡ act tree (symbol_hash kind) root j e (equation_of tbl j e) st
   unfolding step
   step_is st e g none h aye =
-      let l : lowestEq tree tbl j st ≡ e = lowest-at st e none h aye in
-      pick_yes (takes tree (symbolHash kind) root tbl j st) _ _ (yes_and g (lt-ltb (lowestEq tree tbl j st) (length (layerOf tbl j)) (omega arith)))
-      ∙ ap (λ (x : ℕ). act tree (symbolHash kind) root j x (equationOf tbl j x) st) l
+      let l : lowest_eq tree tbl j st ≡ e = lowest_at st e none h aye in
+      pick_yes (takes tree (symbol_hash kind) root tbl j st) _ _ (yes_and g (lt-ltb (lowest_eq tree tbl j st) (length (layer_of tbl j)) (omega arith)))
+      ∙ ap (λ (x : ℕ). act tree (symbol_hash kind) root j x (equation_of tbl j x) st) l
 
   -- where none can be taken, or the repair has ended, peeling is over
-  pub none_left : (f : ℕ) (st : St) → ((x : ℕ) → x < length (layerOf tbl j) → takeable tree tbl j st x ≡ false)
-      → peel tree (symbolHash kind) root tbl j f st ≡ st
+  pub none_left : (f : ℕ) (st : St) → ((x : ℕ) → x < length (layer_of tbl j) → takeable tree tbl j st x ≡ false)
+      → peel tree (symbol_hash kind) root tbl j f st ≡ st
   none_left f st none =
-      let l = lowestEq-is tree (symbolHash kind) root tbl j st in
-      let r : length (layerOf tbl j) ≤ lowestEq tree tbl j st =
-      elim (dec_lt (lowestEq tree tbl j st) (length (layerOf tbl j))) [
-        | yes a ↦ both (l.found (omega arith)) (none (lowestEq tree tbl j st) a)
+      let l = lowest_eq-is tree (symbol_hash kind) root tbl j st in
+      let r : length (layer_of tbl j) ≤ lowest_eq tree tbl j st =
+      elim (dec_lt (lowest_eq tree tbl j st) (length (layer_of tbl j))) [
+        | yes a ↦ both (l.found (omega arith)) (none (lowest_eq tree tbl j st) a)
         | no a ↦ omega arith
       ] in
-      idle tree (symbolHash kind) root tbl j f st (and-false (going st.end) (ltb (lowestEq tree tbl j st) (length (layerOf tbl j))) (le-ltb (lowestEq tree tbl j st) (length (layerOf tbl j)) r))
+      idle tree (symbol_hash kind) root tbl j f st (and_false (going st.end) (ltb (lowest_eq tree tbl j st) (length (layer_of tbl j))) (le-ltb (lowest_eq tree tbl j st) (length (layer_of tbl j)) r))
 
-  pub ended : (f : ℕ) (st : St) → going st.end ≡ false → peel tree (symbolHash kind) root tbl j f st ≡ st
-  ended f st g = idle tree (symbolHash kind) root tbl j f st (ap (λ (b : Bool). b && ltb (lowestEq tree tbl j st) (length (layerOf tbl j))) g)
+  pub ended : (f : ℕ) (st : St) → going st.end ≡ false → peel tree (symbol_hash kind) root tbl j f st ≡ st
+  ended f st g = idle tree (symbol_hash kind) root tbl j f st (ap (λ (b : Bool). b && ltb (lowest_eq tree tbl j st) (length (layer_of tbl j))) g)
 
 -- ---- what a turn at equation e changes
 
@@ -71,20 +71,20 @@ fewer j m u e ms h aye = count-used u e h (and_yes (eqb (get_or u e 0) 0) (few j
 
 module _ (j : ℕ) (m : List ℕ) where
   -- symbol x, which was absent, is stored: each equation has as many absent members fewer as it has members x
-  pub count-stored : (x : ℕ) → absentAt tree m j x ≡ true → place tree j x < length m → (ms : List ℕ)
-      → count (absentAt tree (set m (place tree j x) 1) j) ms + count (isIt x) ms ≡ count (absentAt tree m j) ms
+  pub count-stored : (x : ℕ) → absent_at tree m j x ≡ true → place tree j x < length m → (ms : List ℕ)
+      → count (absent_at tree (set m (place tree j x) 1) j) ms + count (is_it x) ms ≡ count (absent_at tree m j) ms
   unfolding count
   count-stored x a h [] = refl
   count-stored x a h (y ∷ ys) =
-      by-test (eqb y x)
+      by_test (eqb y x)
       (λ t.
       let z : y ≡ x = eqb-true y x t in
       omega (
         arith,
         ap bit t,
-        ap (λ (q : ℕ). bit (absentAt tree m j q)) z,
+        ap (λ (q : ℕ). bit (absent_at tree m j q)) z,
         ap bit a,
-        ap (λ (q : ℕ). bit (absentAt tree (set m (place tree j x) 1) j q)) z,
+        ap (λ (q : ℕ). bit (absent_at tree (set m (place tree j x) 1) j q)) z,
         ap bit (absent-same tree m j x h),
         count-stored x a h ys,
       ))

@@ -7,30 +7,30 @@ use native.Mathlib.Decide.{dec_lt, ℕ_discrete}
 use native.Mathlib.Omega.{arith}
 use lib.ListN.{drop, get_or, length, set}
 use lib.Seq.{get_or-set_other, get_or-set_same}
-use Rattle.model.proofs.Counts.{isIt}
+use Rattle.model.proofs.Counts.{is_it}
 use Rattle.model.specs.Symbols.{count}
-use Rattle.equation.specs.Rooms.{membersAt}
+use Rattle.equation.specs.Rooms.{members_at}
 use Rattle.incidence.proofs.ThreadLaws.{Met, below_none, below_step, hits-all, hits-none}
 use Rattle.incidence.specs.Incidence.{below, hits}
 use Rattle.peeling.specs.Search.{Lowered, Thread}
 
-count-dropped : (p : ℕ → Bool) (xs : List ℕ) (i : ℕ) → count p (drop i xs) ≤ count p xs
+count_dropped : (p : ℕ → Bool) (xs : List ℕ) (i : ℕ) → count p (drop i xs) ≤ count p xs
 unfolding count
-count-dropped p [] zero = omega arith
-count-dropped p [] (suc i) = omega arith
-count-dropped p (x ∷ xs) zero = omega arith
-count-dropped p (x ∷ xs) (suc i) = omega (arith, count-dropped p xs i)
+count_dropped p [] zero = omega arith
+count_dropped p [] (suc i) = omega arith
+count_dropped p (x ∷ xs) zero = omega arith
+count_dropped p (x ∷ xs) (suc i) = omega (arith, count_dropped p xs i)
 
 module _ (ws starts : List ℕ) (from n x : ℕ) where
   abbrev all : ℕ → ℕ
-  all e = count (isIt x) (membersAt ws starts (from + e))
+  all e = count (is_it x) (members_at ws starts (from + e))
 
   abbrev rest : ℕ → ℕ → ℕ
   rest e b = hits ws starts from x e b
 
   hits-some : (e b : ℕ) → rest e b ≤ all e
   unfolding hits
-  hits-some e b = count-dropped (isIt x) (membersAt ws starts (from + e)) (b - 8 * e)
+  hits-some e b = count_dropped (is_it x) (members_at ws starts (from + e)) (b - 8 * e)
 
   -- the slots from `bound` on have been noted in the counts a, which were a₀; the next one is `slot`, counted from 1
   pub record Walking (a₀ a : List ℕ) (slot : ℕ) : Type 0 where
@@ -60,23 +60,23 @@ module _ {ws starts : List ℕ} {from n : ℕ} {last next : List ℕ} {x : ℕ} 
       met : Met ws starts from x w.bound (slot - 1)
       met = below_step ws starts from x w.bound (slot - 1) (sym w.here ∙ omega arith)
 
-      pub walk-slot : slot - 1 < 8 * n
-      walk-slot = omega (arith, met.under, w.inside)
+      pub walk_slot : slot - 1 < 8 * n
+      walk_slot = omega (arith, met.under, w.inside)
 
-      pub walk-equation : (slot - 1) / 8 < n
-      walk-equation = omega (arith, walk-slot)
+      pub walk_equation : (slot - 1) / 8 < n
+      walk_equation = omega (arith, walk_slot)
 
-      pub walk-some : ((e : ℕ) → e < n → count (isIt x) (membersAt ws starts (from + e)) ≤ get_or a₀ e 0) → 1 ≤ get_or a ((slot - 1) / 8) 0
-      walk-some enough =
+      pub walk_some : ((e : ℕ) → e < n → count (is_it x) (members_at ws starts (from + e)) ≤ get_or a₀ e 0) → 1 ≤ get_or a ((slot - 1) / 8) 0
+      walk_some enough =
           let q = (slot - 1) / 8 in
           omega
-          (arith, enough q walk-equation, w.left q walk-equation, met.here q (k.narrow q walk-equation) refl, hits-some ws starts from n x q (slot - 1))
+          (arith, enough q walk_equation, w.left q walk_equation, met.here q (k.narrow q walk_equation) refl, hits-some ws starts from n x q (slot - 1))
 
       next-below : get_or next (slot - 1) 0 ≡ below ws starts from x (slot - 1)
-      next-below = k.threaded.links x (slot - 1) walk-slot met.holds
+      next-below = k.threaded.links x (slot - 1) walk_slot met.holds
 
-      pub walk-less : get_or next (slot - 1) 0 < slot
-      walk-less =
+      pub walk_less : get_or next (slot - 1) 0 < slot
+      walk_less =
           elim (dec_lt 0 (below ws starts from x (slot - 1))) [
             | yes g ↦
                 let s = below ws starts from x (slot - 1) - 1 in
@@ -92,13 +92,13 @@ module _ {ws starts : List ℕ} {from n : ℕ} {last next : List ℕ} {x : ℕ} 
           let v = get_or a q 0 - 1 in
           record {
             bound = slot - 1;
-            inside = omega (arith, walk-slot);
+            inside = omega (arith, walk_slot);
             here = next-below;
             left = λ e l.
                 let z : get_or a' e 0 ≡ get_or (set a q v) e 0 = ap (λ (y : List ℕ). get_or y e 0) ea in
                 elim (ℕ_discrete e q) [
                   | yes i ↦
-                      let s : get_or (set a q v) e 0 ≡ v = rw i (get_or-set_same a q v 0 (omega (arith, walk-equation))) in
+                      let s : get_or (set a q v) e 0 ≡ v = rw i (get_or-set_same a q v 0 (omega (arith, walk_equation))) in
                       let c : get_or a e 0 ≡ get_or a q 0 = ap (λ (y : ℕ). get_or a y 0) i in
                       omega (arith, w.left e l, met.here e (k.narrow e l) i)
                   | no i ↦ omega (arith, get_or-set_other a q e v 0 i, w.left e l, met.away e (k.narrow e l) i)

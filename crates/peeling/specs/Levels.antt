@@ -1,8 +1,8 @@
 -- What the steps ask of the buffers that they are lent. Definitions only.
 use Rattle.std.specs.Prelude.{◌≡◌, List, ℕ, ◌+◌, ◌*◌, ◌^◌, ◌≤◌, ◌<◌, length}
-use Rattle.parity_table.specs.Table.{layerOf, equationOf}
-use Rattle.model.specs.Fault.{proofLength}
-use Rattle.equation.specs.Rooms.{Level, membersAt}
+use Rattle.parity_table.specs.Table.{layer_of, equation_of}
+use Rattle.model.specs.Fault.{proof_length}
+use Rattle.equation.specs.Rooms.{Level, members_at}
 use Rattle.incidence.specs.Incidence.{Listed, Threaded}
 use Rattle.peeling.specs.Search.{Counted, Ordered}
 
@@ -14,8 +14,8 @@ pub record Lent (root ws starts t m out u : List ℕ) (from j : ℕ) : Type 0 wh
   pub listed : Listed ws starts from (length u) symbols
   pub low : length u ≤ 2 ^ 30
   pub most : ℕ
-  pub sized : (e : ℕ) → e < length u → (1 ≤ length (membersAt ws starts (from + e))) × (length (membersAt ws starts (from + e)) ≤ most)
-  pub out-room : proofLength j most ≤ length out
+  pub sized : (e : ℕ) → e < length u → (1 ≤ length (members_at ws starts (from + e))) × (length (members_at ws starts (from + e)) ≤ most)
+  pub out-room : proof_length j most ≤ length out
   pub twins-room : 512 ≤ length out
 
 -- .. and the next one to take can be found: `last` and `next` lead through the equations of each symbol, `absent` has how many members of each are
@@ -32,5 +32,5 @@ pub record Peelable (root ws starts last next t m out u absent order : List ℕ)
 
 -- layer j of the table has these n equations and no others
 pub record Reads (tbl : List (List (List ℕ))) (ws starts : List ℕ) (from j n : ℕ) : Type 0 where
-  pub count : length (layerOf tbl j) ≡ n
-  pub members : (e : ℕ) → e < n → equationOf tbl j e ≡ membersAt ws starts (from + e)
+  pub count : length (layer_of tbl j) ≡ n
+  pub members : (e : ℕ) → e < n → equation_of tbl j e ≡ members_at ws starts (from + e)

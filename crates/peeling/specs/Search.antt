@@ -4,11 +4,11 @@
 use Rattle.std.specs.Prelude.{◌≡◌, Bool, ◌&&◌, false, true, List, ℕ, ◌+◌, ◌*◌, ◌^◌, ◌≤◌, ◌<◌, max, length, get_or, set, leb, ltb, eqb}
 use Rattle.octets.specs.Choice.{pick}
 use Rattle.tournament.specs.Tournament.{Tournament, entries}
-use Rattle.parity_table.specs.Shape.{maxDepth}
+use Rattle.parity_table.specs.Shape.{max_depth}
 use Rattle.model.specs.Shape.{tree, places}
 use Rattle.model.specs.Symbols.{count}
-use Rattle.model.specs.Repair.{absentAt}
-use Rattle.equation.specs.Rooms.{membersAt}
+use Rattle.model.specs.Repair.{absent_at}
+use Rattle.equation.specs.Rooms.{members_at}
 use Rattle.incidence.specs.Incidence.{Listed, Narrow, Threaded}
 
 -- ---- the lowest equation
@@ -39,11 +39,11 @@ pub record Picked (used absent : List ℕ) (at e : ℕ) (order : List ℕ) : Typ
 -- `absent` has for each of n equations, by the marks m, how many of its members are absent
 pub record Counted (ws starts : List ℕ) (from j n : ℕ) (m absent : List ℕ) : Type 0 where
   pub sized : length absent ≡ n
-  pub counts : (e : ℕ) → e < n → get_or absent e 0 ≡ count (absentAt tree m j) (membersAt ws starts (from + e))
+  pub counts : (e : ℕ) → e < n → get_or absent e 0 ≡ count (absent_at tree m j) (members_at ws starts (from + e))
 
 -- what counting them asks
 pub record Countable (ws starts : List ℕ) (from j n : ℕ) (m : List ℕ) : Type 0 where
-  pub layer : j < maxDepth
+  pub layer : j < max_depth
   pub symbols : ℕ
   pub room : places tree j + symbols ≤ length m
   pub listed : Listed ws starts from n symbols
@@ -65,7 +65,7 @@ pub record Lowerable (last next used absent order : List ℕ) (at x : ℕ) : Typ
   pub starts : List ℕ
   pub from : ℕ
   pub thread : Thread words starts from (length used) last next x
-  pub enough : (e : ℕ) → e < length used → count (λ y. eqb y x) (membersAt words starts (from + e)) ≤ get_or absent e 0
+  pub enough : (e : ℕ) → e < length used → count (λ y. eqb y x) (members_at words starts (from + e)) ≤ get_or absent e 0
   pub ordered : Ordered used absent at order
   pub sized : length absent ≡ length used
   pub low : length used ≤ 2 ^ 30
@@ -73,4 +73,4 @@ pub record Lowerable (last next used absent order : List ℕ) (at x : ℕ) : Typ
 -- each has lost its members x
 abbrev pub Lowered : List ℕ → List ℕ → ℕ → ℕ → ℕ → List ℕ → List ℕ → Type 0
 Lowered ws starts from n x absent after =
-    (e : ℕ) → e < n → get_or after e 0 + count (λ y. eqb y x) (membersAt ws starts (from + e)) ≡ get_or absent e 0
+    (e : ℕ) → e < n → get_or after e 0 + count (λ y. eqb y x) (members_at ws starts (from + e)) ≡ get_or absent e 0

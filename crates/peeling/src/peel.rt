@@ -3,7 +3,7 @@
 ghost use Rattle.std.specs.Prelude.{List, ℕ, ◌+◌, ◌^◌, ◌≤◌, length};
 ghost use Rattle.model.specs.Shape.{Shape, Hangs};
 ghost use Rattle.model.specs.Repair.{peel};
-ghost use Rattle.symbol_hash.specs.SymbolHash.{symbolHash};
+ghost use Rattle.symbol_hash.specs.SymbolHash.{symbol_hash};
 ghost use Rattle.peeling.specs.Levels.{Peelable, Reads};
 ghost use Rattle.peeling.specs.States.{Came, Kept};
 
@@ -35,7 +35,7 @@ pub fn peel_layer(
         order.old from j × (stored ≤ 2 ^ 20) }
     ensures { ((S : Shape) → Hangs S j → (tbl : List (List (List ℕ)))
         → Reads tbl words.now starts.now from j (length used.old)
-        → Came (peel S (symbolHash kind) root.now tbl j (length used.old)) j tree.old
+        → Came (peel S (symbol_hash kind) root.now tbl j (length used.old)) j tree.old
         marks.old out.old used.old tree.new marks.new out.new used.new
         stored result.stored result.outcome)
         × (result.stored ≤ stored + length used.old)

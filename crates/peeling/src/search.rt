@@ -3,8 +3,8 @@
 ghost use Rattle.std.specs.Prelude.{◌≡◌, List, ℕ, ◌+◌, ◌-◌, ◌*◌, ◌^◌, ◌≤◌, ◌<◌, max, length, get_or, set};
 ghost use Rattle.model.specs.Shape.{tree as shape};
 ghost use Rattle.model.specs.Symbols.{count, lowest};
-ghost use Rattle.model.specs.Repair.{absentAt};
-ghost use Rattle.equation.specs.Rooms.{Marked, Stands, membersAt};
+ghost use Rattle.model.specs.Repair.{absent_at};
+ghost use Rattle.equation.specs.Rooms.{Marked, Stands, members_at};
 ghost use Rattle.peeling.specs.Search.{Countable, Counted, Lowerable, Lowered, Ordered, Picked, Thread, ready};
 
 use equation::count_absent;
@@ -13,8 +13,8 @@ use tournament::{least, set};
 
 // How many members of the equation that starts at starts[number] of the words are absent.
 fn absent_in(words: &[u32], starts: &[usize], number: usize, marks: &[u8], j: usize) -> usize
-    requires { Stands words.now starts.now number × Marked marks.now (membersAt words.now starts.now number) j }
-    ensures { result ≡ count (absentAt shape marks.now j) (membersAt words.now starts.now number) }
+    requires { Stands words.now starts.now number × Marked marks.now (members_at words.now starts.now number) j }
+    ensures { result ≡ count (absent_at shape marks.now j) (members_at words.now starts.now number) }
 {
     let at = starts[number];
     let end = at + index::count_members(words, at);

@@ -1,8 +1,8 @@
 // (a): "a held symbol whose hash isn't the committed one becomes absent; absent places are zeroed".
 ghost use Rattle.std.specs.Prelude.{suc};
 ghost use Rattle.model.specs.Shape.{Shape, Hangs, tree as shape};
-ghost use Rattle.model.specs.Repair.{sweepAt, sweep};
-ghost use Rattle.symbol_hash.specs.SymbolHash.{symbolHash};
+ghost use Rattle.model.specs.Repair.{sweep_at, sweep};
+ghost use Rattle.symbol_hash.specs.SymbolHash.{symbol_hash};
 ghost use Rattle.equation.specs.Rooms.{Level};
 ghost use Rattle.peeling.specs.States.{Moved};
 
@@ -13,7 +13,7 @@ use symbol_hash::Kind;
 // (a) for symbol i of layer j.
 fn sweep_at(kind: Kind, root: &[u8], tree: &mut [u8], marks: &mut [u8], j: usize, i: usize)
     requires { Level root.now tree.old marks.old j (suc i) }
-    ensures { Moved (sweepAt shape (symbolHash kind) root.now j i) tree.old marks.old tree.new
+    ensures { Moved (sweep_at shape (symbol_hash kind) root.now j i) tree.old marks.old tree.new
         marks.new }
 {
     if is_gap(kind, root, tree, marks, j, i) {
@@ -28,7 +28,7 @@ fn sweep_at(kind: Kind, root: &[u8], tree: &mut [u8], marks: &mut [u8], j: usize
 pub fn sweep_layer(kind: Kind, root: &[u8], tree: &mut [u8], marks: &mut [u8], j: usize, n: usize)
     requires { Level root.now tree.old marks.old j n }
     ensures { (S : Shape) → Hangs S j
-        → Moved (sweep S (symbolHash kind) root.now j 0 n) tree.old marks.old tree.new
+        → Moved (sweep S (symbol_hash kind) root.now j 0 n) tree.old marks.old tree.new
         marks.new }
 {
     for i in 0..n {

@@ -6,6 +6,6 @@ use Rattle.model.specs.Shape.{tree, places}
 -- the words of a table of depth d with their index, and a root, a tree and marks of the lengths of that depth
 pub record Lent (d : ℕ) (ws starts root t m : List ℕ) : Type 0 where
   pub indexed : Indexed d ws starts
-  pub root-full : length root ≡ 512
+  pub root_full : length root ≡ 512
   pub tree-full : length t ≡ 256 * places tree d
   pub marks-full : length m ≡ places tree d

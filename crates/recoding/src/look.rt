@@ -2,12 +2,12 @@
 ghost use Rattle.std.specs.Prelude.{◌≡◌, ℕ, ◌<◌};
 ghost use Rattle.octets.specs.ByteLists.{same};
 ghost use Rattle.parity_table.specs.Shape.{n_of};
-ghost use Rattle.parity_table.specs.Table.{equationOf};
+ghost use Rattle.parity_table.specs.Table.{equation_of};
 ghost use Rattle.parity_table.specs.Parse.{Indexed, HasEquation, table_of};
 ghost use Rattle.model.specs.Shape.{tree as shape};
-ghost use Rattle.model.specs.Symbols.{xorOf, zeros, symAt};
-ghost use Rattle.model.specs.Look.{allHold, noGaps, is_complete, intact};
-ghost use Rattle.symbol_hash.specs.SymbolHash.{symbolHash};
+ghost use Rattle.model.specs.Symbols.{xor_of, zeros, sym_at};
+ghost use Rattle.model.specs.Look.{all_hold, no_gaps, is_complete, intact};
+ghost use Rattle.symbol_hash.specs.SymbolHash.{symbol_hash};
 ghost use Rattle.fault_writer.specs.Room.{Layers};
 ghost use Rattle.equation.specs.Rooms.{Level};
 ghost use Rattle.recoding.specs.Look.{Lent};
@@ -19,7 +19,7 @@ use symbol_hash::Kind;
 // Whether equation e of layer j holds.
 fn equation_holds(words: &[u32], starts: &[usize], tree: &[u8], j: usize, e: usize) -> bool
     requires { HasEquation words.now starts.now j e × Layers j (n_of j) tree.now }
-    ensures { result ≡ same (xorOf (symAt shape tree.now j) (equationOf (table_of words.now) j e)) zeros }
+    ensures { result ≡ same (xor_of (sym_at shape tree.now j) (equation_of (table_of words.now) j e)) zeros }
 {
     let s = index::equation(words, starts, j, e);
     let at = s.at;
@@ -30,7 +30,7 @@ fn equation_holds(words: &[u32], starts: &[usize], tree: &[u8], j: usize, e: usi
 // Whether each equation of layer j holds.
 fn all_hold(words: &[u32], starts: &[usize], tree: &[u8], j: usize) -> bool
     requires { ((depth : ℕ) × Indexed depth words.now starts.now × (j < depth)) × Layers j (n_of j) tree.now }
-    ensures { result ≡ allHold shape (table_of words.now) tree.now j }
+    ensures { result ≡ all_hold shape (table_of words.now) tree.now j }
 {
     for e in 0..3 * data_count(j) {
         if !equation_holds(words, starts, tree, j, e) {
@@ -43,7 +43,7 @@ fn all_hold(words: &[u32], starts: &[usize], tree: &[u8], j: usize) -> bool
 // Whether no symbol of layer j is a gap.
 fn no_gaps(kind: Kind, root: &[u8], tree: &[u8], marks: &[u8], j: usize) -> bool
     requires { Level root.now tree.now marks.now j (n_of j) }
-    ensures { result ≡ noGaps shape (symbolHash kind) root.now tree.now marks.now j }
+    ensures { result ≡ no_gaps shape (symbol_hash kind) root.now tree.now marks.now j }
 {
     for i in 0..4 * data_count(j) {
         if is_gap(kind, root, tree, marks, j, i) {
@@ -64,7 +64,7 @@ fn is_complete(
     j: usize,
 ) -> bool
     requires { (depth : ℕ) × Lent depth words.now starts.now root.now tree.now marks.now × (j < depth) }
-    ensures { result ≡ is_complete shape (symbolHash kind) root.now (table_of words.now) tree.now marks.now j }
+    ensures { result ≡ is_complete shape (symbol_hash kind) root.now (table_of words.now) tree.now marks.now j }
 {
     if !no_gaps(kind, root, tree, marks, j) {
         return false;
@@ -83,7 +83,7 @@ pub fn is_intact(
     marks: &[u8],
 ) -> bool
     requires { Lent depth words.now starts.now root.now tree.now marks.now }
-    ensures { result ≡ intact shape (symbolHash kind) root.now (table_of words.now) tree.now marks.now }
+    ensures { result ≡ intact shape (symbol_hash kind) root.now (table_of words.now) tree.now marks.now }
 {
     for j in 0..depth {
         if !is_complete(kind, words, starts, root, tree, marks, j) {

@@ -1,16 +1,16 @@
 // Coding a volume anew.
 ghost use Rattle.std.specs.Prelude.{◌≡◌, ◌&&◌, ◌-◌, ◌*◌, ◌≤◌, take};
-ghost use Rattle.parity_table.specs.Shape.{depthFits, k_of};
+ghost use Rattle.parity_table.specs.Shape.{depth_fits, k_of};
 ghost use Rattle.parity_table.specs.Parse.{table_of};
-ghost use Rattle.symbol_hash.specs.SymbolHash.{symbolHash};
+ghost use Rattle.symbol_hash.specs.SymbolHash.{symbol_hash};
 ghost use Rattle.model.specs.Shape.{tree as shape};
-ghost use Rattle.model.specs.Writer.{block_of, zeroFilled};
+ghost use Rattle.model.specs.Writer.{block_of, zero_filled};
 ghost use Rattle.model.specs.Look.{intact};
-ghost use Rattle.calls.specs.Tests.{◌then◌, testMarks};
+ghost use Rattle.calls.specs.Tests.{◌then◌, test_marks};
 ghost use Rattle.calls.specs.Room.{Room};
 ghost use Rattle.volume_calls.specs.Writing.{leaves, written_by};
 ghost use Rattle.recoding.specs.Look.{Lent};
-ghost use Rattle.recoding.specs.Recoding.{otherKind, recodeSized, testWhole, recoded, Recodable};
+ghost use Rattle.recoding.specs.Recoding.{other_kind, recode_sized, test_whole, recoded, Recodable};
 
 use crate::look::is_intact;
 use calls::{Answer, Stop, admit_by, stops_at_depth, test_marks, tree_fits};
@@ -22,7 +22,7 @@ use volume_calls::write_with;
 
 // The other kind.
 fn other(kind: Kind) -> Kind
-    ensures { result ≡ otherKind kind }
+    ensures { result ≡ other_kind kind }
 {
     match kind {
         Kind::Plain => Kind::Placed,
@@ -40,7 +40,7 @@ fn sizes_fit(
     new_marks: usize,
     new_record_len: usize,
 ) -> bool
-    ensures { result ≡ depthFits depth && recodeSized depth record_len tree marks new_tree new_marks new_record_len }
+    ensures { result ≡ depth_fits depth && recode_sized depth record_len tree marks new_tree new_marks new_record_len }
 {
     if !tree_fits(depth, tree, marks) {
         return false;
@@ -66,10 +66,10 @@ fn test_source(
     marks: &[u8],
 ) -> Answer
     requires { Lent depth words.now starts.now root.now tree.now marks.now × (n ≤ 256 * k_of (depth - 1)) }
-    ensures { result ≡ (testMarks marks.now
-        then testWhole
-        (intact shape (symbolHash kind) root.now (table_of words.now) tree.now marks.now
-        && zeroFilled shape depth n tree.now)) }
+    ensures { result ≡ (test_marks marks.now
+        then test_whole
+        (intact shape (symbol_hash kind) root.now (table_of words.now) tree.now marks.now
+        && zero_filled shape depth n tree.now)) }
 {
     if let Answer::Stopped(s) = test_marks(marks) {
         return Answer::Stopped(s);
@@ -102,11 +102,11 @@ fn recode_with(
         new_record.old }
     ensures { leaves result new_tree.new new_marks.new new_record.new
         ≡ written_by
-        (testMarks marks.now
-        then testWhole
-        (intact shape (symbolHash kind) root.now (table_of words.now) tree.now marks.now
-        && zeroFilled shape depth n tree.now))
-        depth (otherKind kind) table.now (take n (block_of shape depth tree.now)) new_tree.old
+        (test_marks marks.now
+        then test_whole
+        (intact shape (symbol_hash kind) root.now (table_of words.now) tree.now marks.now
+        && zero_filled shape depth n tree.now))
+        depth (other_kind kind) table.now (take n (block_of shape depth tree.now)) new_tree.old
         new_marks.old new_record.old }
 {
     if let Answer::Stopped(s) = test_source(kind, depth, words, starts, root, n, tree, marks) {

@@ -7,31 +7,31 @@ use native.Mathlib.Omega.{arith}
 use lib.Dec.{ltb}
 use lib.ListN.{drop, get_or, length, length-replicate, replicate}
 use borrow.Author.Tests.{le-ltb, lt-ltb}
-use Rattle.octets.proofs.Choice.{by-test, pick_no, pick_yes}
+use Rattle.octets.proofs.Choice.{by_test, pick_no, pick_yes}
 use Rattle.octets.specs.Choice.{pick}
-use Rattle.parity_table.proofs.Accepts.{accepted-depth, accepted-table, located, start-inside, start-known}
+use Rattle.parity_table.proofs.Accepts.{accepted-depth, accepted-table, located, start_inside, start_known}
 use Rattle.parity_table.proofs.Parse.{members-take}
 use Rattle.parity_table.proofs.Rules.{members-below}
-use Rattle.parity_table.proofs.Shape.{k-grows, k-low, k-pos}
+use Rattle.parity_table.proofs.Shape.{k_grows, k-low, k_pos}
 use Rattle.parity_table.specs.Members.{every}
 use Rattle.parity_table.specs.Parse.{HasEquation, number_in, table_of}
-use Rattle.parity_table.specs.Shape.{k_of, maxDepth, n_of}
-use Rattle.parity_table.specs.Table.{EquationOk, equationOf, layerOf}
-use Rattle.model.proofs.Shapes.{n-small}
-use Rattle.model.specs.Fault.{proofLength}
-use Rattle.model.specs.Repair.{End, St, absentAt, endAs, enter, fresh, gapsLeft, going, layer, peel, settle, sweep, unavailable, working}
+use Rattle.parity_table.specs.Shape.{k_of, max_depth, n_of}
+use Rattle.parity_table.specs.Table.{EquationOk, equation_of, layer_of}
+use Rattle.model.proofs.Shapes.{n_small}
+use Rattle.model.specs.Fault.{proof_length}
+use Rattle.model.specs.Repair.{End, St, absent_at, end_as, enter, fresh, gaps_left, going, layer, peel, settle, sweep, unavailable, working}
 use Rattle.model.specs.Shape.{tree}
 use Rattle.model.specs.Symbols.{lowest}
-use Rattle.symbol_hash.specs.SymbolHash.{symbolHash}
+use Rattle.symbol_hash.specs.SymbolHash.{symbol_hash}
 use Rattle.symbol_hash.specs.declared.Kind.{Kind}
-use Rattle.equation.proofs.CommittedLaws.{level-of}
-use Rattle.equation.specs.Rooms.{Level, Stands, membersAt}
+use Rattle.equation.proofs.CommittedLaws.{level_of}
+use Rattle.equation.specs.Rooms.{Level, Stands, members_at}
 use Rattle.equation.specs.States.{state}
 use Rattle.incidence.specs.Incidence.{Listed, Narrow, Threadable, Threaded}
 use Rattle.peeling.specs.Search.{Countable, Counted, Ordered}
 use Rattle.peeling.specs.Levels.{Lent, Peelable, Reads}
 use Rattle.peeling.specs.States.{Came, Moved}
-use Rattle.peeling.specs.States.{end_of as endAfter}
+use Rattle.peeling.specs.States.{end_of as end_after}
 use Rattle.peeling.specs.declared.Outcome.{Outcome}
 use Rattle.peeling.specs.declared.Outcome.TheVariants as outcome
 use Rattle.repair.specs.Buffers.{Given, Lists, Own}
@@ -40,19 +40,19 @@ use Rattle.repair.specs.declared.layer.Passage.{Passage}
 
 -- ---- what its calls ask
 
-pub given-keep : {d : ℕ} {ws starts root t m o t' m' o' : List ℕ} → length t' ≡ length t → length m' ≡ length m → length o' ≡ length o
+pub given_keep : {d : ℕ} {ws starts root t m o t' m' o' : List ℕ} → length t' ≡ length t → length m' ≡ length m → length o' ≡ length o
     → Given d ws starts root t m o → Given d ws starts root t' m' o'
-given-keep lt lm lo k =
-    record { indexed = k.indexed; root-full = k.root-full; tree-full = lt ∙ k.tree-full; marks-full = lm ∙ k.marks-full; out-full = lo ∙ k.out-full }
+given_keep lt lm lo k =
+    record { indexed = k.indexed; root_full = k.root_full; tree-full = lt ∙ k.tree-full; marks-full = lm ∙ k.marks-full; out-full = lo ∙ k.out-full }
 
 module _ {d : ℕ} {ws starts root t m o : List ℕ} (k : Given d ws starts root t m o) (j : ℕ) (hj : j < d) where
-  pub layer_below : j < maxDepth
+  pub layer_below : j < max_depth
   layer_below = omega (arith, (accepted-depth d ws k.indexed.accepted).1)
 
   pub level : Level root t m j (n_of j)
-  level = level-of d j (accepted-depth d ws k.indexed.accepted).1 hj k.root-full k.tree-full k.marks-full
+  level = level_of d j (accepted-depth d ws k.indexed.accepted).1 hj k.root_full k.tree-full k.marks-full
 
-  pub equations : length (layerOf (table_of ws) j) ≡ 3 * k_of j
+  pub equations : length (layer_of (table_of ws) j) ≡ 3 * k_of j
   equations = (accepted-table d ws k.indexed.accepted).equations j hj
 
   -- its equations in the words, the first being number `from`
@@ -67,12 +67,12 @@ module _ {d : ℕ} {ws starts root t m o : List ℕ} (k : Given d ws starts root
 
       stands : Stands ws starts (from + e)
       stands =
-          subst (Stands ws starts) number (record { listed = start-known ws starts j e has; inside = start-inside ws starts j e has })
+          subst (Stands ws starts) number (record { listed = start_known ws starts j e has; inside = start_inside ws starts j e has })
 
-      there : membersAt ws starts (from + e) ≡ equationOf (table_of ws) j e
-      there = ap (membersAt ws starts) (sym number) ∙ members-take (drop (get_or starts (number_in j e) 0) ws) ∙ (located ws starts j e has).members
+      there : members_at ws starts (from + e) ≡ equation_of (table_of ws) j e
+      there = ap (members_at ws starts) (sym number) ∙ members-take (drop (get_or starts (number_in j e) 0) ws) ∙ (located ws starts j e has).members
 
-      rules : EquationOk j e (equationOf (table_of ws) j e)
+      rules : EquationOk j e (equation_of (table_of ws) j e)
       rules = (accepted-table d ws k.indexed.accepted).members j e hj he
 
     listed : (n symbols : ℕ) → n ≡ 3 * k_of j → symbols ≡ n_of j → Listed ws starts from n symbols
@@ -80,7 +80,7 @@ module _ {d : ℕ} {ws starts root t m o : List ℕ} (k : Given d ws starts root
         record {
           stands = λ e l. stands e (omega arith);
           within = λ e l.
-              ap (λ (q : ℕ). every (λ y. ltb y q) (membersAt ws starts (from + e))) es
+              ap (λ (q : ℕ). every (λ y. ltb y q) (members_at ws starts (from + e))) es
               ∙ ap (every (λ y. ltb y (n_of j))) (there e (omega arith)) ∙ members-below d (table_of ws) (accepted-table d ws k.indexed.accepted) j e hj (omega arith);
         }
 
@@ -91,11 +91,11 @@ module _ {d : ℕ} {ws starts root t m o : List ℕ} (k : Given d ws starts root
     reads n en = record { count = equations ∙ sym en; members = λ e l. sym (there e (omega arith)) }
 
     lent : (u : List ℕ) → length u ≡ 3 * k_of j → Lent root ws starts t m o u from j
-    unfolding proofLength
+    unfolding proof_length
     lent u l =
         record {
           symbols = n_of j;
-          numbered = omega (arith, n-small j layer_below);
+          numbered = omega (arith, n_small j layer_below);
           level = level;
           listed = listed (length u) (n_of j) l refl;
           low = omega (arith, k-low j layer_below);
@@ -136,7 +136,7 @@ module _ {d : ℕ} {ws starts root t m o : List ℕ} (k : Given d ws starts root
       peelable th co ro =
           record {
             lent = lent used own.used-full;
-            some = omega (arith, own.used-full, k-pos j);
+            some = omega (arith, own.used-full, k_pos j);
             eight = omega arith;
             threaded = th;
             last-room = omega (arith, own.last-full);
@@ -146,67 +146,67 @@ module _ {d : ℕ} {ws starts root t m o : List ℕ} (k : Given d ws starts root
           }
 
 -- the lists keep their lengths
-pub own-keep : {j : ℕ} {used absent order last next used' absent' order' last' next' : List ℕ} → length used' ≡ length used → length absent' ≡ length absent
+pub own_keep : {j : ℕ} {used absent order last next used' absent' order' last' next' : List ℕ} → length used' ≡ length used → length absent' ≡ length absent
     → length order' ≡ length order → length last' ≡ length last → length next' ≡ length next → Own j used absent order last next
     → Own j used' absent' order' last' next'
-own-keep eu ea eo el en k =
+own_keep eu ea eo el en k =
     record {
       used-full = eu ∙ k.used-full;
       absent-full = ea ∙ k.absent-full;
-      order-full = eo ∙ k.order-full;
+      order_full = eo ∙ k.order_full;
       last-full = el ∙ k.last-full;
       next-room = omega (arith, k.next-room);
     }
 
 -- lists for the lowest layer serve each one, and keep their lengths
-pub lists-layer : (j d : ℕ) {used absent order last next used' absent' order' last' next' : List ℕ} → j < d → length used' ≡ length used
+pub lists_layer : (j d : ℕ) {used absent order last next used' absent' order' last' next' : List ℕ} → j < d → length used' ≡ length used
     → length absent' ≡ length absent → length order' ≡ length order → length last' ≡ length last → length next' ≡ length next
     → Lists (k_of (d - 1)) used absent order last next → Lists (k_of j) used' absent' order' last' next'
-lists-layer j d h eu ea eo el en k =
+lists_layer j d h eu ea eo el en k =
     let same : k_of (j + (d - 1 - j)) ≡ k_of (d - 1) = ap k_of (omega arith) in
-    let low : k_of j ≤ k_of (d - 1) = omega (arith, k-grows j (d - 1 - j)) in
+    let low : k_of j ≤ k_of (d - 1) = omega (arith, k_grows j (d - 1 - j)) in
     record {
       used-room = omega (arith, k.used-room);
       absent-room = omega (arith, k.absent-room);
-      order-room = omega (arith, k.order-room);
+      order_room = omega (arith, k.order_room);
       last-room = omega (arith, k.last-room);
       next-room = omega (arith, k.next-room);
     }
 
 -- ---- (c)
 
-pub settled-gaps : (m : List ℕ) (j : ℕ) → lowest (absentAt tree m j) 0 (tree.n j) < tree.n j → unavailable j ≡ settled outcome.Peeled m j
-settled-gaps m j h = sym (pick_yes (ltb (lowest (absentAt tree m j) 0 (tree.n j)) (tree.n j)) (unavailable j) working (lt-ltb _ _ h))
+pub settled-gaps : (m : List ℕ) (j : ℕ) → lowest (absent_at tree m j) 0 (tree.n j) < tree.n j → unavailable j ≡ settled outcome.Peeled m j
+settled-gaps m j h = sym (pick_yes (ltb (lowest (absent_at tree m j) 0 (tree.n j)) (tree.n j)) (unavailable j) working (lt-ltb _ _ h))
 
-pub settled-full : (m : List ℕ) (j : ℕ) → tree.n j ≤ lowest (absentAt tree m j) 0 (tree.n j) → working ≡ settled outcome.Peeled m j
-settled-full m j h = sym (pick_no (ltb (lowest (absentAt tree m j) 0 (tree.n j)) (tree.n j)) (unavailable j) working (le-ltb _ _ h))
+pub settled-full : (m : List ℕ) (j : ℕ) → tree.n j ≤ lowest (absent_at tree m j) 0 (tree.n j) → working ≡ settled outcome.Peeled m j
+settled-full m j h = sym (pick_no (ltb (lowest (absent_at tree m j) 0 (tree.n j)) (tree.n j)) (unavailable j) working (le-ltb _ _ h))
 
-settle_is : (t m o u : List ℕ) (s d j : ℕ) (z : Outcome) → settle tree j (state t m o u s d (endAfter j z)) ≡ state t m o u s d (settled z m j)
-unfolding settle gapsLeft endAs going
+settle_is : (t m o u : List ℕ) (s d j : ℕ) (z : Outcome) → settle tree j (state t m o u s d (end_after j z)) ≡ state t m o u s d (settled z m j)
+unfolding settle gaps_left end_as going
 settle_is t m o u s d j outcome.Peeled =
-    by-test (ltb (lowest (absentAt tree m j) 0 (tree.n j)) (tree.n j))
+    by_test (ltb (lowest (absent_at tree m j) 0 (tree.n j)) (tree.n j))
     (λ g.
-    pick_yes (ltb (lowest (absentAt tree m j) 0 (tree.n j)) (tree.n j)) _ _ g
-    ∙ ap (λ (e : End). state t m o u s d e) (sym (pick_yes (ltb (lowest (absentAt tree m j) 0 (tree.n j)) (tree.n j)) (unavailable j) working g)))
+    pick_yes (ltb (lowest (absent_at tree m j) 0 (tree.n j)) (tree.n j)) _ _ g
+    ∙ ap (λ (e : End). state t m o u s d e) (sym (pick_yes (ltb (lowest (absent_at tree m j) 0 (tree.n j)) (tree.n j)) (unavailable j) working g)))
     (λ g.
-    pick_no (ltb (lowest (absentAt tree m j) 0 (tree.n j)) (tree.n j)) _ _ g
-    ∙ ap (λ (e : End). state t m o u s d e) (sym (pick_no (ltb (lowest (absentAt tree m j) 0 (tree.n j)) (tree.n j)) (unavailable j) working g)))
+    pick_no (ltb (lowest (absent_at tree m j) 0 (tree.n j)) (tree.n j)) _ _ g
+    ∙ ap (λ (e : End). state t m o u s d e) (sym (pick_no (ltb (lowest (absent_at tree m j) 0 (tree.n j)) (tree.n j)) (unavailable j) working g)))
 settle_is t m o u s d j (outcome.Fault e x n) = pick_no false _ _ refl
 settle_is t m o u s d j (outcome.Twins x) = pick_no false _ _ refl
 
 -- ---- the layer
 
 module _ (kind : Kind) (root : List ℕ) (tbl : List (List (List ℕ))) (j n : ℕ) (en : n ≡ tree.n j) {t m o t₁ m₁ t' m' o' u₁ u' : List ℕ} {s s' : ℕ} {z : Outcome}
-    (swept : Moved (sweep tree (symbolHash kind) root j 0 n) t m t₁ m₁) (eu : u₁ ≡ replicate (length (layerOf tbl j)) 0)
-    (peeled : Came (peel tree (symbolHash kind) root tbl j (length u₁)) j t₁ m₁ o u₁ t' m' o' u' s s' z) where
-  worked : (u : List ℕ) (d : ℕ) → layer tree (symbolHash kind) root tbl j (state t m o u s d working) ≡ state t' m' o' u' s' (suc j) (settled z m' j)
+    (swept : Moved (sweep tree (symbol_hash kind) root j 0 n) t m t₁ m₁) (eu : u₁ ≡ replicate (length (layer_of tbl j)) 0)
+    (peeled : Came (peel tree (symbol_hash kind) root tbl j (length u₁)) j t₁ m₁ o u₁ t' m' o' u' s s' z) where
+  worked : (u : List ℕ) (d : ℕ) → layer tree (symbol_hash kind) root tbl j (state t m o u s d working) ≡ state t' m' o' u' s' (suc j) (settled z m' j)
   unfolding layer enter fresh going pick
   worked u d =
-      let l : List ℕ = replicate (length (layerOf tbl j)) 0 in
-      let lu : length (layerOf tbl j) ≡ length u₁ = sym (ap length eu ∙ length-replicate (length (layerOf tbl j)) 0) in
-      ap (λ (q : ℕ). settle tree j (peel tree (symbolHash kind) root tbl j (length (layerOf tbl j)) (sweep tree (symbolHash kind) root j 0 q (state t m o l s (suc j) working)))) (sym en)
-      ∙ ap₂ (λ (st : St) (q : ℕ). settle tree j (peel tree (symbolHash kind) root tbl j q st)) (swept.goes o l s (suc j)) lu
-      ∙ ap (λ (v : List ℕ). settle tree j (peel tree (symbolHash kind) root tbl j (length u₁) (state t₁ m₁ o v s (suc j) working))) (sym eu)
+      let l : List ℕ = replicate (length (layer_of tbl j)) 0 in
+      let lu : length (layer_of tbl j) ≡ length u₁ = sym (ap length eu ∙ length-replicate (length (layer_of tbl j)) 0) in
+      ap (λ (q : ℕ). settle tree j (peel tree (symbol_hash kind) root tbl j (length (layer_of tbl j)) (sweep tree (symbol_hash kind) root j 0 q (state t m o l s (suc j) working)))) (sym en)
+      ∙ ap₂ (λ (st : St) (q : ℕ). settle tree j (peel tree (symbol_hash kind) root tbl j q st)) (swept.goes o l s (suc j)) lu
+      ∙ ap (λ (v : List ℕ). settle tree j (peel tree (symbol_hash kind) root tbl j (length u₁) (state t₁ m₁ o v s (suc j) working))) (sym eu)
       ∙ ap (settle tree j) (peeled.goes (suc j))
       ∙ settle_is t' m' o' u' s' (suc j) j z
 

@@ -4,7 +4,7 @@ use Rattle.octets.specs.Choice.{pick}
 use Rattle.model.specs.Shape.{tree}
 use Rattle.model.specs.Symbols.{lowest}
 use Rattle.model.specs.Repair as model
-use Rattle.symbol_hash.specs.SymbolHash.{symbolHash}
+use Rattle.symbol_hash.specs.SymbolHash.{symbol_hash}
 use Rattle.symbol_hash.specs.declared.Kind.{Kind}
 use Rattle.peeling.specs.declared.Outcome.{Outcome}
 use Rattle.peeling.specs.declared.Outcome.TheVariants as outcome
@@ -28,7 +28,7 @@ passes (Stop z) = end_of z
 
 -- (c) after the peeling of layer j
 abbrev pub settled : Outcome → List ℕ → ℕ → model.End
-settled outcome.Peeled m j = pick (ltb (lowest (model.absentAt tree m j) 0 (tree.n j)) (tree.n j)) (model.unavailable j) model.working
+settled outcome.Peeled m j = pick (ltb (lowest (model.absent_at tree m j) 0 (tree.n j)) (tree.n j)) (model.unavailable j) model.working
 settled (outcome.Fault e x n) m j = model.fault j e x n
 settled (outcome.Twins x) m j = model.twins j x
 
@@ -36,12 +36,12 @@ settled (outcome.Twins x) m j = model.twins j x
 pub record Layered (kind : Kind) (root : List ℕ) (tbl : List (List (List ℕ))) (j : ℕ) (t m o t' m' o' : List ℕ) (s s' : ℕ) (r : Passage) : Type 0 where
   pub used : List ℕ
   pub goes : (u : List ℕ) (d : ℕ)
-      → model.layer tree (symbolHash kind) root tbl j (state t m o u s d model.working) ≡ state t' m' o' used s' (suc j) (passes r)
+      → model.layer tree (symbol_hash kind) root tbl j (state t m o u s d model.working) ≡ state t' m' o' used s' (suc j) (passes r)
 
 -- the repair of the tree t₀, the marks m₀ and the output o₀ leaves t, m and o, and reports s and z
 pub record Repaired (kind : Kind) (root : List ℕ) (tbl : List (List (List ℕ))) (t₀ m₀ o₀ t m o : List ℕ) (s : ℕ) (z : End) : Type 0 where
-  pub tree_is : t ≡ (model.repair tree (symbolHash kind) root tbl t₀ m₀ o₀).tree
-  pub marks-is : m ≡ (model.repair tree (symbolHash kind) root tbl t₀ m₀ o₀).marks
-  pub out-is : o ≡ (model.repair tree (symbolHash kind) root tbl t₀ m₀ o₀).out
-  pub stored_is : s ≡ (model.repair tree (symbolHash kind) root tbl t₀ m₀ o₀).stored
-  pub end_is : end_of z ≡ (model.repair tree (symbolHash kind) root tbl t₀ m₀ o₀).end
+  pub tree_is : t ≡ (model.repair tree (symbol_hash kind) root tbl t₀ m₀ o₀).tree
+  pub marks-is : m ≡ (model.repair tree (symbol_hash kind) root tbl t₀ m₀ o₀).marks
+  pub out-is : o ≡ (model.repair tree (symbol_hash kind) root tbl t₀ m₀ o₀).out
+  pub stored_is : s ≡ (model.repair tree (symbol_hash kind) root tbl t₀ m₀ o₀).stored
+  pub end_is : end_of z ≡ (model.repair tree (symbol_hash kind) root tbl t₀ m₀ o₀).end

@@ -1,6 +1,6 @@
 // One layer of a repair: (a) the sweep, (b) peeling, (c) "gaps left mean "unavailable" with this layer, else go on".
 ghost use Rattle.std.specs.Prelude.{◌≡◌, ℕ, suc, ◌+◌, ◌*◌, ◌^◌, ◌<◌, ◌≤◌, length, replicate};
-ghost use Rattle.parity_table.specs.Shape.{maxDepth, k_of};
+ghost use Rattle.parity_table.specs.Shape.{max_depth, k_of};
 ghost use Rattle.parity_table.specs.Parse.{table_of};
 ghost use Rattle.model.specs.Shape.{tree as shape, places};
 ghost use Rattle.incidence.specs.Incidence.{Threadable, Threaded};
@@ -29,7 +29,7 @@ pub struct Passed {
 
 // How layer j is left after its peeling.
 fn settle(outcome: Outcome, marks: &[u8], j: usize) -> Passage
-    requires { (j < maxDepth) × (places shape (suc j) ≤ length marks.now) }
+    requires { (j < max_depth) × (places shape (suc j) ≤ length marks.now) }
     ensures { passes result ≡ settled outcome marks.now j }
 {
     match outcome {

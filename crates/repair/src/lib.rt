@@ -3,7 +3,7 @@ mod layer; // one layer: (a), (b), (c)
 
 ghost use Rattle.std.specs.Prelude.{◌-◌, ◌≤◌};
 ghost use Rattle.parity_table.specs.Shape.{k_of};
-ghost use Rattle.parity_table.specs.Parse.{table_of, equationsAbove};
+ghost use Rattle.parity_table.specs.Parse.{table_of, equations_above};
 ghost use Rattle.repair.specs.Buffers.{Given, Lists};
 ghost use Rattle.repair.specs.Reports.{Repaired};
 
@@ -57,7 +57,7 @@ pub fn repair(
         × Lists (k_of (depth - 1)) used.old absent.old order.old last.old next.old }
     ensures { Repaired kind root.now (table_of words.now) tree.old marks.old out.old
         tree.new marks.new out.new result.stored result.end
-        × (result.stored ≤ equationsAbove depth) }
+        × (result.stored ≤ equations_above depth) }
 {
     let mut stored: usize = 0;
     for j in 0..depth {

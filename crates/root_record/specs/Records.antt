@@ -10,40 +10,40 @@ use Rattle.symbol_hash.specs.declared.Kind.{Kind}
 use Rattle.symbol_hash.specs.declared.Kind.TheVariants.{Plain, Placed}
 
 -- The volume's kind, by the kind of the record's first word: "In a new record the first word's kind is 00"; "Kind 01 records remain readable".
-abbrev pub kindNumber : Kind → ℕ
-kindNumber Placed = 0
-kindNumber Plain = 1
+abbrev pub kind_number : Kind → ℕ
+kind_number Placed = 0
+kind_number Plain = 1
 
 unfoldable pub kind_of : ℕ → Kind
 kind_of number = pick (eqb number 0) Placed Plain
 
 -- "three big-endian words (kind 01 the depth, 10 the block length in bytes, 11 the number of table words), then the SHA-256 of the table words as
 -- big-endian bytes, then the old 512 bytes: 556 in all"
-unfoldable pub recordOf : (kind : Kind) (depth size : ℕ) (table root : List ℕ) → List ℕ
-recordOf kind depth size table root = head (kindNumber kind) depth size (length table / 4) ++ (sha256 table ++ root)
+unfoldable pub record_of : (kind : Kind) (depth size : ℕ) (table root : List ℕ) → List ℕ
+record_of kind depth size table root = head (kind_number kind) depth size (length table / 4) ++ (sha256 table ++ root)
 
 -- what stands in a record: the volume's kind, the block's length, the number of table words, their hash, and the root
-unfoldable pub kindIn : List ℕ → Kind
-kindIn r = kind_of (kind_at r 0)
+unfoldable pub kind_in : List ℕ → Kind
+kind_in r = kind_of (kind_at r 0)
 
-unfoldable pub sizeIn : List ℕ → ℕ
-sizeIn r = value_at r 1
+unfoldable pub size_in : List ℕ → ℕ
+size_in r = value_at r 1
 
-unfoldable pub countIn : List ℕ → ℕ
-countIn r = value_at r 2
+unfoldable pub count_in : List ℕ → ℕ
+count_in r = value_at r 2
 
-unfoldable pub hashIn : List ℕ → List ℕ
-hashIn r = take 32 (drop 12 r)
+unfoldable pub hash_in : List ℕ → List ℕ
+hash_in r = take 32 (drop 12 r)
 
-unfoldable pub rootIn : List ℕ → List ℕ
-rootIn r = drop 44 r
+unfoldable pub root_in : List ℕ → List ℕ
+root_in r = drop 44 r
 
 -- 11's test, at depth d: "A head with a wrong kind, a length over 256·k or another depth than the call's"; the first kind is 00 or 01
-unfoldable pub headRight : ℕ → List ℕ → Bool
-headRight d r =
+unfoldable pub head_right : ℕ → List ℕ → Bool
+head_right d r =
     (leb (kind_at r 0) 1 && eqb (value_at r 0) d)
-    && ((eqb (kind_at r 1) 2 && leb (sizeIn r) (256 * k_of (d - 1))) && eqb (kind_at r 2) 3)
+    && ((eqb (kind_at r 1) 2 && leb (size_in r) (256 * k_of (d - 1))) && eqb (kind_at r 2) 3)
 
 -- 12's test: "a table of another word count or hash"
-unfoldable pub namesTable : List ℕ → List ℕ → Bool
-namesTable r table = eqb (countIn r) (length table / 4) && same (sha256 table) (hashIn r)
+unfoldable pub names_table : List ℕ → List ℕ → Bool
+names_table r table = eqb (count_in r) (length table / 4) && same (sha256 table) (hash_in r)

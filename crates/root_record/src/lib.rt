@@ -1,8 +1,8 @@
 // The root record: what a manual prints of a volume, its kind and depth, its length, its table by word count and hash, and the root.
 ghost use Rattle.std.specs.Prelude.{◌≡◌, ◌/◌, ◌^◌, ◌≤◌, ◌<◌, length};
-ghost use Rattle.parity_table.specs.Shape.{maxDepth};
+ghost use Rattle.parity_table.specs.Shape.{max_depth};
 ghost use Rattle.sha256.specs.Call.{longest};
-ghost use Rattle.root_record.specs.Records.{recordOf, kindNumber, kind_of, kindIn, sizeIn, rootIn, headRight, namesTable};
+ghost use Rattle.root_record.specs.Records.{record_of, kind_number, kind_of, kind_in, size_in, root_in, head_right, names_table};
 
 use parity_table::data_count;
 use symbol_hash::Kind;
@@ -16,7 +16,7 @@ pub const ROOT_AT: usize = 44;
 
 // The number of a kind: that of the record's first word.
 fn kind_number(kind: Kind) -> u32
-    ensures { result ≡ kindNumber kind }
+    ensures { result ≡ kind_number kind }
 {
     match kind {
         Kind::Placed => 0,
@@ -36,8 +36,8 @@ pub fn kind_of(number: u64) -> Kind
 
 // Test 11: whether the head has its kinds, this depth, and a block's length that the base has room for.
 pub fn head_right(depth: usize, root_record: &[u8]) -> bool
-    requires { (1 ≤ depth) × (depth ≤ maxDepth) × (length root_record.now ≡ 556) }
-    ensures { result ≡ headRight depth root_record.now }
+    requires { (1 ≤ depth) × (depth ≤ max_depth) × (length root_record.now ≡ 556) }
+    ensures { result ≡ head_right depth root_record.now }
 {
     if heads::kind_at(root_record, 0) > 1 {
         return false;
@@ -54,7 +54,7 @@ pub fn head_right(depth: usize, root_record: &[u8]) -> bool
 // The volume's kind.
 pub fn kind(root_record: &[u8]) -> Kind
     requires { length root_record.now ≡ 556 }
-    ensures { result ≡ kindIn root_record.now }
+    ensures { result ≡ kind_in root_record.now }
 {
     kind_of(heads::kind_at(root_record, 0) as u64)
 }
@@ -62,7 +62,7 @@ pub fn kind(root_record: &[u8]) -> Kind
 // The length of the block.
 pub fn size(root_record: &[u8]) -> usize
     requires { length root_record.now ≡ 556 }
-    ensures { result ≡ sizeIn root_record.now }
+    ensures { result ≡ size_in root_record.now }
 {
     heads::value_at(root_record, 1)
 }
@@ -70,7 +70,7 @@ pub fn size(root_record: &[u8]) -> usize
 // Test 12: whether the table has the word count and the hash that the record names.
 pub fn names_table(root_record: &[u8], table: &[u8]) -> bool
     requires { (length root_record.now ≡ 556) × (length table.now ≤ longest) }
-    ensures { result ≡ namesTable root_record.now table.now }
+    ensures { result ≡ names_table root_record.now table.now }
 {
     if heads::value_at(root_record, 2) != table.len() / 4 {
         return false;
@@ -83,7 +83,7 @@ pub fn names_table(root_record: &[u8], table: &[u8]) -> bool
 // Writes what stands in front of the root: kind and depth, the block's length, and the table's word count and hash.
 pub fn put(kind: Kind, depth: usize, size: usize, table: &[u8], root_record: &mut [u8])
     requires { (depth < 2 ^ 30) × (size < 2 ^ 30) × (length table.now ≤ longest) × (length root_record.old ≡ 556) }
-    ensures { root_record.new ≡ recordOf kind depth size table.now (rootIn root_record.old) }
+    ensures { root_record.new ≡ record_of kind depth size table.now (root_in root_record.old) }
 {
     heads::put(kind_number(kind), depth, size, table.len() / 4, root_record);
     sha256::digest(table, &mut root_record[HASH_AT..ROOT_AT]);

@@ -1,16 +1,16 @@
 -- What a call that takes a sample of base symbol i answers and leaves, for every input. Definitions only.
 use Rattle.std.specs.Prelude.{Bool, ◌&&◌, List, ℕ, length}
 use Rattle.model.specs.Shape.{tree}
-use Rattle.model.specs.Symbols.{symAt}
-use Rattle.model.specs.Sampling.{sampleBytes}
+use Rattle.model.specs.Symbols.{sym_at}
+use Rattle.model.specs.Sampling.{sample_bytes}
 use Rattle.sampling.specs.declared.Found.{Found}
 use Rattle.sampling.specs.declared.Found.TheVariants.{At, Nothing}
-use Rattle.sampling.specs.Absent.{firstAbsent}
+use Rattle.sampling.specs.Absent.{first_absent}
 use Rattle.calls.specs.declared.Stop.TheVariants.{Absent}
 use Rattle.calls.specs.declared.Answer.{Answer}
 use Rattle.calls.specs.declared.Answer.TheVariants.{Done, Stopped}
-use Rattle.calls.specs.Lengths.{treeSized, sampleSized}
-use Rattle.calls.specs.Tests.{◌then◌, left, opened, testMarks, testNumber}
+use Rattle.calls.specs.Lengths.{tree_sized, sample_sized}
+use Rattle.calls.specs.Tests.{◌then◌, left, opened, test_marks, test_number}
 
 -- the answer, and the lent sample as it is left
 pub record SampleLeft (A : Type 0) : Type 0 where
@@ -21,8 +21,8 @@ abbrev pub leaves : {A : Type 0} → A → List ℕ → SampleLeft A
 leaves a s = record { answer = a; sample = s }
 
 -- tree, marks and sample have the lengths of depth d
-abbrev pub takeSized : ℕ → ℕ → ℕ → ℕ → Bool
-takeSized d t m s = treeSized d t m && sampleSized d s
+abbrev pub take_sized : ℕ → ℕ → ℕ → ℕ → Bool
+take_sized d t m s = tree_sized d t m && sample_sized d s
 
 -- 9: "a needed symbol absent", with its "index in the sample"
 abbrev pub needed : Found → Answer
@@ -30,12 +30,12 @@ needed (At x) = Stopped (Absent x)
 needed Nothing = Done
 
 -- tests 1, 2, 4, 5, 9, tree and sample having so many bytes
-abbrev pub takeTested : ℕ → ℕ → ℕ → List ℕ → ℕ → Answer
-takeTested d i t m s = opened d (takeSized d t (length m) s) then testMarks m then testNumber d i then needed (firstAbsent d i m)
+abbrev pub take_tested : ℕ → ℕ → ℕ → List ℕ → ℕ → Answer
+take_tested d i t m s = opened d (take_sized d t (length m) s) then test_marks m then test_number d i then needed (first_absent d i m)
 
 -- by the tests' answer a: the sample is taken, or left
-abbrev pub takenBy : Answer → ℕ → ℕ → List ℕ → List ℕ → SampleLeft Answer
-takenBy a d i t s = leaves a (left a (sampleBytes tree (symAt tree t) d i) s)
+abbrev pub taken_by : Answer → ℕ → ℕ → List ℕ → List ℕ → SampleLeft Answer
+taken_by a d i t s = leaves a (left a (sample_bytes tree (sym_at tree t) d i) s)
 
-unfoldable pub sampleTaken : ℕ → ℕ → List ℕ → List ℕ → List ℕ → SampleLeft Answer
-sampleTaken d i t m s = takenBy (takeTested d i (length t) m (length s)) d i t s
+unfoldable pub sample_taken : ℕ → ℕ → List ℕ → List ℕ → List ℕ → SampleLeft Answer
+sample_taken d i t m s = taken_by (take_tested d i (length t) m (length s)) d i t s

@@ -1,8 +1,8 @@
 // Checking a sample.
 ghost use Rattle.std.specs.Prelude.{◌≡◌, ◌&&◌};
-ghost use Rattle.parity_table.specs.Shape.{depthFits};
-ghost use Rattle.symbol_hash.specs.Ways.{climbOf};
-ghost use Rattle.sample_calls.specs.Checking.{checkSized, led, checkTested, sampleChecked};
+ghost use Rattle.parity_table.specs.Shape.{depth_fits};
+ghost use Rattle.symbol_hash.specs.Ways.{climb_of};
+ghost use Rattle.sample_calls.specs.Checking.{check_sized, led, check_tested, sample_checked};
 
 use calls::{Answer, Stop, enter_by, test_number};
 use parity_table::depth_fits;
@@ -10,7 +10,7 @@ use symbol_hash::Way;
 
 // Whether the depth is one, and record and sample have the lengths of it.
 fn sizes_fit(depth: usize, record_len: usize, sample: usize) -> bool
-    ensures { result ≡ depthFits depth && checkSized depth record_len sample }
+    ensures { result ≡ depth_fits depth && check_sized depth record_len sample }
 {
     if !depth_fits(depth) {
         return false;
@@ -23,7 +23,7 @@ fn sizes_fit(depth: usize, record_len: usize, sample: usize) -> bool
 
 // Tests 1, 2, 11, 5, of a sample of so many bytes.
 fn tests(depth: usize, number: usize, root_record: &[u8], sample: usize) -> Answer
-    ensures { result ≡ checkTested depth number root_record.now sample }
+    ensures { result ≡ check_tested depth number root_record.now sample }
 {
     let sized = sizes_fit(depth, root_record.len(), sample);
     if let Answer::Stopped(s) = enter_by(depth, sized, root_record) {
@@ -34,7 +34,7 @@ fn tests(depth: usize, number: usize, root_record: &[u8], sample: usize) -> Answ
 
 // Test 7.
 fn answer_of(w: Way) -> Answer
-    ensures { result ≡ led (climbOf w) }
+    ensures { result ≡ led (climb_of w) }
 {
     match w {
         Way::Leads => Answer::Done,
@@ -44,7 +44,7 @@ fn answer_of(w: Way) -> Answer
 
 // Checks a sample of the base symbol of this number against the record: tests 1, 2, 11, 5, 7.
 pub fn check(depth: usize, number: usize, root_record: &[u8], sample: &[u8]) -> Answer
-    ensures { result ≡ sampleChecked depth number root_record.now sample.now }
+    ensures { result ≡ sample_checked depth number root_record.now sample.now }
 {
     if let Answer::Stopped(s) = tests(depth, number, root_record, sample.len()) {
         return Answer::Stopped(s);

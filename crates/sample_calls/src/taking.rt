@@ -1,14 +1,14 @@
 // Taking a sample.
 ghost use Rattle.std.specs.Prelude.{◌≡◌, ◌&&◌};
-ghost use Rattle.parity_table.specs.Shape.{depthFits};
-ghost use Rattle.sample_calls.specs.Taking.{takeSized, needed, takeTested, sampleTaken, leaves};
+ghost use Rattle.parity_table.specs.Shape.{depth_fits};
+ghost use Rattle.sample_calls.specs.Taking.{take_sized, needed, take_tested, sample_taken, leaves};
 
 use calls::{Answer, Stop, enter, test_marks, test_number, tree_fits};
 use sampling::Found;
 
 // Whether the depth is one, and tree, marks and sample have the lengths of it.
 fn sizes_fit(depth: usize, tree: usize, marks: usize, sample: usize) -> bool
-    ensures { result ≡ depthFits depth && takeSized depth tree marks sample }
+    ensures { result ≡ depth_fits depth && take_sized depth tree marks sample }
 {
     if !tree_fits(depth, tree, marks) {
         return false;
@@ -28,7 +28,7 @@ fn answer_of(f: Found) -> Answer
 
 // Tests 1, 2, 4, 5, 9, of a tree and a sample of so many bytes.
 fn tests(depth: usize, number: usize, tree: usize, marks: &[u8], sample: usize) -> Answer
-    ensures { result ≡ takeTested depth number tree marks.now sample }
+    ensures { result ≡ take_tested depth number tree marks.now sample }
 {
     if let Answer::Stopped(s) = enter(depth, sizes_fit(depth, tree, marks.len(), sample)) {
         return Answer::Stopped(s);
@@ -44,7 +44,7 @@ fn tests(depth: usize, number: usize, tree: usize, marks: &[u8], sample: usize) 
 
 // Takes a sample of the base symbol of this number: tests 1, 2, 4, 5, 9.
 pub fn take(depth: usize, number: usize, tree: &[u8], marks: &[u8], sample: &mut [u8]) -> Answer
-    ensures { leaves result sample.new ≡ sampleTaken depth number tree.now marks.now sample.old }
+    ensures { leaves result sample.new ≡ sample_taken depth number tree.now marks.now sample.old }
 {
     if let Answer::Stopped(s) = tests(depth, number, tree.len(), marks, sample.len()) {
         return Answer::Stopped(s);

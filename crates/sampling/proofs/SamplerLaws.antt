@@ -12,45 +12,45 @@ use lib.Seq.{paste, take-paste, length-paste, take_all}
 use lib.Dec.{ltb}
 use borrow.Author.Tests.{eq-eqb, ne_eqb, lt-ltb, le-ltb}
 use Rattle.octets.proofs.Choice.{pick_yes, pick_no}
-use Rattle.octets.proofs.ListLaws.{length_part, part-ends}
+use Rattle.octets.proofs.ListLaws.{length_part, part_ends}
 use Rattle.model.specs.Shape.{tree, place}
-use Rattle.model.specs.Symbols.{joined, symbolIn, lowest, symAt}
-use Rattle.model.specs.Sampling.{sampleSize, sampleLayer, sampleNumber, sampleBytes}
+use Rattle.model.specs.Symbols.{joined, symbol_in, lowest, sym_at}
+use Rattle.model.specs.Sampling.{sample_size, sample_layer, sample_number, sample_bytes}
 use Rattle.sampling.specs.declared.Found.TheVariants.{At, Nothing}
-use Rattle.model.specs.Repair.{absentAt}
-use Rattle.model.proofs.Counts.{lowest-hit, lowest-pass, lowest-none}
-use Rattle.sampling.specs.Absent.{absent, foundBelow, firstAbsent}
+use Rattle.model.specs.Repair.{absent_at}
+use Rattle.model.proofs.Counts.{lowest_hit, lowest_pass, lowest-none}
+use Rattle.sampling.specs.Absent.{absent, found_below, first_absent}
 
 -- ---- the first absent symbol of a sample
 
 module _ (d i : ℕ) (marks : List ℕ) (x : ℕ) where
   -- none of the symbols before x is absent
   abbrev pub HeldBefore : Type 0
-  HeldBefore = lowest (absent d i marks) x (sampleSize d - x) ≡ lowest (absent d i marks) 0 (sampleSize d)
+  HeldBefore = lowest (absent d i marks) x (sample_size d - x) ≡ lowest (absent d i marks) 0 (sample_size d)
 
-  module _ (q : ℕ) (at : q ≡ place tree (sampleLayer d x) (sampleNumber tree d i x)) (h : x < sampleSize d) (before : HeldBefore) where
-    pub absent-here : get_or marks q 0 ≢ 1 → At x ≡ firstAbsent d i marks
-    unfolding absent absentAt firstAbsent foundBelow
+  module _ (q : ℕ) (at : q ≡ place tree (sample_layer d x) (sample_number tree d i x)) (h : x < sample_size d) (before : HeldBefore) where
+    pub absent-here : get_or marks q 0 ≢ 1 → At x ≡ first_absent d i marks
+    unfolding absent absent_at first_absent found_below
     absent-here n =
         let t : absent d i marks x ≡ true = ap not (ne_eqb _ 1 (λ e. n (ap (λ (y : ℕ). get_or marks y 0) at ∙ e))) in
         sym
-        (ap (foundBelow (sampleSize d)) (sym (lowest-hit (absent d i marks) (sampleSize d) x _ before h t))
-        ∙ pick_yes (ltb x (sampleSize d)) (At x) Nothing (lt-ltb x (sampleSize d) h))
+        (ap (found_below (sample_size d)) (sym (lowest_hit (absent d i marks) (sample_size d) x _ before h t))
+        ∙ pick_yes (ltb x (sample_size d)) (At x) Nothing (lt-ltb x (sample_size d) h))
 
-    pub held-here : get_or marks q 0 ≡ 1 → lowest (absent d i marks) (x + 1) (sampleSize d - (x + 1)) ≡ lowest (absent d i marks) 0 (sampleSize d)
-    unfolding absent absentAt
+    pub held-here : get_or marks q 0 ≡ 1 → lowest (absent d i marks) (x + 1) (sample_size d - (x + 1)) ≡ lowest (absent d i marks) 0 (sample_size d)
+    unfolding absent absent_at
     held-here e =
-        lowest-pass (absent d i marks) (sampleSize d) x _ before h (ap not (eq-eqb _ 1 (sym (ap (λ (y : ℕ). get_or marks y 0) at) ∙ e)))
+        lowest_pass (absent d i marks) (sample_size d) x _ before h (ap not (eq-eqb _ 1 (sym (ap (λ (y : ℕ). get_or marks y 0) at) ∙ e)))
 
-  pub all_held : x ≡ sampleSize d → HeldBefore → Nothing ≡ firstAbsent d i marks
-  unfolding firstAbsent foundBelow
+  pub all_held : x ≡ sample_size d → HeldBefore → Nothing ≡ first_absent d i marks
+  unfolding first_absent found_below
   all_held h before =
       sym
-      (ap (foundBelow (sampleSize d)) (sym (lowest-none (absent d i marks) (sampleSize d) x _ before h))
-      ∙ pick_no (ltb (sampleSize d) (sampleSize d)) (At (sampleSize d)) Nothing (le-ltb (sampleSize d) (sampleSize d) (omega arith)))
+      (ap (found_below (sample_size d)) (sym (lowest-none (absent d i marks) (sample_size d) x _ before h))
+      ∙ pick_no (ltb (sample_size d) (sample_size d)) (At (sample_size d)) Nothing (le-ltb (sample_size d) (sample_size d) (omega arith)))
 
 pub held_start : (d i : ℕ) (marks : List ℕ) → HeldBefore d i marks 0
-held_start d i marks = let n : sampleSize d - 0 ≡ sampleSize d = omega arith in ap (lowest (absent d i marks) 0) n
+held_start d i marks = let n : sample_size d - 0 ≡ sample_size d = omega arith in ap (lowest (absent d i marks) 0) n
 
 -- ---- symbols one after the other
 
@@ -78,29 +78,29 @@ copied_more g s v x room full is so =
 
 -- symbol x of the sample of base symbol i of the tree t
 abbrev symbol_of : ℕ → ℕ → List ℕ → ℕ → List ℕ
-symbol_of d i t x = symAt tree t (sampleLayer d x) (sampleNumber tree d i x)
+symbol_of d i t x = sym_at tree t (sample_layer d x) (sample_number tree d i x)
 
 module _ (d i : ℕ) (t s : List ℕ) (x : ℕ) where
   -- the first x symbols of s are the sample's
   abbrev pub Taken : Type 0
   Taken = take (256 * x) s ≡ joined (symbol_of d i t) 0 x
 
-  pub taken-all : sampleSize d ≡ x → length s ≡ 256 * sampleSize d → Taken → s ≡ sampleBytes tree (symAt tree t) d i
-  unfolding sampleBytes
+  pub taken-all : sample_size d ≡ x → length s ≡ 256 * sample_size d → Taken → s ≡ sample_bytes tree (sym_at tree t) d i
+  unfolding sample_bytes
   taken-all e l so = sym (take_all (256 * x) s (omega arith)) ∙ so ∙ ap (joined (symbol_of d i t) 0) (sym e)
 
-  module _ (q : ℕ) (at : q ≡ place tree (sampleLayer d x) (sampleNumber tree d i x)) (inside : 256 * q + 256 ≤ length t) (room : 256 * x + 256 ≤ length s) where
+  module _ (q : ℕ) (at : q ≡ place tree (sample_layer d x) (sample_number tree d i x)) (inside : 256 * q + 256 ≤ length t) (room : 256 * x + 256 ≤ length s) where
     abbrev pub copied : List ℕ
     copied = take (256 * q + 256 - 256 * q) (drop (256 * q) t)
 
-    pub copied-length : length copied ≡ 256
-    copied-length = ap length (part-ends t (256 * q) 256) ∙ length_part t (256 * q) 256 inside
+    pub copied_length : length copied ≡ 256
+    copied_length = ap length (part_ends t (256 * q) 256) ∙ length_part t (256 * q) 256 inside
 
     pub taken_more : Taken → (u : List ℕ) → u ≡ paste s (256 * x) copied (length copied) → take (256 * (x + 1)) u ≡ joined (symbol_of d i t) 0 (x + 1)
-    unfolding symAt symbolIn
+    unfolding sym_at symbol_in
     taken_more so u e =
         ap (take (256 * (x + 1))) e
-        ∙ copied_more (symbol_of d i t) s copied x room copied-length (part-ends t (256 * q) 256 ∙ ap (λ (y : ℕ). take 256 (drop (256 * y) t)) at) so
+        ∙ copied_more (symbol_of d i t) s copied x room copied_length (part_ends t (256 * q) 256 ∙ ap (λ (y : ℕ). take 256 (drop (256 * y) t)) at) so
 
-    pub copied-same : (u : List ℕ) → u ≡ paste s (256 * x) copied (length copied) → length u ≡ length s
-    copied-same u e = ap length e ∙ length-paste s (256 * x) copied (length copied) (omega (arith, copied-length)) (omega arith)
+    pub copied_same : (u : List ℕ) → u ≡ paste s (256 * x) copied (length copied) → length u ≡ length s
+    copied_same u e = ap length e ∙ length-paste s (256 * x) copied (length copied) (omega (arith, copied_length)) (omega arith)

@@ -4,18 +4,18 @@ use Rattle.std.specs.Prelude.{Bool, List, ℕ, ltb}
 use Rattle.octets.specs.Choice.{pick}
 use Rattle.model.specs.Shape.{tree}
 use Rattle.model.specs.Symbols.{lowest}
-use Rattle.model.specs.Repair.{absentAt}
-use Rattle.model.specs.Sampling.{sampleSize, sampleLayer, sampleNumber}
+use Rattle.model.specs.Repair.{absent_at}
+use Rattle.model.specs.Sampling.{sample_size, sample_layer, sample_number}
 use Rattle.sampling.specs.declared.Found.{Found}
 use Rattle.sampling.specs.declared.Found.TheVariants.{At, Nothing}
 
 -- symbol x of the sample of base symbol i is absent
 unfoldable pub absent : ℕ → ℕ → List ℕ → ℕ → Bool
-absent d i marks x = absentAt tree marks (sampleLayer d x) (sampleNumber tree d i x)
+absent d i marks x = absent_at tree marks (sample_layer d x) (sample_number tree d i x)
 
 -- x as what is found among m
-unfoldable pub foundBelow : ℕ → ℕ → Found
-foundBelow m x = pick (ltb x m) (At x) Nothing
+unfoldable pub found_below : ℕ → ℕ → Found
+found_below m x = pick (ltb x m) (At x) Nothing
 
-unfoldable pub firstAbsent : ℕ → ℕ → List ℕ → Found
-firstAbsent d i marks = foundBelow (sampleSize d) (lowest (absent d i marks) 0 (sampleSize d))
+unfoldable pub first_absent : ℕ → ℕ → List ℕ → Found
+first_absent d i marks = found_below (sample_size d) (lowest (absent d i marks) 0 (sample_size d))

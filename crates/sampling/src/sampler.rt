@@ -1,10 +1,10 @@
 // The sampler's core: it doesn't rehash.
 ghost use Rattle.std.specs.Prelude.{◌≡◌, ◌*◌, length};
 ghost use Rattle.model.specs.Shape.{tree as shape, places};
-ghost use Rattle.model.specs.Symbols.{symAt};
-ghost use Rattle.model.specs.Sampling.{sampleSize, sampleBytes};
+ghost use Rattle.model.specs.Symbols.{sym_at};
+ghost use Rattle.model.specs.Sampling.{sample_size, sample_bytes};
 ghost use Rattle.sampling.specs.Lent.{BaseSymbol};
-ghost use Rattle.sampling.specs.Absent.{firstAbsent};
+ghost use Rattle.sampling.specs.Absent.{first_absent};
 
 use crate::Found;
 use crate::symbols::sample_place;
@@ -12,7 +12,7 @@ use crate::symbols::sample_place;
 // The lowest index in the sample of base symbol i of a symbol that isn't marked held.
 pub fn first_absent(depth: usize, i: usize, marks: &[u8]) -> Found
     requires { BaseSymbol depth i × (length marks.now ≡ places shape depth) }
-    ensures { result ≡ firstAbsent depth i marks.now }
+    ensures { result ≡ first_absent depth i marks.now }
 {
     for x in 0..2 * depth - 1 {
         let p = sample_place(depth, i, x);
@@ -26,8 +26,8 @@ pub fn first_absent(depth: usize, i: usize, marks: &[u8]) -> Found
 // Copies the symbols of the sample of base symbol i, one after the other.
 pub fn take(depth: usize, i: usize, tree: &[u8], sample: &mut [u8])
     requires { BaseSymbol depth i × (length tree.now ≡ 256 * places shape depth)
-        × (length sample.old ≡ 256 * sampleSize depth) }
-    ensures { sample.new ≡ sampleBytes shape (symAt shape tree.now) depth i }
+        × (length sample.old ≡ 256 * sample_size depth) }
+    ensures { sample.new ≡ sample_bytes shape (sym_at shape tree.now) depth i }
 {
     for x in 0..2 * depth - 1 {
         let from = 256 * sample_place(depth, i, x);

@@ -15,19 +15,19 @@ module _ (m d : List ℕ) where
   unfolding fits
   too_long h = refused (rw (lt-leb (length m) longest h))
 
-  pub other-digest : length m ≤ longest → (length d ≡ 32 → ⊥) → (Length ≡ answer m d) × (d ≡ after m d)
+  pub other_digest : length m ≤ longest → (length d ≡ 32 → ⊥) → (Length ≡ answer m d) × (d ≡ after m d)
   unfolding fits
-  other-digest h l = refused (rw (le-leb (length m) longest h, ne_eqb (length d) 32 l))
+  other_digest h l = refused (rw (le-leb (length m) longest h, ne_eqb (length d) 32 l))
 
-  both-fit : length m ≤ longest → length d ≡ 32 → fits m d ≡ true
+  both_fit : length m ≤ longest → length d ≡ 32 → fits m d ≡ true
   unfolding fits
-  both-fit h l = rw (le-leb (length m) longest h, eq-eqb (length d) 32 l)
+  both_fit h l = rw (le-leb (length m) longest h, eq-eqb (length d) 32 l)
 
   -- what a caller with the right lengths finds in the digest
   pub written : length m ≤ longest → length d ≡ 32 → after m d ≡ sha256 m
   unfolding after pick
-  written h l = rw (both-fit h l)
+  written h l = rw (both_fit h l)
 
-  pub hashed-call : (out : List ℕ) → length m ≤ longest → length d ≡ 32 → out ≡ sha256 m → (Done ≡ answer m d) × (out ≡ after m d)
+  pub hashed_call : (out : List ℕ) → length m ≤ longest → length d ≡ 32 → out ≡ sha256 m → (Done ≡ answer m d) × (out ≡ after m d)
   unfolding answer pick
-  hashed-call out h l e = (rw (both-fit h l), e ∙ sym (written h l))
+  hashed_call out h l e = (rw (both_fit h l), e ∙ sym (written h l))

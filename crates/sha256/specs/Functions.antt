@@ -11,17 +11,17 @@ unfoldable pub maj : ℕ → ℕ → ℕ → ℕ
 maj x y z = bit_xor (bit_xor (bit_and x y) (bit_and x z)) (bit_and y z)
 
 -- (4.4) Σ0(x) = ROTR 2 (x) ⊕ ROTR 13 (x) ⊕ ROTR 22 (x)
-unfoldable pub bigSigma0 : ℕ → ℕ
-bigSigma0 x = bit_xor (bit_xor (rotr 2 x) (rotr 13 x)) (rotr 22 x)
+unfoldable pub big_sigma0 : ℕ → ℕ
+big_sigma0 x = bit_xor (bit_xor (rotr 2 x) (rotr 13 x)) (rotr 22 x)
 
 -- (4.5) Σ1(x) = ROTR 6 (x) ⊕ ROTR 11 (x) ⊕ ROTR 25 (x)
-unfoldable pub bigSigma1 : ℕ → ℕ
-bigSigma1 x = bit_xor (bit_xor (rotr 6 x) (rotr 11 x)) (rotr 25 x)
+unfoldable pub big_sigma1 : ℕ → ℕ
+big_sigma1 x = bit_xor (bit_xor (rotr 6 x) (rotr 11 x)) (rotr 25 x)
 
 -- (4.6) σ0(x) = ROTR 7 (x) ⊕ ROTR 18 (x) ⊕ SHR 3 (x)
-unfoldable pub smallSigma0 : ℕ → ℕ
-smallSigma0 x = bit_xor (bit_xor (rotr 7 x) (rotr 18 x)) (shr 3 x)
+unfoldable pub small_sigma0 : ℕ → ℕ
+small_sigma0 x = bit_xor (bit_xor (rotr 7 x) (rotr 18 x)) (shr 3 x)
 
 -- (4.7) σ1(x) = ROTR 17 (x) ⊕ ROTR 19 (x) ⊕ SHR 10 (x)
-unfoldable pub smallSigma1 : ℕ → ℕ
-smallSigma1 x = bit_xor (bit_xor (rotr 17 x) (rotr 19 x)) (shr 10 x)
+unfoldable pub small_sigma1 : ℕ → ℕ
+small_sigma1 x = bit_xor (bit_xor (rotr 17 x) (rotr 19 x)) (shr 10 x)

@@ -7,8 +7,8 @@ unfoldable pub pad : List ℕ → List ℕ
 pad m = m ++ (0x80 ∷ (replicate ((119 - length m % 64) % 64) 0 ++ be 8 (length m * 8)))
 
 -- the last bytes m of a message of n bytes, padded: as pad m, but for the length, which is the whole message's
-unfoldable pub padTail : ℕ → List ℕ → List ℕ
-padTail n m = take (length (pad m) - 8) (pad m) ++ be 8 (n * 8)
+unfoldable pub pad_tail : ℕ → List ℕ → List ℕ
+pad_tail n m = take (length (pad m) - 8) (pad m) ++ be 8 (n * 8)
 
 -- 5.2.1: block i, counted from 0, "expressed as sixteen 32-bit words", M_0 to M_15
 unfoldable pub block : List ℕ → ℕ → List ℕ

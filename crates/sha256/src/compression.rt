@@ -1,6 +1,6 @@
 // FIPS 180-4, section 6.2.2: the four steps on one block.
 ghost use Rattle.std.specs.Prelude.{◌≡◌};
-ghost use Rattle.sha256.specs.Hash.{compress as sCompress};
+ghost use Rattle.sha256.specs.Hash.{compress as s_compress};
 
 use crate::intermediate::intermediate_hash;
 use crate::rounds::rounds;
@@ -10,7 +10,7 @@ use crate::variables::working_variables;
 
 // The hash value after the block with the words m, where s came before it.
 pub fn compress(s: State, m: [u32; 16]) -> State
-    ensures { result.h ≡ sCompress s.h m }
+    ensures { result.h ≡ s_compress s.h m }
 {
     let hash = s.h;
     // 1. Prepare the message schedule.

@@ -1,12 +1,12 @@
 // FIPS 180-4, section 6.2.2, step 4: the intermediate hash value.
 ghost use Rattle.std.specs.Prelude.{◌≡◌};
-ghost use Rattle.sha256.specs.Hash.{intermediateHash};
+ghost use Rattle.sha256.specs.Hash.{intermediate_hash};
 
 use std::num::wrapping_add_u32;
 
 // The working variables v after the rounds, each added to its word of the hash value that came before.
 pub fn intermediate_hash(v: [u32; 8], hash: [u32; 8]) -> [u32; 8]
-    ensures { result ≡ intermediateHash v hash }
+    ensures { result ≡ intermediate_hash v hash }
 {
     [
         wrapping_add_u32(v[0], hash[0]),

@@ -1,8 +1,8 @@
 // FIPS 180-4, section 6.2.2, step 3: the sixty-four rounds. The working variables and the schedule are handed on whole from round to round; the
-// rounds stand at literal indexes, where the compiler copies nothing (docs/DECISIONS.md, "Handed on whole"), and are put together by `rounds-split`.
+// rounds stand at literal indexes, where the compiler copies nothing (docs/DECISIONS.md, "Handed on whole"), and are put together by `rounds_split`.
 ghost use Rattle.std.specs.Prelude.{◌≡◌, ◌<◌};
 ghost use Rattle.sha256.specs.Constants.{constants};
-ghost use Rattle.sha256.specs.Hash.{temp1 as sTemp1, temp2 as sTemp2, round as sRound, roundsFrom, rounds as sRounds};
+ghost use Rattle.sha256.specs.Hash.{temp1 as s_temp1, temp2 as s_temp2, round as s_round, rounds_from, rounds as s_rounds};
 
 use crate::constants::K;
 use crate::functions::{big_sigma_0, big_sigma_1, ch, maj};
@@ -10,7 +10,7 @@ use std::num::wrapping_add_u32;
 
 // T1 = h + Σ1(e) + Ch(e, f, g) + K_t + W_t
 fn temp1(e: u32, f: u32, g: u32, h: u32, k: u32, w: u32) -> u32
-    ensures { result ≡ sTemp1 e f g h k w }
+    ensures { result ≡ s_temp1 e f g h k w }
 {
     wrapping_add_u32(
         wrapping_add_u32(
@@ -23,7 +23,7 @@ fn temp1(e: u32, f: u32, g: u32, h: u32, k: u32, w: u32) -> u32
 
 // T2 = Σ0(a) + Maj(a, b, c)
 fn temp2(a: u32, b: u32, c: u32) -> u32
-    ensures { result ≡ sTemp2 a b c }
+    ensures { result ≡ s_temp2 a b c }
 {
     wrapping_add_u32(big_sigma_0(a), maj(a, b, c))
 }
@@ -31,7 +31,7 @@ fn temp2(a: u32, b: u32, c: u32) -> u32
 // Round t, with the constants k: h = g, g = f, f = e, e = d + T1, d = c, c = b, b = a, a = T1 + T2.
 fn round(w: [u32; 64], k: [u32; 64], t: usize, v: [u32; 8]) -> [u32; 8]
     requires { (k ≡ constants) × (t < 64) }
-    ensures { result ≡ sRound w t v }
+    ensures { result ≡ s_round w t v }
 {
     let a = v[0];
     let b = v[1];
@@ -57,14 +57,14 @@ fn round(w: [u32; 64], k: [u32; 64], t: usize, v: [u32; 8]) -> [u32; 8]
 
 fn two_rounds(w: [u32; 64], k: [u32; 64], t: usize, v: [u32; 8]) -> [u32; 8]
     requires { (k ≡ constants) × (t < 63) }
-    ensures { result ≡ roundsFrom w t 2 v }
+    ensures { result ≡ rounds_from w t 2 v }
 {
     round(w, k, t + 1, round(w, k, t, v))
 }
 
 fn rounds_from_0(w: [u32; 64], k: [u32; 64], v: [u32; 8]) -> [u32; 8]
     requires { k ≡ constants }
-    ensures { result ≡ roundsFrom w 0 16 v }
+    ensures { result ≡ rounds_from w 0 16 v }
 {
     let v = two_rounds(w, k, 0, v);
     let v = two_rounds(w, k, 2, v);
@@ -79,7 +79,7 @@ fn rounds_from_0(w: [u32; 64], k: [u32; 64], v: [u32; 8]) -> [u32; 8]
 
 fn rounds_from_16(w: [u32; 64], k: [u32; 64], v: [u32; 8]) -> [u32; 8]
     requires { k ≡ constants }
-    ensures { result ≡ roundsFrom w 16 16 v }
+    ensures { result ≡ rounds_from w 16 16 v }
 {
     let v = two_rounds(w, k, 16, v);
     let v = two_rounds(w, k, 18, v);
@@ -94,7 +94,7 @@ fn rounds_from_16(w: [u32; 64], k: [u32; 64], v: [u32; 8]) -> [u32; 8]
 
 fn rounds_from_32(w: [u32; 64], k: [u32; 64], v: [u32; 8]) -> [u32; 8]
     requires { k ≡ constants }
-    ensures { result ≡ roundsFrom w 32 16 v }
+    ensures { result ≡ rounds_from w 32 16 v }
 {
     let v = two_rounds(w, k, 32, v);
     let v = two_rounds(w, k, 34, v);
@@ -109,7 +109,7 @@ fn rounds_from_32(w: [u32; 64], k: [u32; 64], v: [u32; 8]) -> [u32; 8]
 
 fn rounds_from_48(w: [u32; 64], k: [u32; 64], v: [u32; 8]) -> [u32; 8]
     requires { k ≡ constants }
-    ensures { result ≡ roundsFrom w 48 16 v }
+    ensures { result ≡ rounds_from w 48 16 v }
 {
     let v = two_rounds(w, k, 48, v);
     let v = two_rounds(w, k, 50, v);
@@ -124,7 +124,7 @@ fn rounds_from_48(w: [u32; 64], k: [u32; 64], v: [u32; 8]) -> [u32; 8]
 
 // Step 3, with the schedule w, of the working variables v.
 pub fn rounds(w: [u32; 64], v: [u32; 8]) -> [u32; 8]
-    ensures { result ≡ sRounds w v }
+    ensures { result ≡ s_rounds w v }
 {
     let k = K;
     let v = rounds_from_0(w, k, v);

@@ -1,9 +1,9 @@
 // FIPS 180-4, section 6.2.2, step 1: the message schedule. It is handed on whole from word to word; the words stand at literal indexes, where
-// the compiler keeps it in place and copies nothing (docs/DECISIONS.md, "Handed on whole"), and are put together by `extended-split`.
+// the compiler keeps it in place and copies nothing (docs/DECISIONS.md, "Handed on whole"), and are put together by `extended_split`.
 ghost use Rattle.std.specs.Prelude.{◌≡◌, ◌+◌, ◌<◌, ◌≤◌, take};
 ghost use Rattle.sha256.specs.Words.{◌⊞◌};
-ghost use Rattle.sha256.specs.Functions.{smallSigma0, smallSigma1};
-ghost use Rattle.sha256.specs.Hash.{extended, messageSchedule};
+ghost use Rattle.sha256.specs.Functions.{small_sigma0, small_sigma1};
+ghost use Rattle.sha256.specs.Hash.{extended, message_schedule};
 
 use crate::functions::{small_sigma_0, small_sigma_1};
 use std::num::wrapping_add_u32;
@@ -21,7 +21,7 @@ fn first_words(m: [u32; 16]) -> [u32; 64]
 
 // W_t, for 16 ≤ t ≤ 63, from W_t-2, W_t-7, W_t-15 and W_t-16.
 fn next(w2: u32, w7: u32, w15: u32, w16: u32) -> u32
-    ensures { result ≡ smallSigma1 w2 ⊞ w7 ⊞ smallSigma0 w15 ⊞ w16 }
+    ensures { result ≡ small_sigma1 w2 ⊞ w7 ⊞ small_sigma0 w15 ⊞ w16 }
 {
     wrapping_add_u32(
         wrapping_add_u32(wrapping_add_u32(small_sigma_1(w2), w7), small_sigma_0(w15)),
@@ -90,7 +90,7 @@ fn extended_to_64(w: [u32; 64]) -> [u32; 64]
 
 // Step 1, of the block with the words m.
 pub fn message_schedule(m: [u32; 16]) -> [u32; 64]
-    ensures { result ≡ messageSchedule m }
+    ensures { result ≡ message_schedule m }
 {
     extended_to_64(extended_to_48(extended_to_32(first_words(m))))
 }

@@ -7,11 +7,11 @@ use Rattle.symbol_hash.specs.declared.Kind.{Kind}
 use Rattle.symbol_hash.specs.declared.Kind.TheVariants.{Plain, Placed}
 
 -- 02, CR 7: "a big-endian word (kind 01, layer in the next 6 bits, number in the low 24)"
-unfoldable pub placeWord : ℕ → ℕ → ℕ
-placeWord j i = word 1 (j % 2 ^ 6 * 2 ^ 24 + i % 2 ^ 24)
+unfoldable pub place_word : ℕ → ℕ → ℕ
+place_word j i = word 1 (j % 2 ^ 6 * 2 ^ 24 + i % 2 ^ 24)
 
-unfoldable pub symbolHash : Kind → ℕ → ℕ → List ℕ → List ℕ
+unfoldable pub symbol_hash : Kind → ℕ → ℕ → List ℕ → List ℕ
 -- the layer and the number do not count
-symbolHash Plain j i s = sha256 s
+symbol_hash Plain j i s = sha256 s
 -- 02, CR 7: "Its symbol hash covers a big-endian word .. and then the 256 bytes"
-symbolHash Placed j i s = sha256 (be 4 (placeWord j i) ++ s)
+symbol_hash Placed j i s = sha256 (be 4 (place_word j i) ++ s)

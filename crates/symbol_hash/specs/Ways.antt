@@ -3,6 +3,6 @@ use Rattle.model.specs.Climb.{Climb, leads, breaks}
 use Rattle.symbol_hash.specs.declared.Way.{Way}
 use Rattle.symbol_hash.specs.declared.Way.TheVariants.{Leads, Breaks}
 
-abbrev pub climbOf : Way → Climb
-climbOf Leads = leads
-climbOf (Breaks j) = breaks j
+abbrev pub climb_of : Way → Climb
+climb_of Leads = leads
+climb_of (Breaks j) = breaks j

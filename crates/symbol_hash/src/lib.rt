@@ -2,7 +2,7 @@
 mod committed; // where the committed hash stands
 
 ghost use Rattle.std.specs.Prelude.{◌≡◌, length};
-ghost use Rattle.symbol_hash.specs.SymbolHash.{placeWord, symbolHash};
+ghost use Rattle.symbol_hash.specs.SymbolHash.{place_word, symbol_hash};
 
 pub use committed::fits;
 use parity_table::LAYER as KIND_01;
@@ -27,14 +27,14 @@ pub enum Way {
 
 // The word of a place: kind 01, six bits of the layer, and twenty-four of the number.
 fn place_word(layer: usize, number: usize) -> u32
-    ensures { result ≡ placeWord layer number }
+    ensures { result ≡ place_word layer number }
 {
     KIND_01 + (layer % 64 * 16777216 + number % 16777216) as u32
 }
 
 pub fn hash(kind: Kind, layer: usize, number: usize, symbol: &[u8]) -> [u8; 32]
     requires { length symbol.now ≡ 256 }
-    ensures { result ≡ symbolHash kind layer number symbol.now }
+    ensures { result ≡ symbol_hash kind layer number symbol.now }
 {
     let mut digest = [0u8; 32];
     match kind {

@@ -10,36 +10,36 @@ use lib.ListN.{length, get_or, take, drop, set, drop_of_length-le}
 use lib.Seq.{drop-cons, set-append_seam, take_all, take-append_seam, take_at, take-take}
 use lib.Dec.{leb, eqb}
 use borrow.Author.Tests.{eqb-false, eqb-true, leb-true, le-leb, lt-leb}
-use Rattle.octets.specs.BigEndian.{be, wordAt, words, bytes_of}
+use Rattle.octets.specs.BigEndian.{be, word_at, words, bytes_of}
 use Rattle.octets.proofs.Bytes.{length-words}
 use Rattle.parity_table.specs.Parse.{over}
-use Rattle.table_bytes.specs.Bytes.{maxBytes, lengthFits, words_of, frontWords}
-use Rattle.octets.proofs.Choice.{and_yes, by-test}
+use Rattle.table_bytes.specs.Bytes.{max_bytes, length_fits, words_of, front_words}
+use Rattle.octets.proofs.Choice.{and_yes, by_test}
 
 -- ---- a length
 
-pub length-long : (n : ℕ) → maxBytes < n → false ≡ lengthFits n
-unfolding lengthFits
-length-long n h = sym (ap (λ (b : Bool). b && eqb (n % 4) 0) (lt-leb n maxBytes h))
+pub length_long : (n : ℕ) → max_bytes < n → false ≡ length_fits n
+unfolding length_fits
+length_long n h = sym (ap (λ (b : Bool). b && eqb (n % 4) 0) (lt-leb n max_bytes h))
 
-pub length-short : (n : ℕ) → n ≤ maxBytes → eqb (n % 4) 0 ≡ lengthFits n
-unfolding lengthFits
-length-short n h = sym (ap (λ (b : Bool). b && eqb (n % 4) 0) (le-leb n maxBytes h))
+pub length-short : (n : ℕ) → n ≤ max_bytes → eqb (n % 4) 0 ≡ length_fits n
+unfolding length_fits
+length-short n h = sym (ap (λ (b : Bool). b && eqb (n % 4) 0) (le-leb n max_bytes h))
 
 -- ---- words of bytes
 
-pub words-start : (b lent : List ℕ) → lent ≡ words b 0 ++ drop 0 lent
+pub words_start : (b lent : List ℕ) → lent ≡ words b 0 ++ drop 0 lent
 unfolding words
-words-start b lent = refl
+words_start b lent = refl
 
 pub words-next : (b lent : List ℕ) (i : ℕ) → i < length lent
-    → set (words b i ++ drop i lent) i (wordAt b (i * 4)) ≡ words b (i + 1) ++ drop (i + 1) lent
+    → set (words b i ++ drop i lent) i (word_at b (i * 4)) ≡ words b (i + 1) ++ drop (i + 1) lent
 unfolding words
 words-next b lent i h =
-    ap (λ (l : List ℕ). set (words b i ++ l) i (wordAt b (i * 4))) (drop-cons lent i 0 h)
-    ∙ ap (λ (n : ℕ). set (words b i ++ (get_or lent i 0 ∷ drop (suc i) lent)) n (wordAt b (i * 4))) (sym (length-words b i))
-    ∙ set-append_seam (words b i) (get_or lent i 0) (drop (suc i) lent) (wordAt b (i * 4))
-    ∙ sym (append_assoc (words b i) (wordAt b (i * 4) ∷ []) (drop (suc i) lent))
+    ap (λ (l : List ℕ). set (words b i ++ l) i (word_at b (i * 4))) (drop-cons lent i 0 h)
+    ∙ ap (λ (n : ℕ). set (words b i ++ (get_or lent i 0 ∷ drop (suc i) lent)) n (word_at b (i * 4))) (sym (length-words b i))
+    ∙ set-append_seam (words b i) (get_or lent i 0) (drop (suc i) lent) (word_at b (i * 4))
+    ∙ sym (append_assoc (words b i) (word_at b (i * 4) ∷ []) (drop (suc i) lent))
     ∙ ap (λ (n : ℕ). words b n ++ drop n lent) (sym (add-one i))
 
 -- the first n words, where there are so many
@@ -47,16 +47,16 @@ words_take : (b : List ℕ) (m n : ℕ) → m ≤ n → take m (words b n) ≡ w
 unfolding words
 words_take b m zero h = let z : m ≡ 0 = omega arith in ap (λ (q : ℕ). take q []) z ∙ ap (words b) (sym z)
 words_take b m (suc n) h =
-    by-test (eqb m (suc n))
+    by_test (eqb m (suc n))
     (λ t.
     let e = eqb-true m (suc n) t in
     take_all m (words b (suc n)) (omega (arith, length-words b (suc n))) ∙ ap (words b) (sym e))
     (λ t.
     let l : m ≤ n = omega (arith, eqb-false m (suc n) t) in
-    sym (take-take m (length (words b n)) (words b n ++ (wordAt b (n * 4) ∷ [])) (omega (arith, length-words b n)))
-    ∙ ap (take m) (take-append_seam (words b n) (wordAt b (n * 4) ∷ [])) ∙ words_take b m n l)
+    sym (take-take m (length (words b n)) (words b n ++ (word_at b (n * 4) ∷ [])) (omega (arith, length-words b n)))
+    ∙ ap (take m) (take-append_seam (words b n) (word_at b (n * 4) ∷ [])) ∙ words_take b m n l)
 
-pub front-words : (b : List ℕ) (n : ℕ) → frontWords b n ≡ words b (min (length b / 4) n)
+pub front-words : (b : List ℕ) (n : ℕ) → front_words b n ≡ words b (min (length b / 4) n)
 unfolding words_of
 front-words b n =
     elim (dec_lt n (length b / 4)) [
@@ -64,9 +64,9 @@ front-words b n =
       | no h ↦ take_all n (words b (length b / 4)) (omega (arith, length-words b (length b / 4))) ∙ ap (words b) (omega arith)
     ]
 
-pub words-all : (b lent : List ℕ) (i n : ℕ) → i ≡ min (length b / 4) n → words b i ++ drop i lent ≡ over (frontWords b n) lent
+pub words-all : (b lent : List ℕ) (i n : ℕ) → i ≡ min (length b / 4) n → words b i ++ drop i lent ≡ over (front_words b n) lent
 words-all b lent i n h =
-    let e : words b i ≡ frontWords b n = ap (words b) h ∙ sym (front-words b n) in
+    let e : words b i ≡ front_words b n = ap (words b) h ∙ sym (front-words b n) in
     ap (λ (m : ℕ). words b i ++ drop m lent) (sym (length-words b i)) ∙ ap (λ (l : List ℕ). over l lent) e
 
 -- ---- bytes of words
@@ -79,16 +79,16 @@ pub bytes-none : (ws : List ℕ) (i : ℕ) → length ws ≤ i → bytes_of (dro
 unfolding bytes_of
 bytes-none ws i h = ap bytes_of (drop_of_length-le ws {i = i} h)
 
-length_most : (n : ℕ) → lengthFits n ≡ true → n ≤ maxBytes
-unfolding lengthFits
-length_most n t = leb-true n maxBytes (and_yes (leb n maxBytes) (eqb (n % 4) 0) t).0
+length_most : (n : ℕ) → length_fits n ≡ true → n ≤ max_bytes
+unfolding length_fits
+length_most n t = leb-true n max_bytes (and_yes (leb n max_bytes) (eqb (n % 4) 0) t).0
 
-pub wordsOf-length : (b : List ℕ) → length (words_of b) ≡ length b / 4
+pub words_of-length : (b : List ℕ) → length (words_of b) ≡ length b / 4
 unfolding words_of
-wordsOf-length b = length-words b (length b / 4)
+words_of-length b = length-words b (length b / 4)
 
 -- as many as there are, or as many as are asked for
-pub front_length : (b : List ℕ) (n : ℕ) → length (frontWords b n) ≡ min (length b / 4) n
+pub front_length : (b : List ℕ) (n : ℕ) → length (front_words b n) ≡ min (length b / 4) n
 front_length b n = ap length (front-words b n) ∙ length-words b (min (length b / 4) n)
 
 -- the words in front of that buffer
@@ -96,5 +96,5 @@ pub words-front : (ws lent v : List ℕ) → v ≡ over ws lent → take (length
 words-front ws lent v h = ap (take (length ws)) h ∙ take_at ws (drop (length ws) lent) (length ws) refl
 
 -- a table that may come has no more words than this
-pub quarter-most : (n : ℕ) → lengthFits n ≡ true → n / 4 ≤ maxBytes / 4
-quarter-most n t = omega (arith, length_most n t)
+pub quarter_most : (n : ℕ) → length_fits n ≡ true → n / 4 ≤ max_bytes / 4
+quarter_most n t = omega (arith, length_most n t)

@@ -3,20 +3,20 @@
 -- Definitions only.
 use Rattle.std.specs.Prelude.{Bool, ◌&&◌, List, ℕ, ◌+◌, ◌-◌, ◌*◌, ◌/◌, ◌%◌, ◌^◌, length, take, leb, eqb}
 use Rattle.octets.specs.BigEndian.{words}
-use Rattle.parity_table.specs.Shape.{maxDepth}
+use Rattle.parity_table.specs.Shape.{max_depth}
 
 -- the words of the bytes
 unfoldable pub words_of : List ℕ → List ℕ
 words_of b = words b (length b / 4)
 
 -- .. the first n of them
-abbrev pub frontWords : List ℕ → ℕ → List ℕ
-frontWords b n = take n (words_of b)
+abbrev pub front_words : List ℕ → ℕ → List ℕ
+front_words b n = take n (words_of b)
 
 -- the most bytes that a table from C may have, 220,792: four for each word, nine words for each equation of the largest depth, one for each layer,
 -- and the end word
-abbrev pub maxBytes : ℕ
-maxBytes = 4 * (9 * (3 * (4 * 2 ^ maxDepth - 4)) + maxDepth + 1)
+abbrev pub max_bytes : ℕ
+max_bytes = 4 * (9 * (3 * (4 * 2 ^ max_depth - 4)) + max_depth + 1)
 
-unfoldable pub lengthFits : ℕ → Bool
-lengthFits n = leb n maxBytes && eqb (n % 4) 0
+unfoldable pub length_fits : ℕ → Bool
+length_fits n = leb n max_bytes && eqb (n % 4) 0

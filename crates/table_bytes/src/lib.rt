@@ -2,7 +2,7 @@
 ghost use Rattle.std.specs.Prelude.{◌≡◌, ◌*◌, min, length};
 ghost use Rattle.octets.specs.BigEndian.{bytes_of};
 ghost use Rattle.parity_table.specs.Parse.{over};
-ghost use Rattle.table_bytes.specs.Bytes.{lengthFits, frontWords};
+ghost use Rattle.table_bytes.specs.Bytes.{length_fits, front_words};
 
 use parity_table::{MAX_DEPTH, MAX_EQUATIONS, SHALLOW, SHALLOW_EQUATIONS};
 
@@ -16,7 +16,7 @@ pub const SHALLOW_WORDS: usize = 9 * SHALLOW_EQUATIONS + SHALLOW + 1;
 
 // A table may have this many bytes.
 pub fn length_fits(n: usize) -> bool
-    ensures { result ≡ lengthFits n }
+    ensures { result ≡ length_fits n }
 {
     if n > MAX_BYTES {
         return false;
@@ -36,8 +36,8 @@ fn lesser(a: usize, b: usize) -> usize
 
 // Fills ws, from the front, with the words of the bytes, as many as it has room for; how many.
 pub fn words_from(b: &[u8], ws: &mut [u32]) -> usize
-    ensures { (result ≡ length (frontWords b.now (length ws.old)))
-        × (ws.new ≡ over (frontWords b.now (length ws.old)) ws.old) }
+    ensures { (result ≡ length (front_words b.now (length ws.old)))
+        × (ws.new ≡ over (front_words b.now (length ws.old)) ws.old) }
 {
     let n = lesser(b.len() / 4, ws.len());
     let mut i: usize = 0;

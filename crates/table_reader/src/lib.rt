@@ -1,8 +1,8 @@
 // The table reader: word by word from the front, to the first wrong one.
 ghost use Rattle.std.specs.Prelude.{◌≡◌, ◌+◌, ◌*◌, ◌<◌, ◌≤◌, ◌^◌, eqb};
-ghost use Rattle.parity_table.specs.Shape.{maxDepth};
-ghost use Rattle.parity_table.specs.Reader.{memberFits, layered, run, read_of};
-ghost use Rattle.table_reader.specs.Steps.{wordAt, wordIs, MembersRead, EquationRead, EquationsRead, LayerRead, LayersRead, EndRead, FinishRead};
+ghost use Rattle.parity_table.specs.Shape.{max_depth};
+ghost use Rattle.parity_table.specs.Reader.{member_fits, layered, run, read_of};
+ghost use Rattle.table_reader.specs.Steps.{word_at, word_is, MembersRead, EquationRead, EquationsRead, LayerRead, LayersRead, EndRead, FinishRead};
 
 use parity_table::{Answer, END, EQUATION, LAYER, data_count, depth_fits};
 
@@ -38,7 +38,7 @@ pub struct TableReader<'a> {
 
 // The word at a place.
 fn word_at(ws: &[u32], at: usize) -> Word
-    ensures { result ≡ wordAt ws.now at }
+    ensures { result ≡ word_at ws.now at }
 {
     if at < ws.len() {
         return Word::Is(ws[at]);
@@ -55,14 +55,14 @@ fn reader_at<'a>(words: &'a [u32], at: usize) -> TableReader<'a>
 
 // The reader's next word.
 fn next<'a>(r: TableReader<'a>) -> Word
-    ensures { result ≡ wordAt r.entry.words.now r.entry.at }
+    ensures { result ≡ word_at r.entry.words.now r.entry.at }
 {
     word_at(r.words, r.at)
 }
 
 // Word number at, by a reader.
 fn next_word(ws: &[u32], at: usize) -> Word
-    ensures { result ≡ wordAt ws.now at }
+    ensures { result ≡ word_at ws.now at }
 {
     next(reader_at(ws, at))
 }
@@ -79,7 +79,7 @@ fn is_word(w: u32, base: u32, v: usize) -> bool
 
 // Word number at is that of value v of the kind whose words start at base.
 fn word_is(ws: &[u32], at: usize, base: u32, v: usize) -> bool
-    ensures { result ≡ wordIs ws.now at (base + v) }
+    ensures { result ≡ word_is ws.now at (base + v) }
 {
     match next_word(ws, at) {
         Word::Is(w) => is_word(w, base, v),
@@ -89,7 +89,7 @@ fn word_is(ws: &[u32], at: usize, base: u32, v: usize) -> bool
 
 // Number x may be a member after count members, at least low, in an equation whose last is last.
 fn member_fits(last: usize, count: usize, low: usize, x: usize) -> bool
-    ensures { result ≡ memberFits last count low x }
+    ensures { result ≡ member_fits last count low x }
 {
     if x < low {
         return false;
@@ -129,7 +129,7 @@ fn members(ws: &[u32], c: Cursor, last: usize) -> Step
 
 // Equation e of a layer with k data symbols.
 fn equation(ws: &[u32], c: Cursor, k: usize, e: usize) -> Step
-    requires { (k ≤ 4 * 2 ^ maxDepth) × (e < 3 * k) }
+    requires { (k ≤ 4 * 2 ^ max_depth) × (e < 3 * k) }
     ensures { EquationRead ws.now c.at k e result }
 {
     let at = c.at;
@@ -141,7 +141,7 @@ fn equation(ws: &[u32], c: Cursor, k: usize, e: usize) -> Step
 
 // The equations of a layer with k data symbols.
 fn equations(ws: &[u32], c: Cursor, k: usize) -> Step
-    requires { k ≤ 4 * 2 ^ maxDepth }
+    requires { k ≤ 4 * 2 ^ max_depth }
     ensures { EquationsRead ws.now c.at k result }
 {
     let mut next = c;
@@ -162,7 +162,7 @@ fn equations(ws: &[u32], c: Cursor, k: usize) -> Step
 
 // Layer j.
 fn layer(ws: &[u32], c: Cursor, j: usize) -> Step
-    requires { j < maxDepth }
+    requires { j < max_depth }
     ensures { LayerRead ws.now c.at j result }
 {
     let at = c.at;
@@ -174,7 +174,7 @@ fn layer(ws: &[u32], c: Cursor, j: usize) -> Step
 
 // All layers of a table of this depth, from a place on.
 fn layers_from(ws: &[u32], at: usize, depth: usize) -> Step
-    requires { depth ≤ maxDepth }
+    requires { depth ≤ max_depth }
     ensures { LayersRead ws.now at depth result }
 {
     let mut next = Cursor { at };
@@ -215,7 +215,7 @@ fn moved<'a>(r: TableReader<'a>, at: usize) -> TableReader<'a>
 
 // All layers of a table of this depth, from the reader's next word on.
 fn layers<'a>(r: TableReader<'a>, depth: usize) -> Step
-    requires { depth ≤ maxDepth }
+    requires { depth ≤ max_depth }
     ensures { LayersRead r.entry.words.now r.entry.at depth result }
 {
     layers_from(r.words, r.at, depth)
@@ -240,7 +240,7 @@ fn finish<'a>(r: TableReader<'a>, s: Step) -> Answer
 
 // Reads a table of a depth that fits: its layers from the first word on, then its end.
 fn whole(ws: &[u32], depth: usize) -> Answer
-    requires { depth ≤ maxDepth }
+    requires { depth ≤ max_depth }
     ensures { result ≡ run depth 0 (layered depth 0) ws.now }
 {
     let r = reader_at(ws, 0);

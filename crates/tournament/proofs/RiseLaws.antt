@@ -13,8 +13,8 @@ use Rattle.tournament.specs.Tournament.{entries, RightAt, Tournament, Entered}
 
 module _ (tree : List ℕ) (i v : ℕ) where
   -- node q stays right where neither it nor one of the two below it is there
-  still-right : (q : ℕ) → (q ≡ i → ⊥) → (q ≡ i / 2 → ⊥) → RightAt tree q → RightAt (set tree i v) q
-  still-right q a b h =
+  still_right : (q : ℕ) → (q ≡ i → ⊥) → (q ≡ i / 2 → ⊥) → RightAt tree q → RightAt (set tree i v) q
+  still_right q a b h =
       get_or-set_other tree i q v 0 a ∙ h
       ∙ sym (ap₂ min (get_or-set_other tree i (2 * q) v 0 (λ t. omega arith)) (get_or-set_other tree i (2 * q + 1) v 0 (λ t. omega arith)))
 
@@ -45,21 +45,21 @@ pub record Rising (tree₀ tree : List ℕ) (i : ℕ) : Type 0 where
   pub kept : entries tree ≡ entries tree₀
   pub right : (q : ℕ) → 1 ≤ q → q < length tree / 2 → (q ≡ i / 2 → ⊥) → RightAt tree q
 
-pub rising-start : (tree : List ℕ) (e v : ℕ) → Tournament tree → e < length tree / 2
+pub rising_start : (tree : List ℕ) (e v : ℕ) → Tournament tree → e < length tree / 2
     → Rising (set tree (length tree / 2 + e) v) (set tree (length tree / 2 + e) v) (length tree / 2 + e)
-rising-start tree e v t h =
+rising_start tree e v t h =
     let s : length (set tree (length tree / 2 + e) v) ≡ length tree = length-set tree (length tree / 2 + e) v in
     record {
       paired = omega arith;
       sized = refl;
       inside = omega arith;
       kept = refl;
-      right = λ q a l d. still-right tree (length tree / 2 + e) v q (λ z. omega arith) d (t.right q a (omega arith));
+      right = λ q a l d. still_right tree (length tree / 2 + e) v q (λ z. omega arith) d (t.right q a (omega arith));
     }
 
 module _ (tree₀ tree : List ℕ) (i : ℕ) (r : Rising tree₀ tree i) where
-  pub rising-turn : (m : ℕ) → 1 < i → m ≡ min (get_or tree (2 * (i / 2)) 0) (get_or tree (2 * (i / 2) + 1) 0) → Rising tree₀ (set tree (i / 2) m) (i / 2)
-  rising-turn m a h =
+  pub rising_turn : (m : ℕ) → 1 < i → m ≡ min (get_or tree (2 * (i / 2)) 0) (get_or tree (2 * (i / 2) + 1) 0) → Rising tree₀ (set tree (i / 2) m) (i / 2)
+  rising_turn m a h =
       let s : length (set tree (i / 2) m) ≡ length tree = length-set tree (i / 2) m in
       record {
         paired = omega arith;
@@ -68,7 +68,7 @@ module _ (tree₀ tree : List ℕ) (i : ℕ) (r : Rising tree₀ tree i) where
         kept = same_entries tree (i / 2) m (omega arith) ∙ r.kept;
         right = λ q b l d. elim (ℕ_discrete q (i / 2)) [
           | yes z ↦ rw z (now-right tree (i / 2) m (omega arith) (omega arith) h)
-          | no z ↦ still-right tree (i / 2) m q z d (r.right q b (omega arith) z)
+          | no z ↦ still_right tree (i / 2) m q z d (r.right q b (omega arith) z)
         ];
       }
 
@@ -77,8 +77,8 @@ module _ (tree₀ tree : List ℕ) (i : ℕ) (r : Rising tree₀ tree i) where
   top_right h = record { paired = r.paired; right = λ q a l. r.right q a l (λ z. omega arith) }
 
   -- the node above is right as it is
-  stop-right : RightAt tree (i / 2) → Tournament tree
-  stop-right h =
+  stop_right : RightAt tree (i / 2) → Tournament tree
+  stop_right h =
       record {
         paired = r.paired;
         right = λ q a l. elim (ℕ_discrete q (i / 2)) [
@@ -94,8 +94,8 @@ module _ (tree : List ℕ) (e v : ℕ) (after : List ℕ) (i : ℕ) (r : Rising 
   entered t =
       record { tournament = t; sized = r.sized ∙ length-set tree (length tree / 2 + e) v; entered = r.kept ∙ set-entry tree e v }
 
-  pub rising-end : i ≤ 1 → Entered tree e v after
-  rising-end h = entered (top_right (set tree (length tree / 2 + e) v) after i r h)
+  pub rising_end : i ≤ 1 → Entered tree e v after
+  rising_end h = entered (top_right (set tree (length tree / 2 + e) v) after i r h)
 
-  pub rising-stop : RightAt after (i / 2) → Entered tree e v after
-  rising-stop h = entered (stop-right (set tree (length tree / 2 + e) v) after i r h)
+  pub rising_stop : RightAt after (i / 2) → Entered tree e v after
+  rising_stop h = entered (stop_right (set tree (length tree / 2 + e) v) after i r h)

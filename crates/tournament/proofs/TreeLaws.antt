@@ -10,9 +10,9 @@ use Rattle.tournament.specs.Tournament.{entries, Tournament, Least}
 
 -- ---- the entries
 
-pub getD-entries : (tree : List ℕ) (x : ℕ) → get_or (entries tree) x 0 ≡ get_or tree (length tree / 2 + x) 0
+pub get_d_entries : (tree : List ℕ) (x : ℕ) → get_or (entries tree) x 0 ≡ get_or tree (length tree / 2 + x) 0
 unfolding entries
-getD-entries tree x = get_or-drop (length tree / 2) tree x 0
+get_d_entries tree x = get_or-drop (length tree / 2) tree x 0
 
 pub length-entries : (tree : List ℕ) → length tree ≡ 2 * (length tree / 2) → length (entries tree) ≡ length tree / 2
 unfolding entries
@@ -35,14 +35,14 @@ module _ (l v : ℕ) (p : l ≡ 2 * (l / 2)) where
       let s : length (replicate l v) ≡ l = length-replicate l v in
       let n : length (entries (replicate l v)) ≡ l / 2 = length-entries (replicate l v) (omega arith) ∙ omega arith in
       ext_get_or 0 (entries (replicate l v)) (replicate (l / 2) v) (n ∙ sym (length-replicate (l / 2) v))
-      (λ i h. getD-entries (replicate l v) i ∙ get_or-replicate l (length (replicate l v) / 2 + i) v 0 (omega arith) ∙ sym (get_or-replicate (l / 2) i v 0 (omega arith)))
+      (λ i h. get_d_entries (replicate l v) i ∙ get_or-replicate l (length (replicate l v) / 2 + i) v 0 (omega arith) ∙ sym (get_or-replicate (l / 2) i v 0 (omega arith)))
 
 -- ---- the first node
 
 module _ (tree : List ℕ) (t : Tournament tree) where
   -- what stands above a place is at most what stands there
-  above-at-most : (i : ℕ) → 2 ≤ i → i < length tree → get_or tree (i / 2) 0 ≤ get_or tree i 0
-  above-at-most i a l =
+  above_at_most : (i : ℕ) → 2 ≤ i → i < length tree → get_or tree (i / 2) 0 ≤ get_or tree i 0
+  above_at_most i a l =
       let r = t.right (i / 2) (omega arith) (omega arith) in
       elim (ℕ_discrete i (2 * (i / 2))) [
         | yes z ↦ omega (arith, ap (λ (n : ℕ). get_or tree n 0) z)
@@ -52,11 +52,11 @@ module _ (tree : List ℕ) (t : Tournament tree) where
       ]
 
   -- k bounds the place
-  first-at-most : (k i : ℕ) → i ≤ k → 1 ≤ i → i < length tree → get_or tree 1 0 ≤ get_or tree i 0
-  first-at-most zero i b a l = absurd (omega arith)
-  first-at-most (suc k) i b a l =
+  first_at_most : (k i : ℕ) → i ≤ k → 1 ≤ i → i < length tree → get_or tree 1 0 ≤ get_or tree i 0
+  first_at_most zero i b a l = absurd (omega arith)
+  first_at_most (suc k) i b a l =
       elim (dec_le 2 i) [
-        | yes z ↦ omega (arith, first-at-most k (i / 2) (omega arith) (omega arith) (omega arith), above-at-most i z l)
+        | yes z ↦ omega (arith, first_at_most k (i / 2) (omega arith) (omega arith) (omega arith), above_at_most i z l)
         | no z ↦
             let z' : i ≡ 1 = omega arith in
             omega (arith, ap (λ (n : ℕ). get_or tree n 0) z')
@@ -83,6 +83,6 @@ module _ (tree : List ℕ) (t : Tournament tree) where
       let (x, h, e) = is-entry (length tree) 1 (omega arith) (omega arith) (omega arith) in
       record {
         at_most = λ y k.
-            omega (arith, getD-entries tree y, first-at-most (length tree) (length tree / 2 + y) (omega (arith, t.paired)) (omega arith) (omega (arith, t.paired)));
-        found = (x, omega arith, getD-entries tree x ∙ e);
+            omega (arith, get_d_entries tree y, first_at_most (length tree) (length tree / 2 + y) (omega (arith, t.paired)) (omega arith) (omega (arith, t.paired)));
+        found = (x, omega arith, get_d_entries tree x ∙ e);
       }

@@ -10,126 +10,126 @@ use lib.Seq.{length-take-le}
 use lib.Dec.{ltb}
 use borrow.Author.Tests.{eqb-true, lt-ltb, le-ltb, ltb-true}
 use Rattle.octets.proofs.Choice.{and_yes, pick_yes, pick_no, pick_ind}
-use Rattle.parity_table.specs.Shape.{depthFits, k_of}
-use Rattle.parity_table.proofs.Shape.{k-small}
+use Rattle.parity_table.specs.Shape.{depth_fits, k_of}
+use Rattle.parity_table.proofs.Shape.{k_small}
 use Rattle.model.specs.Shape.{tree, places}
-use Rattle.root_record.specs.Records.{sizeIn, headRight}
+use Rattle.root_record.specs.Records.{size_in, head_right}
 use Rattle.root_record.proofs.RecordLaws.{head-parts}
 use Rattle.model.specs.Writer.{block_of}
-use Rattle.model.proofs.Shapes.{tree-ok}
+use Rattle.model.proofs.Shapes.{tree_ok}
 use Rattle.calls.specs.declared.Stop.{Stop}
 use Rattle.calls.specs.declared.Stop.TheVariants.{Absent}
 use Rattle.calls.specs.declared.Answer.{Answer}
 use Rattle.calls.specs.declared.Answer.TheVariants.{Done, Stopped}
-use Rattle.calls.specs.Lengths.{treeSized, blockSized, recordSized}
-use Rattle.calls.specs.Tests.{◌then◌, headed, testMarks}
-use Rattle.calls.proofs.LengthLaws.{places-small, tree-lengths}
+use Rattle.calls.specs.Lengths.{tree_sized, block_sized, record_sized}
+use Rattle.calls.specs.Tests.{◌then◌, headed, test_marks}
+use Rattle.calls.proofs.LengthLaws.{places_small, tree-lengths}
 use Rattle.calls.specs.Stops.{Small}
-use Rattle.calls.specs.Marks.{lowestBad}
-use Rattle.calls.proofs.RecordLaws.{Headed, headed-by, by-head, small-headed}
-use Rattle.calls.proofs.TestLaws.{stopped-not, marks-right, then-done, small_plain, small-then, small-marks}
-use Rattle.volume_calls.specs.Reading.{leaves, readSized, lowestAbsent, testBase, blockTested, blockGiven, read_by, block_read}
+use Rattle.calls.specs.Marks.{lowest_bad}
+use Rattle.calls.proofs.RecordLaws.{Headed, headed_by, by_head, small_headed}
+use Rattle.calls.proofs.TestLaws.{stopped_not, marks-right, then_done, small_plain, small_then, small_marks}
+use Rattle.volume_calls.specs.Reading.{leaves, read_sized, lowest_absent, test_base, block_tested, block_given, read_by, block_read}
 
 -- the base's data symbols have marks
 pub base-room : (d : ℕ) → 1 ≤ d → places tree (d - 1) + k_of (d - 1) ≤ places tree d
 unfolding places
-base-room d h = let e : suc (d - 1) ≡ d = omega arith in omega (arith, tree-ok.shape.within (d - 1), ap (places tree) e)
+base-room d h = let e : suc (d - 1) ≡ d = omega arith in omega (arith, tree_ok.shape.within (d - 1), ap (places tree) e)
 
 -- ---- test 9
 
 module _ (d : ℕ) (m : List ℕ) where
-  pub base-absent : lowestAbsent d m < k_of (d - 1) → Stopped (Absent (lowestAbsent d m)) ≡ testBase d m
-  unfolding testBase
+  pub base-absent : lowest_absent d m < k_of (d - 1) → Stopped (Absent (lowest_absent d m)) ≡ test_base d m
+  unfolding test_base
   base-absent h =
-      sym (pick_yes (ltb (lowestAbsent d m) (k_of (d - 1))) (Stopped (Absent (lowestAbsent d m))) Done (lt-ltb (lowestAbsent d m) (k_of (d - 1)) h))
+      sym (pick_yes (ltb (lowest_absent d m) (k_of (d - 1))) (Stopped (Absent (lowest_absent d m))) Done (lt-ltb (lowest_absent d m) (k_of (d - 1)) h))
 
-  pub base_there : k_of (d - 1) ≤ lowestAbsent d m → Done ≡ testBase d m
-  unfolding testBase
+  pub base_there : k_of (d - 1) ≤ lowest_absent d m → Done ≡ test_base d m
+  unfolding test_base
   base_there h =
-      sym (pick_no (ltb (lowestAbsent d m) (k_of (d - 1))) (Stopped (Absent (lowestAbsent d m))) Done (le-ltb (lowestAbsent d m) (k_of (d - 1)) h))
+      sym (pick_no (ltb (lowest_absent d m) (k_of (d - 1))) (Stopped (Absent (lowest_absent d m))) Done (le-ltb (lowest_absent d m) (k_of (d - 1)) h))
 
-  pub base-passed : testBase d m ≡ Done → k_of (d - 1) ≤ lowestAbsent d m
+  pub base-passed : test_base d m ≡ Done → k_of (d - 1) ≤ lowest_absent d m
   base-passed e =
-      elim (dec_lt (lowestAbsent d m) (k_of (d - 1))) [
-        | yes h ↦ absurd (stopped-not _ (base-absent h ∙ e))
+      elim (dec_lt (lowest_absent d m) (k_of (d - 1))) [
+        | yes h ↦ absurd (stopped_not _ (base-absent h ∙ e))
         | no h ↦ omega arith
       ]
 
 -- ---- the lengths, where their test passes
 
-pub sizes : (d r t m b : ℕ) → readSized d r t m b ≡ true
+pub sizes : (d r t m b : ℕ) → read_sized d r t m b ≡ true
     → (t ≡ 256 * places tree d) × (m ≡ places tree d) × (r ≡ 556) × (b ≡ 256 * k_of (d - 1))
 sizes d r t m b e =
-    let (p, q) = and_yes (treeSized d t m) (recordSized r && blockSized d b) e in
-    let (x, y) = and_yes (recordSized r) (blockSized d b) q in
+    let (p, q) = and_yes (tree_sized d t m) (record_sized r && block_sized d b) e in
+    let (x, y) = and_yes (record_sized r) (block_sized d b) q in
     let (v, w) = tree-lengths d t m p in
     (v, w, eqb-true r 556 x, eqb-true b (256 * k_of (d - 1)) y)
 
 -- a call that passes the tests has passed 1, 2 and 11
-pub passed : (d : ℕ) (r : List ℕ) (t : ℕ) (m : List ℕ) (b : ℕ) → blockTested d r t m b ≡ Done → Headed d (readSized d (length r) t (length m) b) r
+pub passed : (d : ℕ) (r : List ℕ) (t : ℕ) (m : List ℕ) (b : ℕ) → block_tested d r t m b ≡ Done → Headed d (read_sized d (length r) t (length m) b) r
 passed d r t m b e =
-    let s = readSized d (length r) t (length m) b in
-    headed-by d s r (then-done (headed d s r) (testMarks m then testBase d m) e).0
+    let s = read_sized d (length r) t (length m) b in
+    headed_by d s r (then_done (headed d s r) (test_marks m then test_base d m) e).0
 
 -- the block has room for as many bytes as the record says
-pub size_room : (d : ℕ) (r : List ℕ) (b : ℕ) → headRight d r ≡ true → b ≡ 256 * k_of (d - 1) → sizeIn r ≤ b
+pub size_room : (d : ℕ) (r : List ℕ) (b : ℕ) → head_right d r ≡ true → b ≡ 256 * k_of (d - 1) → size_in r ≤ b
 size_room d r b h e = omega (arith, (head-parts d r h).3)
 
 -- ---- what is left
 
 -- the first n bytes of the buffer are those of the base, and the rest is left
-pub given_back : (d n : ℕ) (r t b front : List ℕ) → n ≡ sizeIn r → n ≤ length b → front ≡ take (length (take n b)) (block_of tree d t)
-    → front ++ drop n b ≡ blockGiven d r t b
+pub given_back : (d n : ℕ) (r t b front : List ℕ) → n ≡ size_in r → n ≤ length b → front ≡ take (length (take n b)) (block_of tree d t)
+    → front ++ drop n b ≡ block_given d r t b
 given_back d n r t b front en room ef =
     let l : length (take n b) ≡ n = length-take-le n b room in
     ap₂ (λ (x y : List ℕ). x ++ y) (ef ∙ ap (λ (k : ℕ). take k (block_of tree d t)) (l ∙ en)) (ap (λ (k : ℕ). drop k b) en)
 
 module _ (d : ℕ) (r t m b : List ℕ) where
   abbrev sized : Bool
-  sized = readSized d (length r) (length t) (length m) (length b)
+  sized = read_sized d (length r) (length t) (length m) (length b)
 
-  pub answer-is : (block_read d r t m b).answer ≡ blockTested d r (length t) m (length b)
+  pub answer-is : (block_read d r t m b).answer ≡ block_tested d r (length t) m (length b)
   unfolding block_read
   answer-is = refl
 
-  pub refused : (s : Stop) → Stopped s ≡ blockTested d r (length t) m (length b) → leaves (Stopped s) b ≡ block_read d r t m b
+  pub refused : (s : Stop) → Stopped s ≡ block_tested d r (length t) m (length b) → leaves (Stopped s) b ≡ block_read d r t m b
   unfolding block_read
   refused s e = ap (λ (a : Answer). read_by a d r t b) e
 
-  pub copied : (b' : List ℕ) → Done ≡ blockTested d r (length t) m (length b) → b' ≡ blockGiven d r t b → leaves Done b' ≡ block_read d r t m b
+  pub copied : (b' : List ℕ) → Done ≡ block_tested d r (length t) m (length b) → b' ≡ block_given d r t b → leaves Done b' ≡ block_read d r t m b
   unfolding block_read
   copied b' e eb = ap (λ (x : List ℕ). leaves Done x) eb ∙ ap (λ (a : Answer). read_by a d r t b) e
 
   -- a call that is done has passed the tests, and leaves the block; one that passes them is done
-  pub tests-passed : (block_read d r t m b).answer ≡ Done → blockTested d r (length t) m (length b) ≡ Done
-  tests-passed e = sym answer-is ∙ e
+  pub tests_passed : (block_read d r t m b).answer ≡ Done → block_tested d r (length t) m (length b) ≡ Done
+  tests_passed e = sym answer-is ∙ e
 
-  pub when-done : (block_read d r t m b).answer ≡ Done → block_read d r t m b ≡ leaves Done (blockGiven d r t b)
-  when-done e = sym (copied _ (sym (tests-passed e)) refl)
+  pub when_done : (block_read d r t m b).answer ≡ Done → block_read d r t m b ≡ leaves Done (block_given d r t b)
+  when_done e = sym (copied _ (sym (tests_passed e)) refl)
 
-  pub done-when : depthFits d ≡ true → sized ≡ true → headRight d r ≡ true → length m ≤ lowestBad m → k_of (d - 1) ≤ lowestAbsent d m
+  pub done_when : depth_fits d ≡ true → sized ≡ true → head_right d r ≡ true → length m ≤ lowest_bad m → k_of (d - 1) ≤ lowest_absent d m
       → (block_read d r t m b).answer ≡ Done
-  done-when f l x g h =
+  done_when f l x g h =
       answer-is
-      ∙ ap₂ (λ (x y : Answer). x then y then testBase d m) (sym (by-head d sized r f l x)) (sym (marks-right m g))
+      ∙ ap₂ (λ (x y : Answer). x then y then test_base d m) (sym (by_head d sized r f l x)) (sym (marks-right m g))
       ∙ sym (base_there d m h)
 
   -- ---- its value is small
 
   pub small : Small (block_read d r t m b).answer
-  unfolding testBase
+  unfolding test_base
   small =
       rw answer-is
-      (small-then (headed d sized r) (testMarks m then testBase d m) (small-headed d sized r)
+      (small_then (headed d sized r) (test_marks m then test_base d m) (small_headed d sized r)
       (λ o.
-      let k = (headed-by d sized r o).opened-is in
+      let k = (headed_by d sized r o).opened-is in
       let n = sizes d (length r) (length t) (length m) (length b) k.lengths in
-      small-then (testMarks m) (testBase d m) (small-marks m (omega (arith, n.1, places-small d k.shallow)))
+      small_then (test_marks m) (test_base d m) (small_marks m (omega (arith, n.1, places_small d k.shallow)))
       (λ h.
-      pick_ind Small (ltb (lowestAbsent d m) (k_of (d - 1)))
+      pick_ind Small (ltb (lowest_absent d m) (k_of (d - 1)))
       (λ x.
       record {
-        first = omega (arith, ltb-true (lowestAbsent d m) (k_of (d - 1)) x, k-small (d - 1) (omega (arith, k.some, k.shallow)));
+        first = omega (arith, ltb-true (lowest_absent d m) (k_of (d - 1)) x, k_small (d - 1) (omega (arith, k.some, k.shallow)));
         second = omega arith;
       })
       (λ x. small_plain refl))))

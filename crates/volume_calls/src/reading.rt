@@ -1,15 +1,15 @@
 // Reading a block back.
 ghost use Rattle.std.specs.Prelude.{◌≡◌, ◌&&◌, ◌≤◌, length};
-ghost use Rattle.parity_table.specs.Shape.{depthFits, maxDepth};
+ghost use Rattle.parity_table.specs.Shape.{depth_fits, max_depth};
 ghost use Rattle.model.specs.Shape.{tree as shape, places};
-ghost use Rattle.volume_calls.specs.Reading.{readSized, testBase, blockTested, block_read, leaves};
+ghost use Rattle.volume_calls.specs.Reading.{read_sized, test_base, block_tested, block_read, leaves};
 
 use calls::{Answer, Stop, enter_by, test_marks, tree_fits};
 use parity_table::data_count;
 
 // Whether the depth is one, and record, tree, marks and block have the lengths of it.
 fn sizes_fit(depth: usize, record_len: usize, tree: usize, marks: usize, block: usize) -> bool
-    ensures { result ≡ depthFits depth && readSized depth record_len tree marks block }
+    ensures { result ≡ depth_fits depth && read_sized depth record_len tree marks block }
 {
     if !tree_fits(depth, tree, marks) {
         return false;
@@ -22,8 +22,8 @@ fn sizes_fit(depth: usize, record_len: usize, tree: usize, marks: usize, block: 
 
 // Test 9: the base's first absent data symbol.
 fn test_base(depth: usize, marks: &[u8]) -> Answer
-    requires { (1 ≤ depth) × (depth ≤ maxDepth) × (length marks.now ≡ places shape depth) }
-    ensures { result ≡ testBase depth marks.now }
+    requires { (1 ≤ depth) × (depth ≤ max_depth) × (length marks.now ≡ places shape depth) }
+    ensures { result ≡ test_base depth marks.now }
 {
     let k = data_count(depth - 1);
     let absent = coded_tree::first_absent(marks, depth - 1, k);
@@ -35,7 +35,7 @@ fn test_base(depth: usize, marks: &[u8]) -> Answer
 
 // Tests 1, 2, 11, 4, 9.
 fn tests(depth: usize, root_record: &[u8], tree: usize, marks: &[u8], block: usize) -> Answer
-    ensures { result ≡ blockTested depth root_record.now tree marks.now block }
+    ensures { result ≡ block_tested depth root_record.now tree marks.now block }
 {
     let sized = sizes_fit(depth, root_record.len(), tree, marks.len(), block);
     if let Answer::Stopped(s) = enter_by(depth, sized, root_record) {

@@ -1,10 +1,10 @@
 // Writing a tree.
 ghost use Rattle.std.specs.Prelude.{◌≡◌, ◌&&◌};
-ghost use Rattle.parity_table.specs.Shape.{depthFits};
+ghost use Rattle.parity_table.specs.Shape.{depth_fits};
 ghost use Rattle.calls.specs.Room.{Room};
 ghost use Rattle.calls.specs.Tests.{opened};
-ghost use Rattle.table_bytes.specs.Bytes.{lengthFits};
-ghost use Rattle.volume_calls.specs.Writing.{Writable, writeSized, written_by, treeWritten, treeWrittenBy, leaves};
+ghost use Rattle.table_bytes.specs.Bytes.{length_fits};
+ghost use Rattle.volume_calls.specs.Writing.{Writable, write_sized, written_by, tree_written, tree_written_by, leaves};
 
 use calls::{Answer, Stop, admit, enter, stops_at_depth, tree_fits};
 use parity_table::{MAX_EQUATIONS, SHALLOW_EQUATIONS, data_count, is_deep};
@@ -13,7 +13,7 @@ use table_bytes::{MAX_WORDS, SHALLOW_WORDS, length_fits};
 
 // Whether the depth is one, and block, tree, marks and record have the lengths of it.
 fn sizes_fit(depth: usize, block: usize, tree: usize, marks: usize, record_len: usize) -> bool
-    ensures { result ≡ depthFits depth && writeSized depth block tree marks record_len }
+    ensures { result ≡ depth_fits depth && write_sized depth block tree marks record_len }
 {
     if !tree_fits(depth, tree, marks) {
         return false;
@@ -67,7 +67,7 @@ fn write_in(
 ) -> Answer
     requires { Room depth words.old starts.old }
     ensures { leaves result tree.new marks.new root_record.new
-        ≡ treeWritten depth kind table.now block.now tree.old marks.old root_record.old }
+        ≡ tree_written depth kind table.now block.now tree.old marks.old root_record.old }
 {
     let sized = sizes_fit(
         depth,
@@ -105,7 +105,7 @@ fn write_deep(
     root_record: &mut [u8],
 ) -> Answer
     ensures { leaves result tree.new marks.new root_record.new
-        ≡ treeWritten depth kind table.now block.now tree.old marks.old root_record.old }
+        ≡ tree_written depth kind table.now block.now tree.old marks.old root_record.old }
 {
     let mut words = [0u32; MAX_WORDS];
     let mut starts = [0usize; MAX_EQUATIONS];
@@ -137,7 +137,7 @@ pub fn write_tree(
     root_record: &mut [u8],
 ) -> Answer
     ensures { leaves result tree.new marks.new root_record.new
-        ≡ treeWritten depth kind table.now block.now tree.old marks.old root_record.old }
+        ≡ tree_written depth kind table.now block.now tree.old marks.old root_record.old }
 {
     if is_deep(depth) {
         return write_deep(depth, kind, table, block, tree, marks, root_record);
@@ -166,7 +166,7 @@ fn test_lengths(
     marks: usize,
     record_len: usize,
 ) -> Answer
-    ensures { result ≡ opened depth (writeSized depth block tree marks record_len && lengthFits table) }
+    ensures { result ≡ opened depth (write_sized depth block tree marks record_len && length_fits table) }
 {
     if !length_fits(table) {
         return enter(depth, false);
@@ -185,7 +185,7 @@ pub fn write_tree_by(
     root_record: &mut [u8],
 ) -> Answer
     ensures { leaves result tree.new marks.new root_record.new
-        ≡ treeWrittenBy depth number table.now block.now tree.old marks.old root_record.old }
+        ≡ tree_written_by depth number table.now block.now tree.old marks.old root_record.old }
 {
     if number <= 1 {
         let kind = root_record::kind_of(number);

@@ -15,7 +15,7 @@ read-block-requires c κs = search rules
 call-result-requires : tie.Need-call-result-requires
 call-result-requires c κs =
     let g = c.before.before.before.before.before.before.before.before.args in
-    subst Small (sym (ap (λ (w : BlockLeft Answer). w.answer) c.before.before.read-block.ensures)) (small g.depth g.root-record.now g.tree.now g.marks.now g.block.now)
+    subst Small (sym (ap (λ (w : BlockLeft Answer). w.answer) c.before.before.read-block.ensures)) (small g.depth g.root_record.now g.tree.now g.marks.now g.block.now)
 
 same_length : tie.Need-same-length
 same_length c = search rules

@@ -3,7 +3,7 @@ use mathlib.Core.Path.{sym, ap, ◌∙◌, subst}
 use borrow.Author.Rules.{rules}
 use Rattle.calls.specs.Stops.{Small}
 use Rattle.fault_calls.proofs.CheckingLaws.{small}
-use Rattle.cedunmi_c.specs.Result.{callResult}
+use Rattle.cedunmi_c.specs.Result.{call_result}
 use Rattle.cedunmi_c.proofs.cmt_proof_check.Statement.{statement}
 use Rattle.cedunmi_c.proofs.cmt_proof_check.Tie as tie
 
@@ -13,10 +13,10 @@ check-requires c κs = search rules
 call-result-requires : tie.Need-call-result-requires
 call-result-requires c κs =
     let g = c.before.before.before.before.args in
-    subst Small (sym c.check.ensures) (small g.depth g.root-record.now g.table.now g.proof.now)
+    subst Small (sym c.check.ensures) (small g.depth g.root_record.now g.table.now g.proof.now)
 
 returns : tie.Need-returns
-returns c = c.call-result.ensures ∙ ap callResult c.before.check.ensures
+returns c = c.call-result.ensures ∙ ap call_result c.before.check.ensures
 
 pub cmt-proof-check-spec : {M : Type 1} → statement M
 cmt-proof-check-spec = tie.close (tie.spec check-requires call-result-requires returns)

@@ -15,7 +15,7 @@ recode-requires c κs = search rules
 call-result-requires : tie.Need-call-result-requires
 call-result-requires c κs =
     let g = c.before.before.before.before.before.before.before.before.before.before.before.before.before.before.before.before.before.args in
-    subst Small (sym (ap (λ (w : TreeLeft Answer). w.answer) c.before.before.before.before.before.before.recode.ensures)) (small g.depth g.root-record.now g.table.now g.tree.now g.marks.now g.new-tree.now g.new-marks.now g.new-record.now)
+    subst Small (sym (ap (λ (w : TreeLeft Answer). w.answer) c.before.before.before.before.before.before.recode.ensures)) (small g.depth g.root_record.now g.table.now g.tree.now g.marks.now g.new-tree.now g.new-marks.now g.new_record_lem.now)
 
 same_length : tie.Need-same-length
 same_length c = search rules

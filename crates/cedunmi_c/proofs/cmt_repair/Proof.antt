@@ -2,9 +2,9 @@
 use mathlib.Core.Path.{sym, ap, subst}
 use lib.ListN.{length}
 use borrow.Author.Rules.{rules}
-use Rattle.root_record.specs.Records.{kindIn}
+use Rattle.root_record.specs.Records.{kind_in}
 use Rattle.fault_calls.specs.Repairing.{Result, RepairLeft, Fits, Recorded}
-use Rattle.fault_calls.proofs.Ends.{repair-fits, repair-recorded}
+use Rattle.fault_calls.proofs.Ends.{repair-fits, repair_recorded}
 use Rattle.cedunmi_c.proofs.ResultLaws.{repair-left}
 use Rattle.cedunmi_c.proofs.cmt_repair.Statement.{statement}
 use Rattle.cedunmi_c.proofs.cmt_repair.Tie as tie
@@ -16,8 +16,8 @@ repair-result-requires : tie.Need-repair-result-requires
 repair-result-requires c κs =
     let g = c.before.before.before.before.before.before.before.before.before.before.before.before.before.before.before.args in
     let e = sym (ap (λ (w : RepairLeft Result). w.answer) c.before.before.before.before.before.before.repair-tree.ensures) in (
-      subst (Fits (kindIn g.root-record.now)) e (repair-fits (kindIn g.root-record.now) g.depth g.root-record.now g.table.now g.tree.now g.marks.now g.output.now),
-      subst (Recorded (length g.root-record.now)) e (repair-recorded g.depth g.root-record.now g.table.now g.tree.now g.marks.now g.output.now),
+      subst (Fits (kind_in g.root_record.now)) e (repair-fits (kind_in g.root_record.now) g.depth g.root_record.now g.table.now g.tree.now g.marks.now g.output.now),
+      subst (Recorded (length g.root_record.now)) e (repair_recorded g.depth g.root_record.now g.table.now g.tree.now g.marks.now g.output.now),
     )
 
 same_length : tie.Need-same-length

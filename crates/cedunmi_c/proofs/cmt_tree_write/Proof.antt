@@ -15,7 +15,7 @@ write-tree-by-requires c κs = search rules
 call-result-requires : tie.Need-call-result-requires
 call-result-requires c κs =
     let g = c.before.before.before.before.before.before.before.before.before.before.before.before.before.before.before.args in
-    subst Small (sym (ap (λ (w : TreeLeft Answer). w.answer) c.before.before.before.before.before.before.write-tree-by.ensures)) (small_by g.depth g.kind g.table.now g.block.now g.tree.now g.marks.now g.root-record.now)
+    subst Small (sym (ap (λ (w : TreeLeft Answer). w.answer) c.before.before.before.before.before.before.write-tree-by.ensures)) (small_by g.depth g.kind g.table.now g.block.now g.tree.now g.marks.now g.root_record.now)
 
 same_length : tie.Need-same-length
 same_length c = search rules

@@ -6,14 +6,14 @@ use mathlib.Core.List.{List}
 use Prim.Native.Nat.{ℕ, ◌+◌, ◌-◌}
 use native.Mathlib.Omega.{arith}
 use lib.ListN.{length, get_or, drop}
-use Rattle.coverage.specs.Counting.{hasEnd, Below, tallied, tally}
-use Rattle.coverage.proofs.Tallies.{end-inside, end_later, noted-length, noted-below, noted-end, tally-end, tally-on}
+use Rattle.coverage.specs.Counting.{has_end, Below, tallied, tally}
+use Rattle.coverage.proofs.Tallies.{end-inside, end_later, noted-length, noted-below, noted-end, tally-end, tally_on}
 use Rattle.coverage.proofs.count_to_end.Statement.{statement}
 use Rattle.coverage.proofs.count_to_end.Tie as tie
 
 abbrev invariant-loop : tie.invariant-loop
 invariant-loop ws at seen₀ end₀ seen end =
-    (hasEnd (drop end ws) ≡ true) × Below seen end × (length seen ≡ length seen₀) × (tally seen (drop end ws) ≡ tally seen₀ (drop at ws))
+    (has_end (drop end ws) ≡ true) × Below seen end × (length seen ≡ length seen₀) × (tally seen (drop end ws) ≡ tally seen₀ (drop at ws))
 
 abbrev decreases-loop : tie.decreases-loop
 decreases-loop ws at seen₀ end₀ seen end = length ws - end
@@ -25,7 +25,7 @@ mul-note : tie.Need-overflow-mul-note invariant-loop decreases-loop
 mul-note c =
     let s = c.before.before.before.before in
     let l = c.before.loop in
-    omega (arith, end-inside s.args.ws.now l.end l.invariant.0, s.well-formed)
+    omega (arith, end-inside s.args.ws.now l.end l.invariant.0, s.well_formed)
 
 shared-slice-read-note : tie.Need-shared-slice-read-note invariant-loop decreases-loop
 shared-slice-read-note c = let l = c.before.before.loop in end-inside c.before.before.before.before.before.args.ws.now l.end l.invariant.0
@@ -57,7 +57,7 @@ add-end : tie.Need-overflow-add-end invariant-loop decreases-loop
 add-end c =
     let s = c.before.before.before.before.before.before.before.before.before in
     let l = c.before.before.before.before.before.before.loop in
-    omega (arith, end-inside s.args.ws.now l.end l.invariant.0, s.well-formed)
+    omega (arith, end-inside s.args.ws.now l.end l.invariant.0, s.well_formed)
 
 loop-less : tie.Need-loop-smaller invariant-loop decreases-loop
 loop-less c = let l = c.before.before.before.before.before.before.loop in omega (arith, end-inside c.before.before.before.before.before.before.before.before.before.args.ws.now l.end l.invariant.0)
@@ -72,7 +72,7 @@ loop-again c =
       end_later ws l.end l.invariant.0 t,
       subst (λ (x : List ℕ). Below x (l.end + 1)) (sym n.1) (noted-below l.seen w l.end l.invariant.1),
       ap length n.1 ∙ noted-length l.seen w ∙ l.invariant.2,
-      ap (λ (x : List ℕ). tally x (drop (l.end + 1) ws)) n.1 ∙ tally-on l.seen ws l.end (end-inside ws l.end l.invariant.0) t ∙ l.invariant.3,
+      ap (λ (x : List ℕ). tally x (drop (l.end + 1) ws)) n.1 ∙ tally_on l.seen ws l.end (end-inside ws l.end l.invariant.0) t ∙ l.invariant.3,
     )
 
 pub count-to-end-spec : {M : Type 1} → statement M

@@ -6,9 +6,9 @@ use lib.ListN.{length, take, drop, replicate, length-set}
 use lib.Seq.{drop-drop, drop-set-lt}
 use Rattle.octets.proofs.ListLaws.{fill_more}
 use Rattle.model.specs.Symbols.{lowest}
-use Rattle.model.proofs.Counts.{lowest-hit, lowest-pass, lowest-none}
-use Rattle.coverage.specs.Counting.{isThin}
-use Rattle.coverage.proofs.Tallies.{thin-yes, thin-no, same-there}
+use Rattle.model.proofs.Counts.{lowest_hit, lowest_pass, lowest-none}
+use Rattle.coverage.specs.Counting.{is_thin}
+use Rattle.coverage.proofs.Tallies.{thin_yes, thin_no, same_there}
 use Rattle.coverage.proofs.first_thin.Statement.{statement}
 use Rattle.coverage.proofs.first_thin.Tie as tie
 
@@ -16,7 +16,7 @@ abbrev invariant-loop : tie.invariant-loop
 invariant-loop seen₀ i₀ i-end seen i =
     ((i ≤ i-end) × (i-end ≡ length seen₀) × (length seen ≡ length seen₀))
     × (take i seen ≡ replicate i 0) × (drop i seen ≡ drop i seen₀)
-    × (lowest (isThin seen₀) i (length seen₀ - i) ≡ lowest (isThin seen₀) 0 (length seen₀))
+    × (lowest (is_thin seen₀) i (length seen₀ - i) ≡ lowest (is_thin seen₀) 0 (length seen₀))
 
 abbrev decreases-loop : tie.decreases-loop
 decreases-loop seen₀ i₀ i-end seen i = i-end - i
@@ -25,7 +25,7 @@ loop-holds : tie.Need-loop-init invariant-loop decreases-loop
 loop-holds c =
     let s = c.args.seen.now in
     let z : length s - 0 ≡ length s = omega arith in
-    ((omega arith, refl, refl), refl, refl, ap (lowest (isThin s) 0) z)
+    ((omega arith, refl, refl), refl, refl, ap (lowest (is_thin s) 0) z)
 
 mul-if1 : tie.Need-overflow-mul-if1 invariant-loop decreases-loop
 mul-if1 c = omega arith
@@ -40,8 +40,8 @@ returns : tie.Need-returns invariant-loop decreases-loop
 returns c =
     let s = c.before.before.before.before.args.seen.now in
     let l = c.before.before.before.loop in
-    let t = thin-yes s l.i (omega (arith, c.if1.true, same-there l.seen s l.i l.invariant.2)) in
-    (lowest-hit (isThin s) (length s) l.i _ l.invariant.3 (omega arith) t, l.invariant.1, l.invariant.2)
+    let t = thin_yes s l.i (omega (arith, c.if1.true, same_there l.seen s l.i l.invariant.2)) in
+    (lowest_hit (is_thin s) (length s) l.i _ l.invariant.3 (omega arith) t, l.invariant.1, l.invariant.2)
 
 mul-seen : tie.Need-overflow-mul-seen invariant-loop decreases-loop
 mul-seen c = omega arith
@@ -60,11 +60,11 @@ loop-again c =
     let s = c.before.before.before.before.args.seen.now in
     let l = c.before.before.before.loop in
     let h = l.invariant.0.2 in
-    let t = thin-no s l.i (omega (arith, c.if1.false, same-there l.seen s l.i l.invariant.2)) in (
+    let t = thin_no s l.i (omega (arith, c.if1.false, same_there l.seen s l.i l.invariant.2)) in (
       (omega arith, l.invariant.0.1, length-set l.seen l.i 0 ∙ h),
       fill_more l.seen l.i 0 (omega arith) l.invariant.1,
       drop-set-lt (l.i + 1) l.seen l.i 0 (omega arith) ∙ sym (drop-drop 1 l.i l.seen) ∙ ap (drop 1) l.invariant.2 ∙ drop-drop 1 l.i s,
-      lowest-pass (isThin s) (length s) l.i _ l.invariant.3 (omega arith) t,
+      lowest_pass (is_thin s) (length s) l.i _ l.invariant.3 (omega arith) t,
     )
 
 same-length-2 : tie.Need-same-length-2 invariant-loop decreases-loop
@@ -76,7 +76,7 @@ returns-2 c =
     let l = c.before.loop in
     let n = l.invariant.0.2 in
     let e : l.i ≡ length l.seen = omega (arith, c.loop-test.false, l.invariant.0.0, l.invariant.0.1) in (
-      n ∙ lowest-none (isThin s) (length s) l.i _ l.invariant.3 (omega arith),
+      n ∙ lowest-none (is_thin s) (length s) l.i _ l.invariant.3 (omega arith),
       ap (λ (x : ℕ). take x l.seen) (sym e) ∙ l.invariant.1 ∙ ap (λ (x : ℕ). replicate x 0) e,
       ap (λ (x : ℕ). drop x l.seen) (sym e) ∙ l.invariant.2 ∙ ap (λ (x : ℕ). drop x s) e,
     )

@@ -14,7 +14,7 @@ word-at-requires c κs = search rules
 
 returns : tie.Need-returns
 unfolding kind_at
-returns c = ap (λ w. w / 1073741824) c.word-at.ensures
+returns c = ap (λ w. w / 1073741824) c.word_at_lem.ensures
 
 pub kind-at-spec : {M : Type 1} → statement M
 kind-at-spec = tie.close (tie.spec mul-word-at word-at-requires returns)

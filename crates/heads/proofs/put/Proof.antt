@@ -1,6 +1,6 @@
 -- `put` meets its contract: three words, one after the other.
 use borrow.Author.Rules.{rules}
-use Rattle.heads.proofs.HeadLaws.{head-put}
+use Rattle.heads.proofs.HeadLaws.{head_put}
 use Rattle.heads.proofs.put.Statement.{statement}
 use Rattle.heads.proofs.put.Tie as tie
 
@@ -40,7 +40,7 @@ same_length c = search rules
 returns : tie.Need-returns
 returns c =
     let s = c.before.before.before.before.before.before.before.before.before.before.before.before.before in
-    head-put s.args.kind s.args.first s.args.second s.args.third s.args.out.now _ _ _ s.requires.4 c.before.before.before.before.before.before.before.before.before.before.put_word.ensures c.before.before.before.before.before.before.put-word2.ensures c.before.before.put-word3.ensures
+    head_put s.args.kind s.args.first s.args.second s.args.third s.args.out.now _ _ _ s.requires.4 c.before.before.before.before.before.before.before.before.before.before.put_word.ensures c.before.before.before.before.before.before.put-word2.ensures c.before.before.put-word3.ensures
 
 pub put_spec : {M : Type 1} → statement M
 put_spec =

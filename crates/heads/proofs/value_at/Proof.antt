@@ -17,7 +17,7 @@ cast-result c = search rules
 
 returns : tie.Need-returns
 unfolding value_at
-returns c = ap (λ w. w % 1073741824) c.word-at.ensures
+returns c = ap (λ w. w % 1073741824) c.word_at_lem.ensures
 
 pub value-at-spec : {M : Type 1} → statement M
 value-at-spec = tie.close (tie.spec mul-word-at word-at-requires cast-result returns)

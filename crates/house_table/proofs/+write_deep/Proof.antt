@@ -4,10 +4,10 @@ use Prim.Native.Nat.{ℕ, ◌<◌}
 use native.Mathlib.Omega.{arith}
 use borrow.Author.Rules.{rules}
 use Rattle.octets.specs.BigEndian.{bytes_of}
-use Rattle.parity_table.specs.Shape.{maxDepth}
+use Rattle.parity_table.specs.Shape.{max_depth}
 use Rattle.parity_table.specs.declared.Answer.{Answer}
 use Rattle.parity_table.proofs.Shape.{depth_is}
-use Rattle.house_table.specs.House.{houseOut, houseWords}
+use Rattle.house_table.specs.House.{house_out, house_words}
 use Rattle.house_table.proofs.HouseParts.{house-room, none_written}
 use borrow.Fn.Kinds.{In}
 use borrow.Fn.PlainCycle.{Measures, is, falls, and}
@@ -45,7 +45,7 @@ write-deep-write-in-requires : (t : ℕ) → write-deep-lts.Need-write-in-requir
 ) (write-deep-at t) write-deep.Post
 write-deep-write-in-requires t c κs =
     let d = c.before.before.before.args.depth in
-    house-room d maxDepth (λ f. (depth_is d f).1) (omega arith)
+    house-room d max_depth (λ f. (depth_is d f).1) (omega arith)
 
 write-deep-enum-told : (t : ℕ) → write-deep-lts.Need-enum-told (
   write-in-reads.Asked,
@@ -82,9 +82,9 @@ write-deep-returns t c =
     let w = c.before.before.before.before.before.before.before.before.before.before.write-in.ensures in
     let again = c.before.before.write-deep.ensures in
     let told = c.before.before.before.before.before.enum_told.given.1 in
-    let n = none_written _ _ (bytes_of (houseWords 0)) _ _ again.0 in (
+    let n = none_written _ _ (bytes_of (house_words 0)) _ _ again.0 in (
       n.0 ∙ sym told ∙ w.0,
-      again.1 ∙ n.1 ∙ w.1 ∙ ap (λ (a : Answer). houseOut a (bytes_of (houseWords d)) c.before.before.before.before.before.before.before.before.before.before.before.before.before.before.args.out.now) (told ∙ sym n.0),
+      again.1 ∙ n.1 ∙ w.1 ∙ ap (λ (a : Answer). house_out a (bytes_of (house_words d)) c.before.before.before.before.before.before.before.before.before.before.before.before.before.before.args.out.now) (told ∙ sym n.0),
     )
 
 write-deep-same-length-2 : (t : ℕ) → write-deep-lts.Need-same-length-2 (

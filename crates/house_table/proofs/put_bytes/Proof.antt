@@ -5,7 +5,7 @@ use Prim.Native.Nat.{ℕ, ◌+◌, ◌-◌, ◌*◌, ◌/◌}
 use native.Mathlib.Omega.{arith}
 use lib.ListN.{length, take, drop}
 use borrow.Author.Rules.{rules}
-use Rattle.house_table.specs.House.{houseWords}
+use Rattle.house_table.specs.House.{house_words}
 use lib.Seq.{take_at, length-take-le}
 use Rattle.octets.specs.BigEndian.{bytes_of}
 use Rattle.house_table.proofs.put_bytes.Statement.{statement}
@@ -18,14 +18,14 @@ slice-aggregate-put-table : tie.Need-slice-aggregate-put-table
 slice-aggregate-put-table c =
     let a = c.before.before.before.args in
     let pre = c.before.before.before.requires in
-    let n : length a.out.now / 4 ≡ length (houseWords a.depth) = omega (arith, pre.1) in
+    let n : length a.out.now / 4 ≡ length (house_words a.depth) = omega (arith, pre.1) in
     sym (length-take-le (length a.out.now / 4) a.words.now (omega (arith, n, pre.2)))
 
 put-table-requires : tie.Need-put-table-requires
 put-table-requires c κs =
     let a = c.before.before.before.args in
     let pre = c.before.before.before.requires in
-    let n : length a.out.now / 4 ≡ length (houseWords a.depth) = omega (arith, pre.1) in
+    let n : length a.out.now / 4 ≡ length (house_words a.depth) = omega (arith, pre.1) in
     (pre.0, length-take-le (length a.out.now / 4) a.words.now (omega (arith, n, pre.2)) ∙ n)
 
 slice-reshare-prefix-bytes-from : tie.Need-slice-reshare-prefix-bytes-from
@@ -36,9 +36,9 @@ slice-aggregate-bytes-from c =
     let a = c.before.before.before.before.before.before.before.args in
     let pre = c.before.before.before.before.before.before.before.requires in
     let put-table = c.before.before.before.put-table in
-    let n : length a.out.now / 4 ≡ length (houseWords a.depth) = omega (arith, pre.1) in
+    let n : length a.out.now / 4 ≡ length (house_words a.depth) = omega (arith, pre.1) in
     let v = put-table.new.0 in
-    let front : take (length a.out.now / 4) (v ++ drop (length a.out.now / 4) a.words.now) ≡ houseWords a.depth =
+    let front : take (length a.out.now / 4) (v ++ drop (length a.out.now / 4) a.words.now) ≡ house_words a.depth =
     take_at v (drop (length a.out.now / 4) a.words.now) (length a.out.now / 4) (ap length put-table.ensures ∙ sym n)
     ∙ put-table.ensures in
     n ∙ ap length (sym front)
@@ -48,9 +48,9 @@ bytes-from-requires c κs =
     let a = c.before.before.before.before.before.before.before.before.args in
     let pre = c.before.before.before.before.before.before.before.before.requires in
     let put-table = c.before.before.before.before.put-table in
-    let n : length a.out.now / 4 ≡ length (houseWords a.depth) = omega (arith, pre.1) in
+    let n : length a.out.now / 4 ≡ length (house_words a.depth) = omega (arith, pre.1) in
     let v = put-table.new.0 in
-    let front : take (length a.out.now / 4) (v ++ drop (length a.out.now / 4) a.words.now) ≡ houseWords a.depth =
+    let front : take (length a.out.now / 4) (v ++ drop (length a.out.now / 4) a.words.now) ≡ house_words a.depth =
     take_at v (drop (length a.out.now / 4) a.words.now) (length a.out.now / 4) (ap length put-table.ensures ∙ sym n)
     ∙ put-table.ensures in
     pre.1 ∙ ap (λ (l : List ℕ). length l * 4) (sym front)
@@ -66,9 +66,9 @@ returns c =
     let a = c.before.before.before.before.before.before.before.before.before.before.before.args in
     let pre = c.before.before.before.before.before.before.before.before.before.before.before.requires in
     let put-table = c.before.before.before.before.before.before.before.put-table in
-    let n : length a.out.now / 4 ≡ length (houseWords a.depth) = omega (arith, pre.1) in
+    let n : length a.out.now / 4 ≡ length (house_words a.depth) = omega (arith, pre.1) in
     let v = put-table.new.0 in
-    let front : take (length a.out.now / 4) (v ++ drop (length a.out.now / 4) a.words.now) ≡ houseWords a.depth =
+    let front : take (length a.out.now / 4) (v ++ drop (length a.out.now / 4) a.words.now) ≡ house_words a.depth =
     take_at v (drop (length a.out.now / 4) a.words.now) (length a.out.now / 4) (ap length put-table.ensures ∙ sym n)
     ∙ put-table.ensures in
     c.before.before.bytes-from.ensures ∙ ap bytes_of front

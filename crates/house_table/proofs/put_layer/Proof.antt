@@ -4,14 +4,14 @@ use Prim.Native.Nat.{◌+◌, ◌-◌, ◌*◌, ◌≤◌}
 use native.Mathlib.Omega.{arith}
 use lib.ListN.{length, set, length-set}
 use Rattle.parity_table.specs.Table.{word}
-use Rattle.house_table.specs.House.{houseRow}
-use Rattle.octets.proofs.Writes.{Putting, putting-start, putting-step, putting-room, putting-end}
-use Rattle.house_table.proofs.HouseParts.{rowsLeft, rows-turn, rows_none, rows_all, rows-room, layer-whole}
+use Rattle.house_table.specs.House.{house_row}
+use Rattle.octets.proofs.Writes.{Putting, putting_start, putting_step, putting_room, putting_end}
+use Rattle.house_table.proofs.HouseParts.{rows_left, rows_turn, rows_none, rows_all, rows_room, layer-whole}
 use Rattle.house_table.proofs.put_layer.Statement.{statement}
 use Rattle.house_table.proofs.put_layer.Tie as tie
 
 abbrev invariant-loop : tie.invariant-loop
-invariant-loop out₀ at j k p₀ e₀ out p e = (e ≤ 3 * k) × Putting out₀ p₀ (rowsLeft k 0) out p (rowsLeft k e)
+invariant-loop out₀ at j k p₀ e₀ out p e = (e ≤ 3 * k) × Putting out₀ p₀ (rows_left k 0) out p (rows_left k e)
 
 abbrev decreases-loop : tie.decreases-loop
 decreases-loop out₀ at j k p₀ e₀ out p e = 3 * k - e
@@ -31,7 +31,7 @@ add-p c = omega arith
 loop-holds : tie.Need-loop-init invariant-loop decreases-loop
 loop-holds c =
     let a = c.before.args in
-    (omega arith, putting-start (set a.out.now a.at (word 1 a.j)) (a.at + 1) (rowsLeft a.k 0))
+    (omega arith, putting_start (set a.out.now a.at (word 1 a.j)) (a.at + 1) (rows_left a.k 0))
 
 mul-loop : tie.Need-overflow-mul-loop invariant-loop decreases-loop
 mul-loop c = omega arith
@@ -44,8 +44,8 @@ put-row-requires c κs =
       s.requires.0,
       s.requires.1,
       omega arith,
-      putting-room l.invariant.1 (houseRow a.k l.e) (rowsLeft a.k (l.e + 1)) (rows-turn a.k l.e (omega arith))
-          (rows-room a.out.now a.at a.j a.k (word 1 a.j) s.requires.3),
+      putting_room l.invariant.1 (house_row a.k l.e) (rows_left a.k (l.e + 1)) (rows_turn a.k l.e (omega arith))
+          (rows_room a.out.now a.at a.j a.k (word 1 a.j) s.requires.3),
     )
 
 add-e : tie.Need-overflow-add-e invariant-loop decreases-loop
@@ -60,7 +60,7 @@ loop-again c =
     let l = c.before.before.before.before.before.loop in
     let r = c.before.before.put-row in (
       omega arith,
-      putting-step l.invariant.1 (houseRow a.k l.e) (rowsLeft a.k (l.e + 1)) (rows-turn a.k l.e (omega arith)) r.new.0
+      putting_step l.invariant.1 (house_row a.k l.e) (rows_left a.k (l.e + 1)) (rows_turn a.k l.e (omega arith)) r.new.0
           r.result r.ensures.1 r.ensures.0,
     )
 
@@ -71,7 +71,7 @@ returns : tie.Need-returns invariant-loop decreases-loop
 returns c =
     let a = c.before.before.before.args in
     let l = c.before.loop in
-    let w = putting-end l.invariant.1 (rows_none a.k l.e (omega arith)) in
+    let w = putting_end l.invariant.1 (rows_none a.k l.e (omega arith)) in
     (omega (arith, w.0, ap length (rows_all a.k)), w.1 ∙ layer-whole a.out.now a.at a.j a.k)
 
 pub put-layer-spec : {M : Type 1} → statement M

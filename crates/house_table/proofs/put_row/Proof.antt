@@ -6,9 +6,9 @@ use native.Mathlib.Omega.{arith}
 use lib.ListN.{length, length-set}
 use borrow.Author.Rules.{rules}
 use Rattle.parity_table.specs.Table.{word}
-use Rattle.house_table.specs.House.{houseRow}
+use Rattle.house_table.specs.House.{house_row}
 use lib.Seq.{sets}
-use Rattle.house_table.proofs.HouseParts.{row_first, row-later, row-short, four, five}
+use Rattle.house_table.proofs.HouseParts.{row_first, row_later, row_short, four, five}
 use native.Mathlib.Nat.{div-le_self}
 use Rattle.house_table.proofs.put_row.Statement.{statement}
 use Rattle.house_table.proofs.put_row.Tie as tie
@@ -50,7 +50,7 @@ mul-out-2 : tie.Need-overflow-mul-out-2
 mul-out-2 c = search rules
 
 slice-write-out-2 : tie.Need-slice-write-out-2
-slice-write-out-2 c = simp length-set (let a = c.before.before.before.args in omega (arith, row-short a.k a.e))
+slice-write-out-2 c = simp length-set (let a = c.before.before.before.args in omega (arith, row_short a.k a.e))
 
 add-out-3 : tie.Need-overflow-add-out-3
 add-out-3 c = search rules
@@ -59,7 +59,7 @@ mul-out-3 : tie.Need-overflow-mul-out-3
 mul-out-3 c = search rules
 
 slice-write-out-3 : tie.Need-slice-write-out-3
-slice-write-out-3 c = simp length-set (let a = c.before.before.before.args in omega (arith, row-short a.k a.e))
+slice-write-out-3 c = simp length-set (let a = c.before.before.before.args in omega (arith, row_short a.k a.e))
 
 add-out-4 : tie.Need-overflow-add-out-4
 add-out-4 c = search rules
@@ -68,7 +68,7 @@ mul-out-4 : tie.Need-overflow-mul-out-4
 mul-out-4 c = search rules
 
 slice-write-out-4 : tie.Need-slice-write-out-4
-slice-write-out-4 c = simp length-set (let a = c.before.before.before.before.args in omega (arith, row-short a.k a.e))
+slice-write-out-4 c = simp length-set (let a = c.before.before.before.before.args in omega (arith, row_short a.k a.e))
 
 add-result : tie.Need-overflow-add-result
 add-result c = search rules
@@ -81,7 +81,7 @@ returns c =
     let a = c.before.before.before.before.args in
     let l = c.before.before.lesser in
     let h = c.before.high in
-    let q : (word 2 a.e ∷ l.result ∷ h.result ∷ a.k ∷ []) ≡ houseRow a.k a.e =
+    let q : (word 2 a.e ∷ l.result ∷ h.result ∷ a.k ∷ []) ≡ house_row a.k a.e =
     row_first a.k a.e l.result h.result c.if1.true l.ensures h.ensures in (
       omega (arith, ap length q),
       four a.out.now a.at (word 2 a.e) l.result h.result a.k ∙ ap (sets a.out.now a.at) q,
@@ -100,7 +100,7 @@ mul-out-5 : tie.Need-overflow-mul-out-5
 mul-out-5 c = search rules
 
 slice-write-out-5 : tie.Need-slice-write-out-5
-slice-write-out-5 c = simp length-set (let a = c.before.before.before.before.args in omega (arith, row-short a.k a.e))
+slice-write-out-5 c = simp length-set (let a = c.before.before.before.before.args in omega (arith, row_short a.k a.e))
 
 add-out-7 : tie.Need-overflow-add-out-7
 add-out-7 c = search rules
@@ -117,7 +117,7 @@ slice-write-out-6 c =
     (let a = c.before.before.before.before.args in
     let l = c.before.before.lesser in
     let h = c.before.high in
-    omega (arith, ap length (row-later a.k a.e l.result h.result c.if1.false l.ensures h.ensures)))
+    omega (arith, ap length (row_later a.k a.e l.result h.result c.if1.false l.ensures h.ensures)))
 
 add-result-2 : tie.Need-overflow-add-result-2
 add-result-2 c = search rules
@@ -130,8 +130,8 @@ returns-2 c =
     let a = c.before.before.before.before.args in
     let l = c.before.before.lesser in
     let h = c.before.high in
-    let q : (word 2 a.e ∷ l.result ∷ h.result ∷ (a.k + a.e - 1) ∷ (a.k + a.e) ∷ []) ≡ houseRow a.k a.e =
-    row-later a.k a.e l.result h.result c.if1.false l.ensures h.ensures in (
+    let q : (word 2 a.e ∷ l.result ∷ h.result ∷ (a.k + a.e - 1) ∷ (a.k + a.e) ∷ []) ≡ house_row a.k a.e =
+    row_later a.k a.e l.result h.result c.if1.false l.ensures h.ensures in (
       omega (arith, ap length q),
       five a.out.now a.at (word 2 a.e) l.result h.result (a.k + a.e - 1) (a.k + a.e) ∙ ap (sets a.out.now a.at) q,
     )

@@ -3,10 +3,10 @@ use mathlib.Core.Path.{refl, sym, ◌∙◌}
 use Prim.Native.Nat.{◌-◌}
 use lib.ListN.{length}
 use borrow.Author.Rules.{rules}
-use Rattle.house_table.specs.House.{houseWords}
+use Rattle.house_table.specs.House.{house_words}
 use Rattle.house_table.proofs.HouseParts.{answer-depth, answer-length, answer-whole}
 use Rattle.parity_table.proofs.Shape.{depth_is}
-use Rattle.octets.proofs.Choice.{not_yes, not-no}
+use Rattle.octets.proofs.Choice.{not_yes, not_no}
 use Rattle.house_table.proofs.write.Statement.{statement}
 use Rattle.house_table.proofs.write.Tie as tie
 
@@ -16,20 +16,20 @@ depth-fits-requires c κs = search rules
 returns : tie.Need-returns
 returns c =
     let a = c.before.before.before.args in (
-      answer-depth a.depth (length a.out.now) (length (houseWords a.depth))
+      answer-depth a.depth (length a.out.now) (length (house_words a.depth))
           (sym c.before.depth-fits.ensures ∙ not_yes _ c.if1.true),
       refl,
     )
 
 word-count-requires : tie.Need-word-count-requires
 word-count-requires c κs =
-    (depth_is c.before.before.before.args.depth (sym c.before.depth-fits.ensures ∙ not-no _ c.if1.false)).1
+    (depth_is c.before.before.before.args.depth (sym c.before.depth-fits.ensures ∙ not_no _ c.if1.false)).1
 
 returns-2 : tie.Need-returns-2
 returns-2 c =
     let a = c.before.before.before.before.before.args in (
-      answer-length a.depth (length a.out.now) (length (houseWords a.depth))
-          (sym c.before.before.before.depth-fits.ensures ∙ not-no _ c.before.before.if1.false)
+      answer-length a.depth (length a.out.now) (length (house_words a.depth))
+          (sym c.before.before.before.depth-fits.ensures ∙ not_no _ c.before.before.if1.false)
           (λ q. c.if2.true (q ∙ sym c.before.word_count.ensures.0)),
       refl,
     )
@@ -37,7 +37,7 @@ returns-2 c =
 put-table-requires : tie.Need-put-table-requires
 put-table-requires c κs =
     let a = c.before.before.before.before.before.before.args in (
-      (depth_is a.depth (sym c.before.before.before.before.depth-fits.ensures ∙ not-no _ c.before.before.before.if1.false)
+      (depth_is a.depth (sym c.before.before.before.before.depth-fits.ensures ∙ not_no _ c.before.before.before.if1.false)
           ).1,
       c.before.if2.false ∙ c.before.before.word_count.ensures.0,
     )
@@ -51,7 +51,7 @@ returns-3 c =
     let depth-fits = c.before.before.before.before.before.before.before.depth-fits in
     let if1 = c.before.before.before.before.before.before.if1 in
     let word_count = c.before.before.before.before.before.word_count in (
-      answer-whole a.depth (length a.out.now) (length (houseWords a.depth)) (sym depth-fits.ensures ∙ not-no _ if1.false)
+      answer-whole a.depth (length a.out.now) (length (house_words a.depth)) (sym depth-fits.ensures ∙ not_no _ if1.false)
           (c.before.before.before.before.if2.false ∙ word_count.ensures.0),
       c.before.before.put-table.ensures,
     )

@@ -3,7 +3,7 @@ use mathlib.Core.Path.{◌∙◌, sym}
 use native.Mathlib.Omega.{arith}
 use borrow.Author.Rules.{rules}
 use Rattle.parity_table.specs.Shape.{shallow}
-use Rattle.parity_table.proofs.Shape.{not-deep}
+use Rattle.parity_table.proofs.Shape.{not_deep}
 use Rattle.house_table.proofs.HouseParts.{house-room}
 use Rattle.house_table.proofs.write_bytes.Statement.{statement}
 use Rattle.house_table.proofs.write_bytes.Tie as tie
@@ -26,7 +26,7 @@ slice-aggregate-write-in c = search rules
 write-in-requires : tie.Need-write-in-requires
 write-in-requires c κs =
     let d = c.before.before.before.before.before.args.depth in
-    house-room d shallow (not-deep d (sym c.before.before.before.is-deep.ensures ∙ c.before.before.if1.false)) (omega arith)
+    house-room d shallow (not_deep d (sym c.before.before.before.is-deep.ensures ∙ c.before.before.if1.false)) (omega arith)
 
 same-length-2 : tie.Need-same-length-2
 same-length-2 c = search rules

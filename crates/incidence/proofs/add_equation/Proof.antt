@@ -4,7 +4,7 @@ use Prim.Native.Nat.{◌+◌, ◌*◌, ◌-◌, ◌≤◌, ◌<◌, ℕ}
 use native.Mathlib.Omega.{arith}
 use lib.ListN.{length, length-set}
 use Rattle.incidence.specs.Incidence.{ThreadedTo}
-use Rattle.incidence.proofs.FillLaws.{Slot, add-member, add-rest, slot_of}
+use Rattle.incidence.proofs.FillLaws.{Slot, add_member, add_rest, slot_of}
 use Rattle.incidence.proofs.add_equation.Statement.{statement}
 use Rattle.incidence.proofs.add_equation.Tie as tie
 
@@ -153,7 +153,7 @@ loop-again c =
       omega arith,
       simp length-set l.invariant.1,
       simp length-set l.invariant.2,
-      add-member a.words.now a.starts.now a.from a.e l.i l.last l.next l.invariant.3 _ k.few k.member k.same (omega arith) (omega arith),
+      add_member a.words.now a.starts.now a.from a.e l.i l.last l.next l.invariant.3 _ k.few k.member k.same (omega arith) (omega arith),
       l.invariant.4,
     )
 
@@ -170,7 +170,7 @@ returns c =
     let a = s.args in
     let z = c.before.before.count-members.ensures in
     let k = s.requires.0.narrow a.e (omega arith) in
-    add-rest a.words.now a.starts.now a.from (8 - l.i) a.e l.i l.last l.next (omega arith) (omega arith) l.invariant.3
+    add_rest a.words.now a.starts.now a.from (8 - l.i) a.e l.i l.last l.next (omega arith) (omega arith) l.invariant.3
 
 pub add-equation-spec : {M : Type 1} → statement M
 add-equation-spec =

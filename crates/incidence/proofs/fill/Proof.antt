@@ -5,7 +5,7 @@ use native.Mathlib.Omega.{arith}
 use borrow.Author.Rules.{rules}
 use lib.ListN.{length}
 use Rattle.incidence.specs.Incidence.{Threadable, Threaded}
-use Rattle.incidence.proofs.FillLaws.{threadable-fewer, threaded-none}
+use Rattle.incidence.proofs.FillLaws.{threadable_fewer, threaded-none}
 use Rattle.incidence.proofs.fill.Statement.{statement}
 use Rattle.incidence.proofs.fill.Tie as tie
 
@@ -34,7 +34,7 @@ add-equation-requires c κs =
     let v = l.before.before.before.fill-words in (
       subst (λ (q : ℕ). Threadable a.words.now a.starts.now a.from (l.loop.e + 1) q (length l.loop.next)) (sym (l.loop.invariant.1 ∙ v.auto.0))
           (subst (λ (q : ℕ). Threadable a.words.now a.starts.now a.from (l.loop.e + 1) (length a.last.now) q) (sym l.loop.invariant.2)
-          (threadable-fewer a.words.now a.starts.now a.from a.n (l.loop.e + 1) (length a.last.now) (length a.next.now) (omega (arith, c.before.before.loop-test.true)) s.requires)),
+          (threadable_fewer a.words.now a.starts.now a.from a.n (l.loop.e + 1) (length a.last.now) (length a.next.now) (omega (arith, c.before.before.loop-test.true)) s.requires)),
       l.loop.invariant.3,
     )
 
@@ -47,7 +47,7 @@ loop-less c = omega (arith, c.before.before.before.before.before.before.before.l
 loop-again : tie.Need-loop-preserved invariant-loop decreases-loop
 loop-again c =
     let l = c.before.before.before.before.before.before.before.before in
-    let v = c.before.before.before.before.add-equation in
+    let v = c.before.before.before.before.add_equation in
     (omega (arith, c.before.before.before.before.before.before.before.loop-test.true), v.auto.1.1.1.1.0 ∙ l.loop.invariant.1, v.auto.1.1.1.1.1.0 ∙ l.loop.invariant.2, v.ensures)
 
 same_length : tie.Need-same-length invariant-loop decreases-loop

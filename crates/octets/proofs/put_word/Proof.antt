@@ -2,7 +2,7 @@
 use native.Mathlib.Omega.{arith}
 use lib.ListN.{length-set}
 use borrow.Author.Rules.{rules}
-use Rattle.octets.proofs.Bytes.{put-sets}
+use Rattle.octets.proofs.Bytes.{put_sets}
 use Rattle.octets.proofs.put_word.Statement.{statement}
 use Rattle.octets.proofs.put_word.Tie as tie
 
@@ -43,7 +43,7 @@ same_length : tie.Need-same-length
 same_length c = search rules
 
 returns : tie.Need-returns
-returns c = put-sets _ _ _
+returns c = put_sets _ _ _
 
 pub put-word-spec : {M : Type 1} → statement M
 put-word-spec =

@@ -1,6 +1,6 @@
--- `octets::word_at` meets its contract: the four bytes are those that `wordAt` reads.
+-- `octets::word_at` meets its contract: the four bytes are those that `word_at` reads.
 use borrow.Author.Rules.{rules}
-use Rattle.octets.specs.BigEndian.{wordAt}
+use Rattle.octets.specs.BigEndian.{word_at}
 use Rattle.octets.proofs.word_at.Statement.{statement}
 use Rattle.octets.proofs.word_at.Tie as tie
 
@@ -29,7 +29,7 @@ joined-requires : tie.Need-joined-requires
 joined-requires c κs = search rules
 
 returns : tie.Need-returns
-unfolding wordAt
+unfolding word_at
 returns c = c.joined.ensures
 
 pub word-at-spec : {M : Type 1} → statement M

@@ -2,7 +2,7 @@
 use Prim.Native.Nat.{◌-◌, ◌^◌, ◌≤◌}
 use native.Mathlib.Omega.{arith}
 use borrow.Author.Rules.{rules}
-use Rattle.parity_table.specs.Shape.{maxDepth, k_of}
+use Rattle.parity_table.specs.Shape.{max_depth, k_of}
 use lib.Pow.{pow_mono}
 use Rattle.parity_table.proofs.data_count.Statement.{statement}
 use Rattle.parity_table.proofs.data_count.Tie as tie
@@ -12,7 +12,7 @@ shl-result c = search rules
 
 returns : tie.Need-returns
 unfolding k_of
-returns c = let p : 2 ^ c.args.j ≤ 2 ^ maxDepth = pow_mono {i = c.args.j} {j = maxDepth} (omega arith) in omega arith
+returns c = let p : 2 ^ c.args.j ≤ 2 ^ max_depth = pow_mono {i = c.args.j} {j = max_depth} (omega arith) in omega arith
 
 pub data-count-spec : {M : Type 1} → statement M
 data-count-spec = tie.close (tie.spec shl-result returns)

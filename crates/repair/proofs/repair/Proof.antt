@@ -5,15 +5,15 @@ use native.Mathlib.Omega.{arith}
 use lib.ListN.{length}
 use borrow.Author.Rules.{rules}
 use Rattle.parity_table.proofs.Accepts.{accepted-depth}
-use Rattle.parity_table.specs.Parse.{equationsAbove, table_of}
-use Rattle.repair.proofs.LayerLaws.{given-keep, lists-layer}
-use Rattle.repair.proofs.RepairLaws.{Deep, deep-end, deep-on, deep-start, deep-stop, depth_is, stored-below, stored_on, stored-small, stored-start}
+use Rattle.parity_table.specs.Parse.{equations_above, table_of}
+use Rattle.repair.proofs.LayerLaws.{given_keep, lists_layer}
+use Rattle.repair.proofs.RepairLaws.{Deep, deep-end, deep_on, deep_start, deep_stop, depth_is, stored-below, stored_on, stored_small, stored_start}
 use Rattle.repair.proofs.repair.Statement.{statement}
 use Rattle.repair.proofs.repair.Tie as tie
 
 abbrev invariant-loop : tie.invariant-loop
 invariant-loop kind depth words starts root tree₀ marks₀ out₀ used₀ absent₀ order₀ last₀ next₀ stored₀ j₀ tree marks out used absent order last next stored j =
-    (j ≤ depth) × (length tree ≡ length tree₀) × (length marks ≡ length marks₀) × (length out ≡ length out₀) × (stored ≤ equationsAbove j) × Deep kind root (table_of words) tree₀ marks₀ out₀ j tree marks out stored
+    (j ≤ depth) × (length tree ≡ length tree₀) × (length marks ≡ length marks₀) × (length out ≡ length out₀) × (stored ≤ equations_above j) × Deep kind root (table_of words) tree₀ marks₀ out₀ j tree marks out stored
     × (length used ≡ length used₀) × (length absent ≡ length absent₀) × (length order ≡ length order₀) × (length last ≡ length last₀) × (length next ≡ length next₀)
 
 abbrev decreases-loop : tie.decreases-loop
@@ -22,16 +22,16 @@ decreases-loop kind depth words starts root tree₀ marks₀ out₀ used₀ abse
 loop-holds : tie.Need-loop-init invariant-loop decreases-loop
 loop-holds c =
     let s = c.before.before.before.before.before.before.before.before.before.before.before in
-    (omega arith, refl, refl, refl, stored-start, deep-start s.args.kind s.args.root.now (table_of s.args.words.now) s.args.tree.now s.args.marks.now s.args.out.now, refl, refl, refl, refl, refl)
+    (omega arith, refl, refl, refl, stored_start, deep_start s.args.kind s.args.root.now (table_of s.args.words.now) s.args.tree.now s.args.marks.now s.args.out.now, refl, refl, refl, refl, refl)
 
 repair-layer-requires : tie.Need-repair-layer-requires invariant-loop decreases-loop
 repair-layer-requires c κs =
     let s = c.before.before.before.before.before.before.before.before.before.before.before.before.before.before.before.before.before.before.before.before.before in
     let i = c.before.before.before.before.before.before.before.before.before.loop.invariant in
     let d = (accepted-depth s.args.depth s.args.words.now s.requires.0.indexed.accepted).1 in (
-      (s.args.depth, given-keep i.1 i.2 i.3 s.requires.0, c.before.before.before.before.before.before.before.before.loop-test.true),
-      omega (arith, stored-small c.before.before.before.before.before.before.before.before.before.loop.j (omega (arith, d, i.0)), i.4),
-      lists-layer c.before.before.before.before.before.before.before.before.before.loop.j s.args.depth c.before.before.before.before.before.before.before.before.loop-test.true i.6 i.7 i.8 i.9 i.10 s.requires.1,
+      (s.args.depth, given_keep i.1 i.2 i.3 s.requires.0, c.before.before.before.before.before.before.before.before.loop-test.true),
+      omega (arith, stored_small c.before.before.before.before.before.before.before.before.before.loop.j (omega (arith, d, i.0)), i.4),
+      lists_layer c.before.before.before.before.before.before.before.before.before.loop.j s.args.depth c.before.before.before.before.before.before.before.before.loop-test.true i.6 i.7 i.8 i.9 i.10 s.requires.1,
     )
 
 enum-known-passage : tie.Need-enum-known-passage invariant-loop decreases-loop
@@ -66,7 +66,7 @@ returns c =
     let s = c.before.before.before.before.before.before.before.before.before.before.before.before.before.before.before.before.before.before.before.before.before.before.before.before.before.before.before.before.before.before.before.before.before.before.before.before.before.before.before.before.before in
     let l = c.before.before.before.before.before.before.before.before.before.before.before.before.before.before.before.before.before.before.before.before.before.before.before.before.before.before.before.before.before.loop in
     let h = depth_is s.args.depth s.args.words.now s.requires.0.indexed.accepted in (
-      deep-stop s.args.kind s.args.root.now (table_of s.args.words.now) s.args.tree.now s.args.marks.now s.args.out.now l.j (omega (arith, h, c.before.before.before.before.before.before.before.before.before.before.before.before.before.before.before.before.before.before.before.before.before.before.before.before.before.before.before.before.loop-test.true)) l.tree l.marks l.out l.stored l.invariant.5 _ _ _ _ _ c.before.before.before.before.before.before.before.before.before.before.before.before.before.before.before.before.before.before.before.repair-layer.ensures.0 _ c.before.passage.given.1,
+      deep_stop s.args.kind s.args.root.now (table_of s.args.words.now) s.args.tree.now s.args.marks.now s.args.out.now l.j (omega (arith, h, c.before.before.before.before.before.before.before.before.before.before.before.before.before.before.before.before.before.before.before.before.before.before.before.before.before.before.before.before.loop-test.true)) l.tree l.marks l.out l.stored l.invariant.5 _ _ _ _ _ c.before.before.before.before.before.before.before.before.before.before.before.before.before.before.before.before.before.before.before.repair-layer.ensures.0 _ c.before.passage.given.1,
       stored-below (l.j + 1) s.args.depth _ (omega (arith, c.before.before.before.before.before.before.before.before.before.before.before.before.before.before.before.before.before.before.before.before.before.before.before.before.before.before.before.before.loop-test.true)) (stored_on l.j l.stored _ l.invariant.4 c.before.before.before.before.before.before.before.before.before.before.before.before.before.before.before.before.before.before.before.repair-layer.ensures.1),
     )
 
@@ -91,7 +91,7 @@ loop-again c =
       c.before.before.before.before.before.before.before.before.before.before.before.before.before.before.before.before.before.before.repair-layer.auto.1.1.1.1.1.0 ∙ l.invariant.2,
       c.before.before.before.before.before.before.before.before.before.before.before.before.before.before.before.before.before.before.repair-layer.auto.1.1.1.1.1.1.0 ∙ l.invariant.3,
       stored_on l.j l.stored _ l.invariant.4 c.before.before.before.before.before.before.before.before.before.before.before.before.before.before.before.before.before.before.repair-layer.ensures.1,
-      deep-on s.args.kind s.args.root.now (table_of s.args.words.now) s.args.tree.now s.args.marks.now s.args.out.now l.j (omega (arith, h, c.before.before.before.before.before.before.before.before.before.before.before.before.before.before.before.before.before.before.before.before.before.before.before.before.before.before.before.loop-test.true)) l.tree l.marks l.out l.stored l.invariant.5 _ _ _ _ _ c.before.before.before.before.before.before.before.before.before.before.before.before.before.before.before.before.before.before.repair-layer.ensures.0 c.enum_told.given.1,
+      deep_on s.args.kind s.args.root.now (table_of s.args.words.now) s.args.tree.now s.args.marks.now s.args.out.now l.j (omega (arith, h, c.before.before.before.before.before.before.before.before.before.before.before.before.before.before.before.before.before.before.before.before.before.before.before.before.before.before.before.loop-test.true)) l.tree l.marks l.out l.stored l.invariant.5 _ _ _ _ _ c.before.before.before.before.before.before.before.before.before.before.before.before.before.before.before.before.before.before.repair-layer.ensures.0 c.enum_told.given.1,
       c.before.before.before.before.before.before.before.before.before.before.before.before.before.before.before.before.before.before.repair-layer.auto.1.1.1.1.1.1.1.0 ∙ l.invariant.6,
       c.before.before.before.before.before.before.before.before.before.before.before.before.before.before.before.before.before.before.repair-layer.auto.1.1.1.1.1.1.1.1.0 ∙ l.invariant.7,
       c.before.before.before.before.before.before.before.before.before.before.before.before.before.before.before.before.before.before.repair-layer.auto.1.1.1.1.1.1.1.1.1.0 ∙ l.invariant.8,

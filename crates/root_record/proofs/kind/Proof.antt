@@ -1,7 +1,7 @@
 -- `kind` meets its contract: the kind of the first word.
 use mathlib.Core.Path.{ap, ◌∙◌}
 use borrow.Author.Rules.{rules}
-use Rattle.root_record.specs.Records.{kind_of, kindIn}
+use Rattle.root_record.specs.Records.{kind_of, kind_in}
 use Rattle.root_record.proofs.kind.Statement.{statement}
 use Rattle.root_record.proofs.kind.Tie as tie
 
@@ -15,7 +15,7 @@ kind-of-requires : tie.Need-kind-of-requires
 kind-of-requires c κs = search rules
 
 returns : tie.Need-returns
-unfolding kindIn
+unfolding kind_in
 returns c = c.kind-of.ensures ∙ ap kind_of c.before.kind_at.ensures
 
 pub kind-spec : {M : Type 1} → statement M

@@ -2,7 +2,7 @@
 use mathlib.Core.Path.{◌∙◌, refl}
 use borrow.Author.Rules.{rules}
 use Rattle.sha256.proofs.CallLaws.{written}
-use Rattle.root_record.proofs.RecordLaws.{names-count, names-hash}
+use Rattle.root_record.proofs.RecordLaws.{names_count, names_hash}
 use Rattle.root_record.proofs.names_table.Statement.{statement}
 use Rattle.root_record.proofs.names_table.Tie as tie
 
@@ -12,7 +12,7 @@ value-at-requires c κs = search rules
 returns : tie.Need-returns
 returns c =
     let a = c.before.before.before.before.args in
-    names-count a.root-record.now a.table.now c.before.value-at.result c.before.value-at.ensures c.if1.true
+    names_count a.root_record.now a.table.now c.before.value-at.result c.before.value-at.ensures c.if1.true
 
 slice-aggregate-digest : tie.Need-slice-aggregate-digest
 slice-aggregate-digest c = search rules
@@ -32,7 +32,7 @@ returns-2 c =
     let v = d.before.before in
     let s = v.before.before.before.before in
     c.equal-at.ensures
-    ∙ names-hash s.args.root-record.now s.args.table.now v.before.value-at.result v.before.value-at.ensures _ v.if1.false (d.digest.ensures.1 ∙ written _ _ s.requires.1 refl)
+    ∙ names_hash s.args.root_record.now s.args.table.now v.before.value-at.result v.before.value-at.ensures _ v.if1.false (d.digest.ensures.1 ∙ written _ _ s.requires.1 refl)
 
 pub names-table-spec : {M : Type 1} → statement M
 names-table-spec =

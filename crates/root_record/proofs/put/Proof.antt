@@ -1,7 +1,7 @@
 -- `put` meets its contract: the head, then the table's hash behind it.
 use native.Mathlib.Omega.{arith}
 use borrow.Author.Rules.{rules}
-use Rattle.root_record.proofs.RecordLaws.{number_small, record-put}
+use Rattle.root_record.proofs.RecordLaws.{number_small, record_put}
 use Rattle.root_record.proofs.put.Statement.{statement}
 use Rattle.root_record.proofs.put.Tie as tie
 
@@ -33,7 +33,7 @@ returns c =
     let d = c.before.before in
     let p = d.before.before.before.before in
     let s = p.before.before.before.before.before in
-    record-put s.args.kind _ s.args.depth s.args.size s.args.table.now s.args.root-record.now _ _ p.before.before.kind-number.ensures s.requires.2 s.requires.3 p.put.ensures d.digest.ensures.1
+    record_put s.args.kind _ s.args.depth s.args.size s.args.table.now s.args.root_record.now _ _ p.before.before.kind-number.ensures s.requires.2 s.requires.3 p.put.ensures d.digest.ensures.1
 
 pub put_spec : {M : Type 1} → statement M
 put_spec =

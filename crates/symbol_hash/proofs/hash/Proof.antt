@@ -6,7 +6,7 @@ use borrow.Author.Rules.{rules}
 use Rattle.octets.specs.BigEndian.{be}
 use Rattle.sha256.specs.Hash.{sha256}
 use Rattle.sha256.proofs.CallLaws.{written}
-use Rattle.symbol_hash.specs.SymbolHash.{symbolHash}
+use Rattle.symbol_hash.specs.SymbolHash.{symbol_hash}
 use Rattle.symbol_hash.proofs.hash.Statement.{statement}
 use Rattle.symbol_hash.proofs.hash.Tie as tie
 
@@ -32,18 +32,18 @@ digest-with-word-requires : tie.Need-digest-with-word-requires
 digest-with-word-requires c κs = search rules
 
 returns : tie.Need-returns
-unfolding symbolHash
+unfolding symbol_hash
 returns c =
     let a = c.before.before.before.before.before.before.args in
     c.before.digest2.ensures.1 ∙ written _ _ (omega arith) refl
-    ∙ sym (ap (λ k. symbolHash k a.layer a.number a.symbol.now) c.before.before.before.enum_told.given.1)
+    ∙ sym (ap (λ k. symbol_hash k a.layer a.number a.symbol.now) c.before.before.before.enum_told.given.1)
 
 returns-2 : tie.Need-returns-2
-unfolding symbolHash
+unfolding symbol_hash
 returns-2 c =
     let a = c.before.before.before.before.before.before.before.args in
     c.before.digest-with-word.ensures ∙ ap (λ w. sha256 (be 4 w ++ a.symbol.now)) c.before.before.before.place-word.ensures
-    ∙ sym (ap (λ k. symbolHash k a.layer a.number a.symbol.now) c.before.before.before.before.enum-told2.given.1)
+    ∙ sym (ap (λ k. symbol_hash k a.layer a.number a.symbol.now) c.before.before.before.before.enum-told2.given.1)
 
 pub hash-spec : {M : Type 1} → statement M
 hash-spec =

@@ -1,7 +1,7 @@
 -- `place_word` meets its contract.
 use native.Mathlib.Omega.{arith}
 use borrow.Author.Rules.{rules}
-use Rattle.symbol_hash.specs.SymbolHash.{placeWord}
+use Rattle.symbol_hash.specs.SymbolHash.{place_word}
 use Rattle.symbol_hash.proofs.place_word.Statement.{statement}
 use Rattle.symbol_hash.proofs.place_word.Tie as tie
 
@@ -18,7 +18,7 @@ add-result-2 : tie.Need-overflow-add-result-2
 add-result-2 c = search rules
 
 returns : tie.Need-returns
-unfolding placeWord
+unfolding place_word
 returns c = omega arith
 
 pub place-word-spec : {M : Type 1} → statement M

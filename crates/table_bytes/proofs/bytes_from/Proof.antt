@@ -4,9 +4,9 @@ use Prim.Native.Nat.{◌+◌, ◌-◌, ◌*◌, ◌≤◌}
 use native.Mathlib.Omega.{arith}
 use lib.ListN.{length, get_or, drop}
 use Rattle.table_bytes.proofs.ByteForm.{bytes_next, bytes-none}
-use Rattle.octets.proofs.Writes.{Putting, putting-start, putting-step, putting-room, putting-end, sets-whole}
+use Rattle.octets.proofs.Writes.{Putting, putting_start, putting_step, putting_room, putting_end, sets-whole}
 use Rattle.octets.specs.BigEndian.{be, bytes_of}
-use Rattle.octets.proofs.Bytes.{length-be, length-bytesOf}
+use Rattle.octets.proofs.Bytes.{length-be, length-bytes_of}
 use Rattle.table_bytes.proofs.bytes_from.Statement.{statement}
 use Rattle.table_bytes.proofs.bytes_from.Tie as tie
 
@@ -17,7 +17,7 @@ abbrev decreases-loop : tie.decreases-loop
 decreases-loop ws b₀ i₀ b i = length ws - i
 
 loop-holds : tie.Need-loop-init invariant-loop decreases-loop
-loop-holds c = (omega arith, putting-start c.before.before.args.b.now 0 (bytes_of c.before.before.args.ws.now))
+loop-holds c = (omega arith, putting_start c.before.before.args.b.now 0 (bytes_of c.before.before.args.ws.now))
 
 mul-put-word : tie.Need-overflow-mul-put-word invariant-loop decreases-loop
 mul-put-word c = omega arith
@@ -33,7 +33,7 @@ put-word-requires c κs =
     let a = c.before.before.before.before.before.before.args in
     let l = c.before.before.before.loop in
     omega
-    (arith, putting-room l.invariant.1 (be 4 (get_or a.ws.now l.i 0)) (bytes_of (drop (l.i + 1) a.ws.now)) (bytes_next a.ws.now l.i (omega arith)) (omega (arith, length-bytesOf a.ws.now)), length-be 4 (get_or a.ws.now l.i 0))
+    (arith, putting_room l.invariant.1 (be 4 (get_or a.ws.now l.i 0)) (bytes_of (drop (l.i + 1) a.ws.now)) (bytes_next a.ws.now l.i (omega arith)) (omega (arith, length-bytes_of a.ws.now)), length-be 4 (get_or a.ws.now l.i 0))
 
 add-i : tie.Need-overflow-add-i invariant-loop decreases-loop
 add-i c = omega arith
@@ -47,7 +47,7 @@ loop-again c =
     let l = c.before.before.before.before.before.before.loop in
     let put_word = c.before.before.put_word in (
       omega arith,
-      putting-step l.invariant.1 (be 4 (get_or a.ws.now l.i 0)) (bytes_of (drop (l.i + 1) a.ws.now))
+      putting_step l.invariant.1 (be 4 (get_or a.ws.now l.i 0)) (bytes_of (drop (l.i + 1) a.ws.now))
           (bytes_next a.ws.now l.i (omega arith)) put_word.new.0 ((l.i + 1) * 4) put_word.ensures
           (omega (arith, length-be 4 (get_or a.ws.now l.i 0))),
     )
@@ -59,8 +59,8 @@ returns : tie.Need-returns invariant-loop decreases-loop
 returns c =
     let a = c.before.before.before.before.args in
     let l = c.before.loop in
-    (putting-end l.invariant.1 (bytes-none a.ws.now l.i (omega arith))).1
-    ∙ sets-whole (bytes_of a.ws.now) a.b.now (omega (arith, length-bytesOf a.ws.now))
+    (putting_end l.invariant.1 (bytes-none a.ws.now l.i (omega arith))).1
+    ∙ sets-whole (bytes_of a.ws.now) a.b.now (omega (arith, length-bytes_of a.ws.now))
 
 pub bytes-from-spec : {M : Type 1} → statement M
 bytes-from-spec =

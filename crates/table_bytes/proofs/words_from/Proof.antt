@@ -5,8 +5,8 @@ use Prim.Native.Nat.{ℕ, ◌+◌, ◌-◌, ◌*◌, ◌/◌, ◌≤◌, min}
 use native.Mathlib.Omega.{arith}
 use lib.ListN.{length, drop, set, length-set}
 use borrow.Author.Rules.{rules}
-use Rattle.table_bytes.proofs.ByteForm.{front_length, words-start, words-next, words-all}
-use Rattle.octets.specs.BigEndian.{words, wordAt}
+use Rattle.table_bytes.proofs.ByteForm.{front_length, words_start, words-next, words-all}
+use Rattle.octets.specs.BigEndian.{words, word_at}
 use Rattle.table_bytes.proofs.words_from.Statement.{statement}
 use Rattle.table_bytes.proofs.words_from.Tie as tie
 
@@ -22,7 +22,7 @@ lesser-requires c κs = search rules
 loop-holds : tie.Need-loop-init invariant-loop decreases-loop
 loop-holds c =
     let a = c.before.before.before.args in
-    (omega arith, c.lesser.ensures, refl, words-start a.b.now a.ws.now)
+    (omega arith, c.lesser.ensures, refl, words_start a.b.now a.ws.now)
 
 mul-word-at : tie.Need-overflow-mul-word-at invariant-loop decreases-loop
 mul-word-at c = omega arith
@@ -49,8 +49,8 @@ loop-again c =
       omega arith,
       l.invariant.1,
       simp length-set l.invariant.2,
-      ap (set l.ws l.i) c.word-at.ensures
-          ∙ ap (λ (s : List ℕ). set s l.i (wordAt a.b.now (l.i * 4))) l.invariant.3
+      ap (set l.ws l.i) c.word_at_lem.ensures
+          ∙ ap (λ (s : List ℕ). set s l.i (word_at a.b.now (l.i * 4))) l.invariant.3
           ∙ words-next a.b.now a.ws.now l.i (omega arith),
     )
 

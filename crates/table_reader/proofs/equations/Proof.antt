@@ -8,7 +8,7 @@ use borrow.Author.Rules.{rules}
 use Rattle.parity_table.specs.Shape.{k_of}
 use Rattle.table_reader.proofs.Steps.{opened-more, opened-over}
 use Rattle.parity_table.specs.Reader.{Next, opened, run}
-use Rattle.table_reader.specs.Steps.{goesOn}
+use Rattle.table_reader.specs.Steps.{goes_on}
 use Rattle.table_reader.specs.declared.Step.TheVariants as step
 use Rattle.table_reader.proofs.equations.Statement.{statement}
 use Rattle.table_reader.proofs.equations.Tie as tie
@@ -43,7 +43,7 @@ returns c =
     ∙ ap (λ (s : Next). run d l.next.at s (drop l.next.at a.ws.now))
     (opened-more d j l.e (omega (arith, q, c.before.before.before.before.loop-test)))
     ∙ c.before.before.before.equation.ensures d j q
-    ∙ ap (goesOn d (opened d j (suc l.e)) a.ws.now) c.before.i.given.1
+    ∙ ap (goes_on d (opened d j (suc l.e)) a.ws.now) c.before.i.given.1
 
 add-e : tie.Need-overflow-add-e invariant-loop decreases-loop
 add-e c = omega arith
@@ -61,8 +61,8 @@ loop-again c =
           ∙ ap (λ (s : Next). run d l.next.at s (drop l.next.at a.ws.now))
           (opened-more d j l.e (omega (arith, q, c.before.before.before.before.loop-test)))
           ∙ c.before.before.before.equation.ensures d j q
-          ∙ ap (goesOn d (opened d j (suc l.e)) a.ws.now) c.before.n.given.1
-          ∙ ap (λ (n : ℕ). goesOn d (opened d j n) a.ws.now (step.To c.before.n.given.0.0)) (sym (add-one l.e)),
+          ∙ ap (goes_on d (opened d j (suc l.e)) a.ws.now) c.before.n.given.1
+          ∙ ap (λ (n : ℕ). goes_on d (opened d j n) a.ws.now (step.To c.before.n.given.0.0)) (sym (add-one l.e)),
     )
 
 returns-2 : tie.Need-returns-2 invariant-loop decreases-loop

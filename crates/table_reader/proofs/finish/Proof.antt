@@ -153,8 +153,8 @@ module _ {M : Type 1} {𝓤 : Ura M} (𝓛 : Logic 𝓤) (mem : Memory → SProp
   abbrev Ends : TableReader → Answer → Type 0
   Ends r a = EndRead r.words.now r.at a
 
-  end-said : (r : TableReader) (a : Answer) → ent 𝓤 (ensured 𝓛 end.ended (end.clauses 𝓛 mem go) (κ, tt) (r, tt) tt a) (fact 𝓤 (Ends r a))
-  end-said r a = ex_e 𝓤 _ (λ ws. snd∗ 𝓤 (sem 𝓛 (lasts end.ended (κ, tt) (r, tt) ws)) (fact 𝓤 (Ends r a)))
+  end_said : (r : TableReader) (a : Answer) → ent 𝓤 (ensured 𝓛 end.ended (end.clauses 𝓛 mem go) (κ, tt) (r, tt) tt a) (fact 𝓤 (Ends r a))
+  end_said r a = ex_e 𝓤 _ (λ ws. snd∗ 𝓤 (sem 𝓛 (lasts end.ended (κ, tt) (r, tt) ws)) (fact 𝓤 (Ends r a)))
 
   -- the end of the reader that was moved is the end of the list from there
   ended : (n : ℕ) (r : TableReader) (a : Answer) → Moves n r → Ends r a → (k : ℕ) → a ≡ run k n End (past n d.words.now)
@@ -183,7 +183,7 @@ module _ {M : Type 1} {𝓤 : Ura M} (𝓛 : Logic 𝓤) (mem : Memory → SProp
               use2 𝓛 (raw ((End' 𝓛 mem go).pre (to_end r u))) (goes_end r u) $
               calls_at_last ! fm (End' 𝓛 mem go) known-end (to_end r u) (and_then ! (load ! (from ! (stop !)) (look ! 4 refl)) (no_more !)) (λ w.
               use1 𝓛 (later (some (λ (a : Answer). ((‵ (flft κ q) ⊛ ‵ ftrue) ⊛ ‵ ((R.the_row).own_val a (w ∷ []))) ⊛ raw (ensured 𝓛 end.ended (end.clauses 𝓛 mem go) (κ, tt) (r, tt) tt a)))) (id⊢ 𝓤 _) $ await ! tt $ pick ! (λ a.
-              split ! $ move ! (1 ∷ []) $ use1 𝓛 (raw (fact 𝓤 (Ends r a))) (end-said r a) $ heard ! (Ends r a) (λ f. split ! $ move ! (1 ∷ []) $
+              split ! $ move ! (1 ∷ []) $ use1 𝓛 (raw (fact 𝓤 (Ends r a))) (end_said r a) $ heard ! (Ends r a) (λ f. split ! $ move ! (1 ∷ []) $
               -- [the result; the token; what r owns; _7; …; _6; …; room for _5; …; room for _4; …; _3; …; _2; …; _1; …; room for _0; …]
               peeks ! R.the_row (Is R.the_row) (shows 𝓛 R.the_row) a (w ∷ []) (λ is-a.
               land_last ! (from ! (stop !)) (init ! 7 refl ((EL.lawful R.the_type R'.the_laws 𝓛 tt).typed a _ is-a).0) $ exec ! C Λ _ rest (at_ret _ (Post (step.To c))) $

@@ -4,7 +4,7 @@ use Prim.Native.Nat.{◌+◌, ◌-◌}
 use native.Mathlib.Omega.{arith}
 use borrow.Author.Rules.{rules}
 use borrow.Author.Tests.{ne_eqb}
-use Rattle.table_reader.proofs.Steps.{minus-test}
+use Rattle.table_reader.proofs.Steps.{minus_test}
 use Rattle.table_reader.proofs.is_word.Statement.{statement}
 use Rattle.table_reader.proofs.is_word.Tie as tie
 
@@ -15,7 +15,7 @@ cast-result : tie.Need-overflow-cast-result
 cast-result c = search rules
 
 returns-2 : tie.Need-returns-2
-returns-2 c = minus-test c.before.args.w c.before.args.base c.before.args.v c.if1.false
+returns-2 c = minus_test c.before.args.w c.before.args.base c.before.args.v c.if1.false
 
 pub is-word-spec : {M : Type 1} → statement M
 is-word-spec = tie.close (tie.spec returns cast-result returns-2)

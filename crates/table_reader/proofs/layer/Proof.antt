@@ -3,10 +3,10 @@ use mathlib.Core.Path.{sym, ◌∙◌}
 use Prim.Native.Nat.{◌-◌}
 use native.Mathlib.Omega.{arith}
 use borrow.Author.Rules.{rules}
-use Rattle.table_reader.proofs.Steps.{word-inside, goes-layer, stops-layer}
-use Rattle.parity_table.specs.Table.{layerWord}
-use Rattle.octets.proofs.Choice.{not_yes, not-no}
-use Rattle.parity_table.proofs.Shape.{k-small}
+use Rattle.table_reader.proofs.Steps.{word-inside, goes-layer, stops_layer}
+use Rattle.parity_table.specs.Table.{layer_word}
+use Rattle.octets.proofs.Choice.{not_yes, not_no}
+use Rattle.parity_table.proofs.Shape.{k_small}
 use Rattle.table_reader.proofs.layer.Statement.{statement}
 use Rattle.table_reader.proofs.layer.Tie as tie
 
@@ -16,25 +16,25 @@ word-is-requires c κs = search rules
 returns : tie.Need-returns
 returns c =
     let a = c.before.before.before.args in
-    λ d. stops-layer d a.c.at a.j a.ws.now (sym c.before.word-is.ensures ∙ not_yes _ c.if1.true)
+    λ d. stops_layer d a.c.at a.j a.ws.now (sym c.before.word-is.ensures ∙ not_yes _ c.if1.true)
 
 add-t7 : tie.Need-overflow-add-t7
 add-t7 c =
     let a = c.before.before.before.args in
-    omega (arith, word-inside a.ws.now a.c.at (layerWord a.j) (sym c.before.word-is.ensures ∙ not-no _ c.if1.false))
+    omega (arith, word-inside a.ws.now a.c.at (layer_word a.j) (sym c.before.word-is.ensures ∙ not_no _ c.if1.false))
 
 data-count-requires : tie.Need-data-count-requires
 data-count-requires c κs = search rules
 
 equations-requires : tie.Need-equations-requires
 equations-requires c κs =
-    omega (arith, c.data-count.ensures, k-small c.before.before.before.before.args.j c.before.before.before.before.requires)
+    omega (arith, c.data-count.ensures, k_small c.before.before.before.before.args.j c.before.before.before.before.requires)
 
 returns-2 : tie.Need-returns-2
 returns-2 c =
     let a = c.before.before.before.before.before.args in
     λ d.
-    goes-layer d a.c.at a.j a.ws.now (sym c.before.before.before.word-is.ensures ∙ not-no _ c.before.before.if1.false)
+    goes-layer d a.c.at a.j a.ws.now (sym c.before.before.before.word-is.ensures ∙ not_no _ c.before.before.if1.false)
     ∙ c.equations.ensures d a.j (sym c.before.data-count.ensures)
 
 pub layer-spec : {M : Type 1} → statement M

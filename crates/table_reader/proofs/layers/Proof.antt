@@ -41,7 +41,7 @@ use denote.Triple.Table.{entered, cited}
 use denote.Triple.Walked.{says, needs, Stays, stay_none, walk_of, Goes-none, Walks, ends_at, walked, walk_Meets}
 use denote.Exit.{yes}
 use denote.Triple.Clauses.{ensured, lasts}
-use Rattle.parity_table.specs.Shape.{maxDepth}
+use Rattle.parity_table.specs.Shape.{max_depth}
 use Rattle.table_reader.specs.Steps.{LayersRead}
 use Rattle.table_reader.specs.declared.TableReader.{TableReader}
 use Rattle.table_reader.specs.declared.Step.{Step}
@@ -70,7 +70,7 @@ module _ {M : Type 1} {𝓤 : Ura M} (𝓛 : Logic 𝓤) (mem : Memory → SProp
   abbrev LayersFrom : Contract 𝓤
   LayersFrom = triple_of 𝓛 layers-from.signature (layers-from.spec 𝓛 mem run)
 
-module _ {M : Type 1} {𝓤 : Ura M} (𝓛 : Logic 𝓤) (mem : Memory → SProp 𝓤) (run : Routine → Fun 𝓤) (κ : Lft) (q : Share) (d : TableReader) (n : ℕ) (ok : n < 2 ^ 64) (within : n ≤ maxDepth) where
+module _ {M : Type 1} {𝓤 : Ura M} (𝓛 : Logic 𝓤) (mem : Memory → SProp 𝓤) (run : Routine → Fun 𝓤) (κ : Lft) (q : Share) (d : TableReader) (n : ℕ) (ok : n < 2 ^ 64) (within : n ≤ max_depth) where
   open 𝓛 use {H}
 
   abbrev mach : Val
@@ -156,7 +156,7 @@ module _ {M : Type 1} {𝓤 : Ura M} (𝓛 : Logic 𝓤) (mem : Memory → SProp
   layers-walks : (C : Calls 𝓤 H) (Λ : Loops 𝓤 H) → FmC 𝓤 H 𝓛.laws C → Triple 𝓤 (C #layers-from) (LayersFrom 𝓛 mem run)
       → Walks 𝓛 layers.ended stayed (WpFn 𝓤 H C Λ code.function) (layers.clauses 𝓛 mem run)
   layers-walks C Λ fm known = walked 𝓛 layers.ended stayed (layers.clauses 𝓛 mem run) (WpFn 𝓤 H C Λ code.function) (λ κs. (LL.vals (T.the_type (named_lft 1 0 tt κs)) (T'.the_laws (named_lft 1 0 tt κs)), (uint_vals w64, tt))) (λ κs. (LL.tells (T.the_type (named_lft 1 0 tt κs)) (T'.the_laws (named_lft 1 0 tt κs)), (uint_Tells w64, tt)))
-      (λ κs qs bounds a g are. needs 𝓤 (a.1.0 ≤ maxDepth) _ (λ within.
+      (λ κs qs bounds a g are. needs 𝓤 (a.1.0 ≤ max_depth) _ (λ within.
       walk 𝓛 mem run κs.0 qs.0 a.0 a.1.0 are.1.0.1 within C Λ fm known ((LL.lawful (T.the_type (named_lft 1 0 tt κs)) (T'.the_laws (named_lft 1 0 tt κs)) 𝓛).typed a.0 _ are.0).0))
 
 layers-meets : {M : Type 1} {𝓤 : Ura M} (𝓛 : Logic 𝓤) (mem : Memory → SProp 𝓤) (run : Routine → Fun 𝓤) (𝓣 : Tables 𝓤 𝓛.H)

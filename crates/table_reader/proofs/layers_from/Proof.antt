@@ -7,7 +7,7 @@ use lib.ListN.{drop}
 use borrow.Author.Rules.{rules}
 use Rattle.table_reader.proofs.Steps.{layered-more, layered-over}
 use Rattle.parity_table.specs.Reader.{Next, layered, run}
-use Rattle.table_reader.specs.Steps.{goesOn}
+use Rattle.table_reader.specs.Steps.{goes_on}
 use Rattle.table_reader.specs.declared.Step.TheVariants as step
 use Rattle.table_reader.proofs.layers_from.Statement.{statement}
 use Rattle.table_reader.proofs.layers_from.Tie as tie
@@ -38,7 +38,7 @@ returns c =
     ∙ ap (λ (s : Next). run a.depth l.next.at s (drop l.next.at a.ws.now))
     (layered-more a.depth l.j (omega arith))
     ∙ c.before.before.before.layer.ensures a.depth
-    ∙ ap (goesOn a.depth (layered a.depth (suc l.j)) a.ws.now) c.before.i.given.1
+    ∙ ap (goes_on a.depth (layered a.depth (suc l.j)) a.ws.now) c.before.i.given.1
 
 add-j : tie.Need-overflow-add-j invariant-loop decreases-loop
 add-j c = omega arith
@@ -55,8 +55,8 @@ loop-again c =
           ∙ ap (λ (s : Next). run a.depth l.next.at s (drop l.next.at a.ws.now))
           (layered-more a.depth l.j (omega arith))
           ∙ c.before.before.before.layer.ensures a.depth
-          ∙ ap (goesOn a.depth (layered a.depth (suc l.j)) a.ws.now) c.before.n.given.1
-          ∙ ap (λ (n : ℕ). goesOn a.depth (layered a.depth n) a.ws.now (step.To c.before.n.given.0.0)) (sym (add-one l.j)),
+          ∙ ap (goes_on a.depth (layered a.depth (suc l.j)) a.ws.now) c.before.n.given.1
+          ∙ ap (λ (n : ℕ). goes_on a.depth (layered a.depth n) a.ws.now (step.To c.before.n.given.0.0)) (sym (add-one l.j)),
     )
 
 returns-2 : tie.Need-returns-2 invariant-loop decreases-loop

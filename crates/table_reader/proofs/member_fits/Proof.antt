@@ -1,7 +1,7 @@
 -- `member_fits` meets its contract: one case for each test.
 use Prim.Native.Nat.{◌-◌}
 use native.Mathlib.Omega.{arith}
-use Rattle.table_reader.proofs.Steps.{member-low, member-mid, member_is, member-over}
+use Rattle.table_reader.proofs.Steps.{member-low, member_mid, member_is, member-over}
 use Rattle.table_reader.proofs.member_fits.Statement.{statement}
 use Rattle.table_reader.proofs.member_fits.Tie as tie
 
@@ -9,7 +9,7 @@ returns : tie.Need-returns
 returns c = let a = c.before.args in member-low a.last a.count a.low a.x c.if1.true
 
 returns-2 : tie.Need-returns-2
-returns-2 c = let a = c.before.before.args in member-mid a.last a.count a.low a.x (omega arith) (omega arith)
+returns-2 c = let a = c.before.before.args in member_mid a.last a.count a.low a.x (omega arith) (omega arith)
 
 returns-3 : tie.Need-returns-3
 returns-3 c = let a = c.before.before.before.args in member_is a.last a.count a.low a.x (omega arith) (omega arith)

@@ -5,9 +5,9 @@ use native.Mathlib.Omega.{arith}
 use lib.ListN.{length, get_or, drop}
 use borrow.Author.Rules.{rules}
 use Rattle.parity_table.specs.Shape.{k_of}
-use Rattle.octets.proofs.Choice.{not_yes, not-no}
+use Rattle.octets.proofs.Choice.{not_yes, not_no}
 use Rattle.table_reader.proofs.Steps.{word-found, word-missing, member-more, member-wrong, member-short, member-last, member-next}
-use Rattle.parity_table.specs.Reader.{Member, memberFits, run}
+use Rattle.parity_table.specs.Reader.{Member, member_fits, run}
 use Rattle.table_reader.proofs.members.Statement.{statement}
 use Rattle.table_reader.proofs.members.Tie as tie
 
@@ -51,11 +51,11 @@ returns-2 c =
     let l = n.before.loop in
     let a = n.before.before.before.args in
     let found = word-found a.ws.now l.at k.w.given.0.0 (sym n.next_word.ensures ∙ k.w.given.1) in
-    let fits = ap (memberFits a.last l.count l.low) found.1 ∙ sym c.before.member-fits.ensures ∙ not_yes _ c.if1.true in
+    let fits = ap (member_fits a.last l.count l.low) found.1 ∙ sym c.before.member-fits.ensures ∙ not_yes _ c.if1.true in
     λ d j e q.
     l.invariant.1 d j e q
     ∙ member-wrong d l.at j e l.count l.low a.ws.now found.0
-    (ap (λ (z : ℕ). memberFits z l.count l.low (get_or a.ws.now l.at 0)) q ∙ fits)
+    (ap (λ (z : ℕ). member_fits z l.count l.low (get_or a.ws.now l.at 0)) q ∙ fits)
 
 add_at : tie.Need-overflow-add-at invariant-loop decreases-loop
 add_at c =
@@ -72,11 +72,11 @@ returns-3 c =
     let l = n.before.loop in
     let a = n.before.before.before.args in
     let found = word-found a.ws.now l.at k.w.given.0.0 (sym n.next_word.ensures ∙ k.w.given.1) in
-    let fits = ap (memberFits a.last l.count l.low) found.1 ∙ sym c.before.before.member-fits.ensures ∙ not-no _ c.before.if1.false in
+    let fits = ap (member_fits a.last l.count l.low) found.1 ∙ sym c.before.before.member-fits.ensures ∙ not_no _ c.before.if1.false in
     λ d j e q.
     l.invariant.1 d j e q
     ∙ member-last d l.at j e l.count l.low a.ws.now found.0
-    (ap (λ (z : ℕ). memberFits z l.count l.low (get_or a.ws.now l.at 0)) q ∙ fits) (found.1 ∙ c.if2.true ∙ sym q)
+    (ap (λ (z : ℕ). member_fits z l.count l.low (get_or a.ws.now l.at 0)) q ∙ fits) (found.1 ∙ c.if2.true ∙ sym q)
 
 add-count : tie.Need-overflow-add-count invariant-loop decreases-loop
 add-count c = omega arith
@@ -99,13 +99,13 @@ loop-again c =
     let l = n.before.loop in
     let a = n.before.before.before.args in
     let found = word-found a.ws.now l.at k.w.given.0.0 (sym n.next_word.ensures ∙ k.w.given.1) in
-    let fits = ap (memberFits a.last l.count l.low) found.1 ∙ sym c.before.before.member-fits.ensures ∙ not-no _ c.before.if1.false in
+    let fits = ap (member_fits a.last l.count l.low) found.1 ∙ sym c.before.before.member-fits.ensures ∙ not_no _ c.before.if1.false in
     let b = member-more a.last l.count l.low (get_or a.ws.now l.at 0) fits (λ z. c.if2.false (sym found.1 ∙ z)) in (
       omega (arith, b.1),
       λ d j e q.
           l.invariant.1 d j e q
           ∙ member-next d l.at j e l.count l.low a.ws.now found.0
-          (ap (λ (z : ℕ). memberFits z l.count l.low (get_or a.ws.now l.at 0)) q ∙ fits) (λ z. c.if2.false (sym found.1 ∙ z ∙ q))
+          (ap (λ (z : ℕ). member_fits z l.count l.low (get_or a.ws.now l.at 0)) q ∙ fits) (λ z. c.if2.false (sym found.1 ∙ z ∙ q))
           ∙ ap (λ (x : ℕ). run d (l.at + 1) (Member j e (l.count + 1) (x + 1)) (drop (l.at + 1) a.ws.now)) found.1,
     )
 

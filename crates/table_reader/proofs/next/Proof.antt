@@ -41,7 +41,7 @@ use denote.Triple.Table.{entered, cited}
 use denote.Triple.Walked.{says, Stays, stay_none, walk_of, Goes-none, Walks, ends_at, walked, walk_Meets}
 use denote.Exit.{yes}
 use denote.Triple.Clauses.{ensured, lasts}
-use Rattle.table_reader.specs.Steps.{wordAt}
+use Rattle.table_reader.specs.Steps.{word_at}
 use Rattle.table_reader.specs.declared.TableReader.{TableReader}
 use Rattle.table_reader.specs.declared.Word.{Word}
 use Rattle.table_reader.specs.contracts.TableReader as T
@@ -80,7 +80,7 @@ module _ {M : Type 1} {𝓤 : Ura M} (𝓛 : Logic 𝓤) (mem : Memory → SProp
   v = slice_val d.words.ref_ptr (length d.words.now)
 
   abbrev found : Word
-  found = wordAt d.words.now d.at
+  found = word_at d.words.now d.at
 
   abbrev Post : Val → SProp 𝓤
   Post = (walk_of 𝓛 next.ended stayed (next.clauses 𝓛 mem run)).post (((κ, tt), (q, tt), tt, (d, tt), (mach ∷ [], tt)), tt)
@@ -165,4 +165,4 @@ next-spec 𝓤 𝓛 𝓜 𝓡 =
     entered 𝓤 𝓛.H (triple_of 𝓛 next.signature (next.spec 𝓛 𝓜.mem 𝓡.run))
     (tables 𝓤 𝓛.H 𝓜 𝓡 code.env).C (tables 𝓤 𝓛.H 𝓜 𝓡 code.env).Λ #next code.function (code.unfolded 𝓤 𝓛.H 𝓜 𝓡)
     (next-meets 𝓛 𝓜.mem 𝓡.run (tables_of 𝓤 𝓛.H 𝓜 (tables 𝓤 𝓛.H 𝓜 𝓡 code.env))
-    (cited 𝓤 𝓛.H (WordAt 𝓛 𝓜.mem 𝓡.run) 𝓜 𝓡 code.env #word-at word-def.routine code.calls-table-reader::word-at (word-thm.met 𝓤 𝓛 𝓜 𝓡)))
+    (cited 𝓤 𝓛.H (WordAt 𝓛 𝓜.mem 𝓡.run) 𝓜 𝓡 code.env #word-at word-def.routine code.calls-table-reader::word_at_lem (word-thm.met 𝓤 𝓛 𝓜 𝓡)))

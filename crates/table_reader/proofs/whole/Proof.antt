@@ -39,7 +39,7 @@ use denote.Triple.Table.{entered, cited}
 use denote.Triple.Walked.{says, needs, Stays, stay_none, stay_none_slice, walk_of, Goes-none, Goes-none_slice, Walks, ends_at, walked, walk_Meets}
 use denote.Exit.{yes}
 use denote.Triple.Clauses.{ensured, lasts}
-use Rattle.parity_table.specs.Shape.{maxDepth}
+use Rattle.parity_table.specs.Shape.{max_depth}
 use Rattle.parity_table.specs.Reader.{layered, run}
 use Rattle.table_reader.specs.Steps.{LayersRead, FinishRead}
 use Rattle.parity_table.specs.declared.Answer.{Answer}
@@ -86,7 +86,7 @@ module _ {M : Type 1} {𝓤 : Ura M} (𝓛 : Logic 𝓤) (mem : Memory → SProp
   abbrev Finish : Contract 𝓤
   Finish = triple_of 𝓛 finish.signature (finish.spec 𝓛 mem go)
 
-module _ {M : Type 1} {𝓤 : Ura M} (𝓛 : Logic 𝓤) (mem : Memory → SProp 𝓤) (go : Routine → Fun 𝓤) (κ : Lft) (q : Share) (s : Bor (List ℕ)) (n : ℕ) (ok : n < 2 ^ 64) (within : n ≤ maxDepth) where
+module _ {M : Type 1} {𝓤 : Ura M} (𝓛 : Logic 𝓤) (mem : Memory → SProp 𝓤) (go : Routine → Fun 𝓤) (κ : Lft) (q : Share) (s : Bor (List ℕ)) (n : ℕ) (ok : n < 2 ^ 64) (within : n ≤ max_depth) where
   -- the machine value that s has
   open 𝓛 use {H}
 
@@ -209,7 +209,7 @@ module _ {M : Type 1} {𝓤 : Ura M} (𝓛 : Logic 𝓤) (mem : Memory → SProp
   whole_walks : (C : Calls 𝓤 H) (Λ : Loops 𝓤 H) → FmC 𝓤 H 𝓛.laws C → Triple 𝓤 (C #reader-at) (ReaderAt 𝓛 mem go) → Triple 𝓤 (C #layers) (Layers 𝓛 mem go) → Triple 𝓤 (C #finish) (Finish 𝓛 mem go)
       → Walks 𝓛 whole.ended stayed (WpFn 𝓤 H C Λ code.function) (whole.clauses 𝓛 mem go)
   whole_walks C Λ fm known-reader known-layers known-finish = walked 𝓛 whole.ended stayed (whole.clauses 𝓛 mem go) (WpFn 𝓤 H C Λ code.function) (λ κs. (shr_slice_vals, (uint_vals w64, tt))) (λ κs. (shr_slice_Tells (named 0) κs.0 u32, (uint_Tells w64, tt)))
-      (λ κs qs bounds a g are. needs 𝓤 (a.1.0 ≤ maxDepth) _ (λ within. walk 𝓛 mem go κs.0 qs.0 a.0 a.1.0 are.1.0.1 within C Λ fm known-reader known-layers known-finish are.0))
+      (λ κs qs bounds a g are. needs 𝓤 (a.1.0 ≤ max_depth) _ (λ within. walk 𝓛 mem go κs.0 qs.0 a.0 a.1.0 are.1.0.1 within C Λ fm known-reader known-layers known-finish are.0))
 
 whole_meets : {M : Type 1} {𝓤 : Ura M} (𝓛 : Logic 𝓤) (mem : Memory → SProp 𝓤) (go : Routine → Fun 𝓤) (𝓣 : Tables 𝓤 𝓛.H)
     → Triple 𝓤 (𝓣.C #reader-at) (ReaderAt 𝓛 mem go) → Triple 𝓤 (𝓣.C #layers) (Layers 𝓛 mem go) → Triple 𝓤 (𝓣.C #finish) (Finish 𝓛 mem go)

@@ -4,7 +4,7 @@ use Prim.Native.Nat.{◌+◌, ◌*◌, ◌/◌, ◌^◌, ◌<◌}
 use native.Mathlib.Omega.{arith}
 use borrow.Author.Rules.{rules}
 use lib.ListN.{length, length-set}
-use Rattle.tournament.proofs.RiseLaws.{Rising, rising-start, rising-turn, rising-stop, rising-end}
+use Rattle.tournament.proofs.RiseLaws.{Rising, rising_start, rising_turn, rising_stop, rising_end}
 use Rattle.tournament.proofs.set.Statement.{statement}
 use Rattle.tournament.proofs.set.Tie as tie
 
@@ -27,7 +27,7 @@ loop-holds : tie.Need-loop-init invariant-loop decreases-loop
 loop-holds c =
     let s = c.before in
     let a = s.args in
-    (rising-start a.tree.now a.e a.v s.requires.0 s.requires.1, omega (arith, s.well-formed, length-set a.tree.now (length a.tree.now / 2 + a.e) a.v))
+    (rising_start a.tree.now a.e a.v s.requires.0 s.requires.1, omega (arith, s.well_formed, length-set a.tree.now (length a.tree.now / 2 + a.e) a.v))
 
 mul-lesser : tie.Need-overflow-mul-lesser invariant-loop decreases-loop
 mul-lesser c = omega arith
@@ -70,7 +70,7 @@ returns c =
     let m = c.before.before in
     let l = m.before.before.before.before in
     let a = l.before.before.args in
-    rising-stop a.tree.now a.e a.v l.loop.tree l.loop.i l.loop.invariant.0 (c.if1.true ∙ m.lesser.ensures)
+    rising_stop a.tree.now a.e a.v l.loop.tree l.loop.i l.loop.invariant.0 (c.if1.true ∙ m.lesser.ensures)
 
 mul-tree-2 : tie.Need-overflow-mul-tree-2 invariant-loop decreases-loop
 mul-tree-2 c = omega arith
@@ -86,7 +86,7 @@ loop-again c =
     let m = c.before.before in
     let l = m.before.before.before.before.loop in
     let v = m.lesser.result in
-    (rising-turn _ l.tree l.i l.invariant.0 v (omega arith) m.lesser.ensures, omega (arith, length-set l.tree (l.i / 2) v))
+    (rising_turn _ l.tree l.i l.invariant.0 v (omega arith) m.lesser.ensures, omega (arith, length-set l.tree (l.i / 2) v))
 
 same-length-2 : tie.Need-same-length-2 invariant-loop decreases-loop
 same-length-2 c =
@@ -97,7 +97,7 @@ returns-2 : tie.Need-returns-2 invariant-loop decreases-loop
 returns-2 c =
     let l = c.before.loop in
     let a = c.before.before.before.args in
-    rising-end a.tree.now a.e a.v l.tree l.i l.invariant.0 (omega arith)
+    rising_end a.tree.now a.e a.v l.tree l.i l.invariant.0 (omega arith)
 
 pub set_spec : {M : Type 1} → statement M
 set_spec =

@@ -4,8 +4,8 @@ use mathlib.Core.Bool.{true}
 use Prim.Native.Nat.{ℕ, ◌<◌}
 use native.Mathlib.Omega.{arith}
 use borrow.Author.Rules.{rules}
-use Rattle.parity_table.specs.Shape.{maxDepth}
-use Rattle.calls.proofs.AdmissionLaws.{at-depth, deep-up-to, none-admitted, words-for}
+use Rattle.parity_table.specs.Shape.{max_depth}
+use Rattle.calls.proofs.AdmissionLaws.{at_depth, deep_up_to, none-admitted, words_for_lem}
 use borrow.Fn.Kinds.{In}
 use borrow.Fn.PlainCycle.{Measures, is, falls, and}
 use Rattle.calls.proofs.admission.check_deep.Reads as check-deep
@@ -46,7 +46,7 @@ check-deep-test-table-requires : (t : ℕ) → check-deep-lts.Need-test-table-re
   check-deep.Post,
 ) (check-deep-at t) check-deep.Post
 check-deep-test-table-requires t c κs =
-    words-for c.before.before.args.depth maxDepth (deep-up-to c.before.before.args.depth)
+    words_for_lem c.before.before.args.depth max_depth (deep_up_to c.before.before.args.depth)
 
 check-deep-stops-at-depth-requires : (t : ℕ) → check-deep-lts.Need-stops-at-depth-requires (
   test-table-reads.Asked,
@@ -67,7 +67,7 @@ check-deep-check-deep-requires : (t : ℕ) → check-deep-lts.Need-check-deep-re
   check-deep.Post,
 ) (check-deep-at t) check-deep.Post
 check-deep-check-deep-requires t c κs =
-    let k = at-depth c.before.before.before.before.before.before.args.depth _ (sym c.before.stops-at-depth.ensures ∙ c.if1.true) in
+    let k = at_depth c.before.before.before.before.before.before.args.depth _ (sym c.before.stops-at-depth.ensures ∙ c.if1.true) in
     (omega (arith, c.before.before.before.before.before.before.requires.0, k.0), tt)
 
 check-deep-returns : (t : ℕ) → check-deep-lts.Need-returns (
@@ -79,7 +79,7 @@ check-deep-returns : (t : ℕ) → check-deep-lts.Need-returns (
   check-deep.Post,
 ) (check-deep-at t) check-deep.Post
 check-deep-returns t c =
-    let k = at-depth c.before.before.before.before.before.before.before.args.depth _ (sym c.before.before.stops-at-depth.ensures ∙ c.before.if1.true) in
+    let k = at_depth c.before.before.before.before.before.before.before.args.depth _ (sym c.before.before.stops-at-depth.ensures ∙ c.before.if1.true) in
     c.check-deep.ensures ∙ sym (none-admitted true c.before.before.before.before.before.before.before.args.table.now) ∙ sym k.1 ∙ c.before.before.before.before.test_table.ensures.0
 
 check-deep-returns-2 : (t : ℕ) → check-deep-lts.Need-returns-2 (

@@ -6,7 +6,7 @@ use lib.ListN.{length}
 use borrow.Author.Rules.{rules}
 use Rattle.parity_table.specs.Parse.{index_of, over}
 use Rattle.calls.specs.declared.Answer.TheVariants.{Done}
-use Rattle.calls.proofs.AdmissionLaws.{words-there, words-room, starts-room, starts_by}
+use Rattle.calls.proofs.AdmissionLaws.{words_there, words-room, starts-room, starts_by}
 use Rattle.calls.proofs.admission.admit.Statement.{statement}
 use Rattle.calls.proofs.admission.admit.Tie as tie
 
@@ -53,7 +53,7 @@ returns-2 c =
       e,
       t.1,
       c.before.before.fill-index.ensures
-          ∙ ap (λ (l : List ℕ). over (index_of l) a.starts.now) (words-there a.depth a.sized a.table.now e _ a.words.now c.before.before.before.before.before.before.before.before.before.before.before.before.before.before.requires.words-room t.1)
+          ∙ ap (λ (l : List ℕ). over (index_of l) a.starts.now) (words_there a.depth a.sized a.table.now e _ a.words.now c.before.before.before.before.before.before.before.before.before.before.before.before.before.before.requires.words-room t.1)
           ∙ starts_by a.depth a.sized a.table.now Done e a.starts.now,
     )
 

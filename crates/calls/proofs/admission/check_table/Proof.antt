@@ -1,7 +1,7 @@
 -- `check_table` meets its contract: small arrays serve a depth that is not deep.
 use borrow.Author.Rules.{rules}
 use Rattle.parity_table.specs.Shape.{shallow}
-use Rattle.calls.proofs.AdmissionLaws.{shallow-up-to, words-for}
+use Rattle.calls.proofs.AdmissionLaws.{shallow_up_to, words_for_lem}
 use Rattle.calls.proofs.admission.check_table.Statement.{statement}
 use Rattle.calls.proofs.admission.check_table.Tie as tie
 
@@ -18,7 +18,7 @@ slice-aggregate-test-table : tie.Need-slice-aggregate-test-table
 slice-aggregate-test-table c = search rules
 
 test-table-requires : tie.Need-test-table-requires
-test-table-requires c κs = words-for c.before.before.before.before.args.depth shallow (shallow-up-to c.before.before.before.before.args.depth c.before.before.is-deep.ensures c.before.if1.false)
+test-table-requires c κs = words_for_lem c.before.before.before.before.args.depth shallow (shallow_up_to c.before.before.before.before.args.depth c.before.before.is-deep.ensures c.before.if1.false)
 
 returns-2 : tie.Need-returns-2
 returns-2 c = search rules

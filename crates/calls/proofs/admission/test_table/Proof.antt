@@ -3,13 +3,13 @@ use mathlib.Core.Path.{sym, ap, ◌∙◌}
 use native.Mathlib.Omega.{arith}
 use lib.ListN.{length}
 use borrow.Author.Rules.{rules}
-use Rattle.octets.proofs.Choice.{not_yes, not-no}
+use Rattle.octets.proofs.Choice.{not_yes, not_no}
 use Rattle.table_bytes.specs.Bytes.{words_of}
 use Rattle.table_bytes.proofs.ByteForm.{front_length}
 use Rattle.calls.specs.declared.Answer.TheVariants.{Done}
-use Rattle.calls.specs.Tests.{wordsTested}
-use Rattle.calls.proofs.AdmissionLaws.{not_opened, not-long, goes_on, by-begun, front-there, tested-front}
-use Rattle.calls.proofs.TestLaws.{opened-by}
+use Rattle.calls.specs.Tests.{words_tested}
+use Rattle.calls.proofs.AdmissionLaws.{not_opened, not_long, goes_on, by_begun, front_there, tested_front}
+use Rattle.calls.proofs.TestLaws.{opened_by}
 use Rattle.calls.proofs.admission.test_table.Statement.{statement}
 use Rattle.calls.proofs.admission.test_table.Tie as tie
 
@@ -22,7 +22,7 @@ enum-known-s c = search rules
 returns : tie.Need-returns
 returns c =
     let a = c.before.before.before.before.before.before.args in
-    by-begun a.depth a.sized a.table.now _
+    by_begun a.depth a.sized a.table.now _
     (not_opened a.depth a.sized a.table.now _ (sym c.before.s.given.1 ∙ c.before.before.before.enter.ensures)) a.words.now
 
 enum_told : tie.Need-enum-told
@@ -35,8 +35,8 @@ returns-2 : tie.Need-returns-2
 returns-2 c =
     let a = c.before.before.before.before.before.before.before.args in
     let o = sym c.before.before.enum_told.given.1 ∙ c.before.before.before.before.enter.ensures in
-    by-begun a.depth a.sized a.table.now _
-    (not-long a.depth a.sized a.table.now o (sym c.before.length-fits.ensures ∙ not_yes _ c.if1.true)) a.words.now
+    by_begun a.depth a.sized a.table.now _
+    (not_long a.depth a.sized a.table.now o (sym c.before.length-fits.ensures ∙ not_yes _ c.if1.true)) a.words.now
 
 words-from-requires : tie.Need-words-from-requires
 words-from-requires c κs = search rules
@@ -51,7 +51,7 @@ slice-aggregate-check-words : tie.Need-slice-aggregate-check-words
 slice-aggregate-check-words c =
     let a = c.before.before.before.before.before.before.before.before.before.before.before.before.args in
     let w = c.before.before.before.words-from.ensures in
-    w.0 ∙ sym (ap length (front-there a.table.now a.words.now _ _ w.0 w.1))
+    w.0 ∙ sym (ap length (front_there a.table.now a.words.now _ _ w.0 w.1))
 
 check-words-requires : tie.Need-check-words-requires
 check-words-requires c κs = search rules
@@ -64,12 +64,12 @@ returns-3 c =
     let a = c.before.before.before.before.before.before.before.before.before.before.before.before.before.args in
     let w = c.before.before.before.before.words-from.ensures in
     let o = sym c.before.before.before.before.before.before.before.before.enum_told.given.1 ∙ c.before.before.before.before.before.before.before.before.before.before.enter.ensures in
-    let l = sym c.before.before.before.before.before.before.before.length-fits.ensures ∙ not-no _ c.before.before.before.before.before.before.if1.false in
-    let (x, y) = by-begun a.depth a.sized a.table.now Done (goes_on a.depth a.sized a.table.now o l) a.words.now in
-    let h = c.before.before.before.before.before.before.before.before.before.before.before.before.before.requires (opened-by a.depth a.sized (sym o)).deep in (
+    let l = sym c.before.before.before.before.before.before.before.length-fits.ensures ∙ not_no _ c.before.before.before.before.before.before.if1.false in
+    let (x, y) = by_begun a.depth a.sized a.table.now Done (goes_on a.depth a.sized a.table.now o l) a.words.now in
+    let h = c.before.before.before.before.before.before.before.before.before.before.before.before.before.requires (opened_by a.depth a.sized (sym o)).deep in (
       c.check-words.ensures
-          ∙ ap (wordsTested a.depth) (front-there a.table.now a.words.now _ _ w.0 w.1)
-          ∙ tested-front a.depth (length a.words.now) (words_of a.table.now) h
+          ∙ ap (words_tested a.depth) (front_there a.table.now a.words.now _ _ w.0 w.1)
+          ∙ tested_front a.depth (length a.words.now) (words_of a.table.now) h
           ∙ x,
       w.1 ∙ y,
     )

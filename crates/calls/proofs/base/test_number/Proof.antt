@@ -3,7 +3,7 @@ use Prim.Native.Nat.{◌-◌}
 use native.Mathlib.Omega.{arith}
 use borrow.Author.Rules.{rules}
 use Rattle.parity_table.specs.Shape.{n_of}
-use Rattle.parity_table.proofs.Shape.{k-small}
+use Rattle.parity_table.proofs.Shape.{k_small}
 use Rattle.calls.proofs.TestLaws.{number-over, number-below}
 use Rattle.calls.proofs.base.test_number.Statement.{statement}
 use Rattle.calls.proofs.base.test_number.Tie as tie
@@ -15,7 +15,7 @@ data-count-requires : tie.Need-data-count-requires
 data-count-requires c κs = search rules
 
 mul-if1 : tie.Need-overflow-mul-if1
-mul-if1 c = omega (arith, c.data-count.ensures, k-small (c.before.args.depth - 1) (omega (arith, c.before.requires.0, c.before.requires.1)))
+mul-if1 c = omega (arith, c.data-count.ensures, k_small (c.before.args.depth - 1) (omega (arith, c.before.requires.0, c.before.requires.1)))
 
 returns : tie.Need-returns
 unfolding n_of

@@ -5,7 +5,7 @@ use native.Mathlib.Omega.{arith}
 use borrow.Author.Rules.{rules}
 use Rattle.calls.specs.declared.Stop.TheVariants.{Mark}
 use Rattle.calls.specs.declared.Answer.TheVariants.{Stopped}
-use Rattle.calls.proofs.TestLaws.{marks-bad, marks-right}
+use Rattle.calls.proofs.TestLaws.{marks_bad, marks-right}
 use Rattle.calls.proofs.marks.test_marks.Statement.{statement}
 use Rattle.calls.proofs.marks.test_marks.Tie as tie
 
@@ -14,7 +14,7 @@ first-bad-requires c κs = search rules
 
 returns : tie.Need-returns
 returns c =
-    ap (λ (p : ℕ). Stopped (Mark p)) c.before.first-bad.ensures ∙ marks-bad c.before.before.before.args.marks.now (omega (arith, c.before.first-bad.ensures, c.if1.true))
+    ap (λ (p : ℕ). Stopped (Mark p)) c.before.first-bad.ensures ∙ marks_bad c.before.before.before.args.marks.now (omega (arith, c.before.first-bad.ensures, c.if1.true))
 
 returns-2 : tie.Need-returns-2
 returns-2 c = marks-right c.before.before.before.args.marks.now (omega (arith, c.before.first-bad.ensures, c.if1.false))

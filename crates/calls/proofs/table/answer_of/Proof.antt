@@ -1,7 +1,7 @@
 -- `answer_of` meets its contract: each answer in its arm.
 use mathlib.Core.Path.{sym, ap}
 use borrow.Author.Rules.{rules}
-use Rattle.calls.specs.Tests.{readAnswer}
+use Rattle.calls.specs.Tests.{read_answer}
 use Rattle.calls.proofs.table.answer_of.Statement.{statement}
 use Rattle.calls.proofs.table.answer_of.Tie as tie
 
@@ -18,16 +18,16 @@ enum-told-3 : tie.Need-enum-told-3
 enum-told-3 c = search rules
 
 returns : tie.Need-returns
-returns c = sym (ap readAnswer c.enum_told.given.1)
+returns c = sym (ap read_answer c.enum_told.given.1)
 
 returns-2 : tie.Need-returns-2
-returns-2 c = sym (ap readAnswer c.enum-told2.given.1)
+returns-2 c = sym (ap read_answer c.enum-told2.given.1)
 
 returns-3 : tie.Need-returns-3
-returns-3 c = sym (ap readAnswer c.before.r.given.1)
+returns-3 c = sym (ap read_answer c.before.r.given.1)
 
 returns-4 : tie.Need-returns-4
-returns-4 c = sym (ap readAnswer c.enum-told3.given.1)
+returns-4 c = sym (ap read_answer c.enum-told3.given.1)
 
 pub answer-of-spec : {M : Type 1} → statement M
 answer-of-spec =

@@ -3,9 +3,9 @@ use mathlib.Core.Path.{sym, ap, ◌∙◌}
 use borrow.Author.Rules.{rules}
 use Rattle.parity_table.specs.Reader.{read_of}
 use Rattle.parity_table.specs.Parse.{table_of}
-use Rattle.coverage.specs.Coverage.{coverageOf}
+use Rattle.coverage.specs.Coverage.{coverage_of}
 use Rattle.calls.specs.declared.Answer.{Answer}
-use Rattle.calls.specs.Tests.{◌then◌, readAnswer, coverAnswer}
+use Rattle.calls.specs.Tests.{◌then◌, read_answer, cover_answer}
 use Rattle.calls.proofs.AdmissionLaws.{read_whole}
 use Rattle.calls.proofs.table.check_words.Statement.{statement}
 use Rattle.calls.proofs.table.check_words.Tie as tie
@@ -22,8 +22,8 @@ enum-known-s c = search rules
 returns : tie.Need-returns
 returns c =
     let a = c.before.before.before.before.before.before.args in
-    let e = sym c.before.s.given.1 ∙ c.before.before.before.answer-of.ensures ∙ ap readAnswer c.before.before.before.before.read.ensures in
-    ap (λ (z : Answer). z then coverAnswer (coverageOf a.depth (table_of a.ws.now))) e
+    let e = sym c.before.s.given.1 ∙ c.before.before.before.answer-of.ensures ∙ ap read_answer c.before.before.before.before.read.ensures in
+    ap (λ (z : Answer). z then cover_answer (coverage_of a.depth (table_of a.ws.now))) e
 
 enum_told : tie.Need-enum-told
 enum_told c = search rules
@@ -31,7 +31,7 @@ enum_told c = search rules
 check-requires : tie.Need-check-requires
 check-requires c κs =
     let a = c.before.before.before.before.before.args in
-    let e = sym c.enum_told.given.1 ∙ c.before.before.answer-of.ensures ∙ ap readAnswer c.before.before.before.read.ensures in
+    let e = sym c.enum_told.given.1 ∙ c.before.before.answer-of.ensures ∙ ap read_answer c.before.before.before.read.ensures in
     read_whole (read_of a.depth a.ws.now) (sym e)
 
 cover-answer-requires : tie.Need-cover-answer-requires
@@ -41,8 +41,8 @@ returns-2 : tie.Need-returns-2
 returns-2 c =
     let a = c.before.before.before.before.before.before.before.args in
     let q = c.before.before in
-    let e = sym q.enum_told.given.1 ∙ q.before.before.answer-of.ensures ∙ ap readAnswer q.before.before.before.read.ensures in
-    c.cover-answer.ensures ∙ ap coverAnswer c.before.check.ensures ∙ ap (λ (z : Answer). z then coverAnswer (coverageOf a.depth (table_of a.ws.now))) e
+    let e = sym q.enum_told.given.1 ∙ q.before.before.answer-of.ensures ∙ ap read_answer q.before.before.before.read.ensures in
+    c.cover-answer.ensures ∙ ap cover_answer c.before.check.ensures ∙ ap (λ (z : Answer). z then cover_answer (coverage_of a.depth (table_of a.ws.now))) e
 
 pub check-words-spec : {M : Type 1} → statement M
 check-words-spec =

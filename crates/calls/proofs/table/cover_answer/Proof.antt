@@ -1,7 +1,7 @@
 -- `cover_answer` meets its contract: each answer in its arm.
 use mathlib.Core.Path.{sym, ap}
 use borrow.Author.Rules.{rules}
-use Rattle.calls.specs.Tests.{coverAnswer}
+use Rattle.calls.specs.Tests.{cover_answer}
 use Rattle.calls.proofs.table.cover_answer.Statement.{statement}
 use Rattle.calls.proofs.table.cover_answer.Tie as tie
 
@@ -15,7 +15,7 @@ returns : tie.Need-returns
 returns c = search rules
 
 returns-2 : tie.Need-returns-2
-returns-2 c = sym (ap coverAnswer c.before.c.given.1)
+returns-2 c = sym (ap cover_answer c.before.c.given.1)
 
 pub cover-answer-spec : {M : Type 1} → statement M
 cover-answer-spec = tie.close (tie.spec enum_told enum-known-c returns returns-2)

@@ -4,8 +4,8 @@ use Prim.Native.Nat.{◌+◌, ◌-◌, ◌*◌}
 use native.Mathlib.Omega.{arith}
 use lib.ListN.{length, take, drop}
 use borrow.Author.Rules.{rules}
-use Rattle.coded_tree.proofs.HashLaws.{hash-put, hash-room}
-use Rattle.symbol_hash.proofs.Laws.{length-symbolHash}
+use Rattle.coded_tree.proofs.HashLaws.{hash_put, hash-room}
+use Rattle.symbol_hash.proofs.Laws.{length-symbol_hash}
 use Rattle.coded_tree.proofs.hashes.put_hash.Statement.{statement}
 use Rattle.coded_tree.proofs.hashes.put_hash.Tie as tie
 
@@ -105,14 +105,14 @@ copy-at-requires c κs =
     c.before.before.before.before.before.before.requires.0 c.before.before.before.before.before.before.requires.1
     c.before.before.before.before.before.before.requires.2 c.before.before.before.before.before.before.requires.4
     c.before.before.before.before.before.before.requires.5 in omega
-    (arith, ap length c.before.before.hash.ensures, length-symbolHash c.before.before.before.before.before.before.args.kind (c.before.before.before.before.before.before.args.j + 1) c.before.before.before.before.before.before.args.i (take (256 * (c.before.before.before.before.before.before.args.base + c.before.before.before.before.before.before.args.i) + 256 - 256 * (c.before.before.before.before.before.before.args.base + c.before.before.before.before.before.before.args.i)) (drop (256 * (c.before.before.before.before.before.before.args.base + c.before.before.before.before.before.before.args.i)) c.before.before.before.before.before.before.args.tree.now)))
+    (arith, ap length c.before.before.hash.ensures, length-symbol_hash c.before.before.before.before.before.before.args.kind (c.before.before.before.before.before.before.args.j + 1) c.before.before.before.before.before.before.args.i (take (256 * (c.before.before.before.before.before.before.args.base + c.before.before.before.before.before.before.args.i) + 256 - 256 * (c.before.before.before.before.before.before.args.base + c.before.before.before.before.before.before.args.i)) (drop (256 * (c.before.before.before.before.before.before.args.base + c.before.before.before.before.before.before.args.i)) c.before.before.before.before.before.before.args.tree.now)))
 
 same_length : tie.Need-same-length
 same_length c = search rules
 
 returns : tie.Need-returns
 returns c =
-    hash-put c.before.before.before.before.before.before.before.before.before.args.kind c.before.before.before.before.before.before.before.before.before.args.tree.now _
+    hash_put c.before.before.before.before.before.before.before.before.before.args.kind c.before.before.before.before.before.before.before.before.before.args.tree.now _
     c.before.before.before.before.before.hash.result
     c.before.before.before.before.before.before.before.before.before.args.j
     c.before.before.before.before.before.before.before.before.before.args.i

@@ -7,11 +7,11 @@ use lib.ListN.{length}
 use borrow.Author.Rules.{rules}
 use Rattle.coded_tree.proofs.HashLaws.{hashes-step, hashes-end}
 use Rattle.model.specs.Shape.{places}
-use Rattle.model.specs.Writer.{putHashes}
-use Rattle.model.proofs.Shapes.{tree-ok}
+use Rattle.model.specs.Writer.{put_hashes}
+use Rattle.model.proofs.Shapes.{tree_ok}
 use Rattle.parity_table.specs.Shape.{k_of, n_of}
-use Rattle.parity_table.proofs.Shape.{k-small}
-use Rattle.symbol_hash.specs.SymbolHash.{symbolHash}
+use Rattle.parity_table.proofs.Shape.{k_small}
+use Rattle.symbol_hash.specs.SymbolHash.{symbol_hash}
 use Rattle.model.specs.Shape.{tree as shape}
 use Rattle.coded_tree.proofs.hashes.put_hashes.Statement.{statement}
 use Rattle.coded_tree.proofs.hashes.put_hashes.Tie as tie
@@ -20,7 +20,7 @@ abbrev invariant-loop : tie.invariant-loop
 invariant-loop kind tree₀ j k above base i₀ i-end tree i =
     (i ≤ i-end) × (i-end ≡ n_of (suc j)) × (k ≡ k_of j) × (above ≡ places shape j) × (base ≡ places shape (suc j)) ×
     (length tree ≡ length tree₀) ×
-    (putHashes shape (symbolHash kind) j i (i-end - i) tree ≡ putHashes shape (symbolHash kind) j 0 (n_of (suc j)) tree₀)
+    (put_hashes shape (symbol_hash kind) j i (i-end - i) tree ≡ put_hashes shape (symbol_hash kind) j 0 (n_of (suc j)) tree₀)
 
 abbrev decreases-loop : tie.decreases-loop
 decreases-loop kind tree₀ j k above base i₀ i-end tree i = i-end - i
@@ -39,12 +39,12 @@ first-place-requires-2 c κs = search rules
 
 mul-i-end : tie.Need-overflow-mul-i-end invariant-loop decreases-loop
 mul-i-end c =
-    omega (arith, k-small c.before.before.before.before.args.j (omega arith), c.before.before.data-count.ensures)
+    omega (arith, k_small c.before.before.before.before.args.j (omega arith), c.before.before.data-count.ensures)
 
 loop-holds : tie.Need-loop-init invariant-loop decreases-loop
-loop-holds c = let e : 8 * c.before.before.data-count.result ≡ n_of (suc c.before.before.before.before.args.j) = omega (arith, tree-ok.batch c.before.before.before.before.args.j, c.before.before.data-count.ensures) in
+loop-holds c = let e : 8 * c.before.before.data-count.result ≡ n_of (suc c.before.before.before.before.args.j) = omega (arith, tree_ok.batch c.before.before.before.before.args.j, c.before.before.data-count.ensures) in
     let z : 8 * c.before.before.data-count.result - 0 ≡ n_of (suc c.before.before.before.before.args.j) = omega arith in
-    (omega arith, e, c.before.before.data-count.ensures, c.before.first-place.ensures, c.first-place2.ensures ∙ ap (places shape) (add-one c.before.before.before.before.args.j), refl, ap (λ n. putHashes shape (symbolHash c.before.before.before.before.args.kind) c.before.before.before.before.args.j 0 n c.before.before.before.before.args.tree.now) z)
+    (omega arith, e, c.before.before.data-count.ensures, c.before.first-place.ensures, c.first-place2.ensures ∙ ap (places shape) (add-one c.before.before.before.before.args.j), refl, ap (λ n. put_hashes shape (symbol_hash c.before.before.before.before.args.kind) c.before.before.before.before.args.j 0 n c.before.before.before.before.args.tree.now) z)
 
 put-hash-requires : tie.Need-put-hash-requires invariant-loop decreases-loop
 put-hash-requires c κs =

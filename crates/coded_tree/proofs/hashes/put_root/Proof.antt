@@ -4,15 +4,15 @@ use Prim.Native.Nat.{◌+◌, ◌-◌, ◌*◌, ◌≤◌}
 use native.Mathlib.Omega.{arith}
 use lib.ListN.{length, take, drop, length-take, length-drop}
 use borrow.Author.Rules.{rules}
-use Rattle.coded_tree.proofs.HashLaws.{topHash, root-more, root-all}
+use Rattle.coded_tree.proofs.HashLaws.{top_hash, root_more, root_all}
 use Rattle.model.specs.Shape.{tree}
 use Rattle.model.specs.Symbols.{joined}
-use Rattle.symbol_hash.proofs.Laws.{length-symbolHash}
+use Rattle.symbol_hash.proofs.Laws.{length-symbol_hash}
 use Rattle.coded_tree.proofs.hashes.put_root.Statement.{statement}
 use Rattle.coded_tree.proofs.hashes.put_root.Tie as tie
 
 abbrev invariant-loop : tie.invariant-loop
-invariant-loop kind tree root₀ i₀ root i = (i ≤ 16) × (length root ≡ 512) × (take (32 * i) root ≡ joined (topHash kind tree) 0 i)
+invariant-loop kind tree root₀ i₀ root i = (i ≤ 16) × (length root ≡ 512) × (take (32 * i) root ≡ joined (top_hash kind tree) 0 i)
 
 abbrev decreases-loop : tie.decreases-loop
 decreases-loop kind tree root₀ i₀ root i = 16 - i
@@ -48,7 +48,7 @@ mul-copy-at c = search rules
 copy-at-requires : tie.Need-copy-at-requires invariant-loop decreases-loop
 copy-at-requires c κs =
     omega
-    (arith, ap length c.before.before.hash.ensures, length-symbolHash c.before.before.before.before.before.before.before.before.args.kind 0 c.before.before.before.before.before.loop.i (take (256 * c.before.before.before.before.before.loop.i + 256 - 256 * c.before.before.before.before.before.loop.i) (drop (256 * c.before.before.before.before.before.loop.i) c.before.before.before.before.before.before.before.before.args.tree.now)))
+    (arith, ap length c.before.before.hash.ensures, length-symbol_hash c.before.before.before.before.before.before.before.before.args.kind 0 c.before.before.before.before.before.loop.i (take (256 * c.before.before.before.before.before.loop.i + 256 - 256 * c.before.before.before.before.before.loop.i) (drop (256 * c.before.before.before.before.before.loop.i) c.before.before.before.before.before.before.before.before.args.tree.now)))
 
 add-i : tie.Need-overflow-add-i invariant-loop decreases-loop
 add-i c = search rules
@@ -59,7 +59,7 @@ loop-less c = search rules
 loop-again : tie.Need-loop-preserved invariant-loop decreases-loop
 loop-again c = let h = c.before.before.before.before.before.hash.ensures in
     let e = c.before.before.copy_at.ensures in
-    let more = root-more c.before.before.before.before.before.before.before.before.before.before.before.args.kind c.before.before.before.before.before.before.before.before.before.before.before.args.tree.now c.before.before.before.before.before.before.before.before.loop.root _ c.before.before.before.before.before.hash.result c.before.before.before.before.before.before.before.before.loop.i (256 * c.before.before.before.before.before.before.before.before.loop.i + 256 - 256 * c.before.before.before.before.before.before.before.before.loop.i) (omega arith) c.before.before.before.before.before.before.before.before.loop.invariant.1 (omega arith) c.before.before.before.before.before.before.before.before.loop.invariant.2 h e in
+    let more = root_more c.before.before.before.before.before.before.before.before.before.before.before.args.kind c.before.before.before.before.before.before.before.before.before.before.before.args.tree.now c.before.before.before.before.before.before.before.before.loop.root _ c.before.before.before.before.before.hash.result c.before.before.before.before.before.before.before.before.loop.i (256 * c.before.before.before.before.before.before.before.before.loop.i + 256 - 256 * c.before.before.before.before.before.before.before.before.loop.i) (omega arith) c.before.before.before.before.before.before.before.before.loop.invariant.1 (omega arith) c.before.before.before.before.before.before.before.before.loop.invariant.2 h e in
     (omega arith, more.0, more.1)
 
 same_length : tie.Need-same-length invariant-loop decreases-loop
@@ -67,7 +67,7 @@ same_length c = search rules
 
 returns : tie.Need-returns invariant-loop decreases-loop
 returns c =
-    root-all c.before.before.before.before.args.kind c.before.before.before.before.args.tree.now c.before.loop.root c.before.loop.i (omega arith)
+    root_all c.before.before.before.before.args.kind c.before.before.before.before.args.tree.now c.before.loop.root c.before.loop.i (omega arith)
     c.before.loop.invariant.1 c.before.loop.invariant.2
 
 pub put-root-spec : {M : Type 1} → statement M

@@ -3,8 +3,8 @@ use mathlib.Core.Path.{◌≡◌, ap}
 use Prim.Native.Nat.{◌-◌, ◌≤◌}
 use native.Mathlib.Omega.{arith}
 use Rattle.coded_tree.proofs.MarkLaws.{absent-is, held-is}
-use Rattle.model.proofs.Counts.{lowest-hit, lowest-none, lowest-pass}
-use Rattle.model.specs.Repair.{absentAt}
+use Rattle.model.proofs.Counts.{lowest_hit, lowest-none, lowest_pass}
+use Rattle.model.specs.Repair.{absent_at}
 use Rattle.model.specs.Shape.{places}
 use Rattle.model.specs.Symbols.{lowest}
 use Rattle.model.specs.Shape.{tree as shape}
@@ -12,7 +12,7 @@ use Rattle.coded_tree.proofs.marks.first_absent.Statement.{statement}
 use Rattle.coded_tree.proofs.marks.first_absent.Tie as tie
 
 abbrev invariant-loop : tie.invariant-loop
-invariant-loop marks j n base i₀ i = (i ≤ n) × (base ≡ places shape j) × (lowest (absentAt shape marks j) i (n - i) ≡ lowest (absentAt shape marks j) 0 n)
+invariant-loop marks j n base i₀ i = (i ≤ n) × (base ≡ places shape j) × (lowest (absent_at shape marks j) i (n - i) ≡ lowest (absent_at shape marks j) 0 n)
 
 abbrev decreases-loop : tie.decreases-loop
 decreases-loop marks j n base i₀ i = n - i
@@ -24,7 +24,7 @@ loop-holds : tie.Need-loop-init invariant-loop decreases-loop
 loop-holds c =
     let s = c.before.before in
     let z : s.args.n - 0 ≡ s.args.n = omega arith in
-    (omega arith, c.first-place.ensures, ap (lowest (absentAt shape s.args.marks.now s.args.j) 0) z)
+    (omega arith, c.first-place.ensures, ap (lowest (absent_at shape s.args.marks.now s.args.j) 0) z)
 
 add-if1 : tie.Need-overflow-add-if1 invariant-loop decreases-loop
 add-if1 c = omega (arith, c.before.before.before.before.requires.1, c.before.loop.invariant.1)
@@ -36,7 +36,7 @@ returns : tie.Need-returns invariant-loop decreases-loop
 returns c =
     let s = c.before.before.before.before.before.before in
     let l = c.before.before.before.loop in
-    lowest-hit (absentAt shape s.args.marks.now s.args.j) s.args.n l.i _ l.invariant.2 (omega arith) (absent-is s.args.marks.now s.args.j _ l.invariant.1 l.i c.if1.true)
+    lowest_hit (absent_at shape s.args.marks.now s.args.j) s.args.n l.i _ l.invariant.2 (omega arith) (absent-is s.args.marks.now s.args.j _ l.invariant.1 l.i c.if1.true)
 
 add-i : tie.Need-overflow-add-i invariant-loop decreases-loop
 add-i c = omega (arith, c.before.before.before.before.before.before.requires.1)
@@ -48,12 +48,12 @@ loop-again : tie.Need-loop-preserved invariant-loop decreases-loop
 loop-again c =
     let s = c.before.before.before.before.before.before in
     let l = c.before.before.before.loop in
-    (omega arith, l.invariant.1, lowest-pass (absentAt shape s.args.marks.now s.args.j) s.args.n l.i _ l.invariant.2 (omega arith) (held-is s.args.marks.now s.args.j _ l.invariant.1 l.i c.if1.false))
+    (omega arith, l.invariant.1, lowest_pass (absent_at shape s.args.marks.now s.args.j) s.args.n l.i _ l.invariant.2 (omega arith) (held-is s.args.marks.now s.args.j _ l.invariant.1 l.i c.if1.false))
 
 returns-2 : tie.Need-returns-2 invariant-loop decreases-loop
 returns-2 c =
     let s = c.before.before.before.before in
-    lowest-none (absentAt shape s.args.marks.now s.args.j) s.args.n c.before.loop.i _ c.before.loop.invariant.2 (omega arith)
+    lowest-none (absent_at shape s.args.marks.now s.args.j) s.args.n c.before.loop.i _ c.before.loop.invariant.2 (omega arith)
 
 pub first-absent-spec : {M : Type 1} → statement M
 first-absent-spec =

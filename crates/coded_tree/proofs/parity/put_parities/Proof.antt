@@ -4,22 +4,22 @@ use Prim.Native.Nat.{◌-◌, ◌*◌, ◌≤◌}
 use native.Mathlib.Omega.{arith}
 use lib.ListN.{length, drop}
 use borrow.Author.Rules.{rules}
-use Rattle.parity_table.proofs.Accepts.{members-there, accepted-depth}
-use Rattle.coded_tree.proofs.ParityLaws.{members-inside, parity-inside, parity-step, layer-done}
+use Rattle.parity_table.proofs.Accepts.{members_there, accepted-depth}
+use Rattle.coded_tree.proofs.ParityLaws.{members-inside, parity_inside, parity_step, layer-done}
 use Rattle.model.specs.Shape.{places, tree as shape}
 use Rattle.model.specs.Writer.{parities}
 use Rattle.octets.specs.BigEndian.{words}
 use Rattle.parity_table.specs.Parse.{table_of}
 use Rattle.parity_table.specs.Shape.{k_of}
-use Rattle.parity_table.specs.Table.{layerOf}
-use Rattle.parity_table.proofs.Shape.{k-small}
+use Rattle.parity_table.specs.Table.{layer_of}
+use Rattle.parity_table.proofs.Shape.{k_small}
 use Rattle.coded_tree.proofs.parity.put_parities.Statement.{statement}
 use Rattle.coded_tree.proofs.parity.put_parities.Tie as tie
 
 abbrev invariant-loop : tie.invariant-loop
 invariant-loop tree₀ depth words starts j k base e₀ e-end tree e =
     (e ≤ e-end) × (e-end ≡ 3 * k_of j) × (k ≡ k_of j) × (base ≡ places shape j) × (length tree ≡ length tree₀) ×
-    (parities shape j e (drop e (layerOf (table_of words) j)) tree ≡ parities shape j 0 (layerOf (table_of words) j) tree₀)
+    (parities shape j e (drop e (layer_of (table_of words) j)) tree ≡ parities shape j 0 (layer_of (table_of words) j) tree₀)
 
 abbrev decreases-loop : tie.decreases-loop
 decreases-loop tree₀ depth words starts j k base e₀ e-end tree e = e-end - e
@@ -37,7 +37,7 @@ first-place-requires c κs =
 mul-e-end : tie.Need-overflow-mul-e-end invariant-loop decreases-loop
 mul-e-end c =
     omega
-    (arith, k-small c.before.before.before.before.before.args.j (omega (arith, (accepted-depth c.before.before.before.before.before.args.depth c.before.before.before.before.before.args.words.now c.before.before.before.before.before.requires.0.accepted).1, c.before.before.before.before.before.requires.1)), c.before.data-count.ensures)
+    (arith, k_small c.before.before.before.before.before.args.j (omega (arith, (accepted-depth c.before.before.before.before.before.args.depth c.before.before.before.before.before.args.words.now c.before.before.before.before.before.requires.0.accepted).1, c.before.before.before.before.before.requires.1)), c.before.data-count.ensures)
 
 loop-holds : tie.Need-loop-init invariant-loop decreases-loop
 loop-holds c =
@@ -71,23 +71,23 @@ part-put-parity-end c = omega (arith, c.before.before.equation.ensures.inside)
 add-put-parity : tie.Need-overflow-add-put-parity invariant-loop decreases-loop
 add-put-parity c =
     omega
-    (arith, c.before.before.before.before.before.loop.invariant.2, k-small c.before.before.before.before.before.before.before.before.before.before.before.args.j (omega (arith, (accepted-depth c.before.before.before.before.before.before.before.before.before.before.before.args.depth c.before.before.before.before.before.before.before.before.before.before.before.args.words.now c.before.before.before.before.before.before.before.before.before.before.before.requires.0.accepted).1, c.before.before.before.before.before.before.before.before.before.before.before.requires.1)))
+    (arith, c.before.before.before.before.before.loop.invariant.2, k_small c.before.before.before.before.before.before.before.before.before.before.before.args.j (omega (arith, (accepted-depth c.before.before.before.before.before.before.before.before.before.before.before.args.depth c.before.before.before.before.before.before.before.before.before.before.before.args.words.now c.before.before.before.before.before.before.before.before.before.before.before.requires.0.accepted).1, c.before.before.before.before.before.before.before.before.before.before.before.requires.1)))
 
 put-parity-requires : tie.Need-put-parity-requires invariant-loop decreases-loop
 put-parity-requires c κs =
-    (c.before.before.before.before.before.loop.invariant.3, omega (arith, c.before.before.before.before.before.loop.invariant.3, c.before.before.before.before.before.before.before.before.before.before.before.requires.2), parity-inside c.before.before.before.before.before.before.before.before.before.before.before.args.depth c.before.before.before.before.before.before.before.before.before.before.before.args.words.now c.before.before.before.before.before.before.before.before.before.before.before.requires.0.accepted c.before.before.before.before.before.before.before.before.before.before.before.args.j c.before.before.before.before.before.loop.e _ c.before.before.before.before.before.before.before.before.before.before.before.requires.1 c.before.before.before.before.before.loop.invariant.2 (omega arith) _ (members-there c.before.before.before.before.before.before.before.before.before.before.before.args.words.now c.before.before.before.before.before.before.before.before.before.before.before.args.j c.before.before.before.before.before.loop.e c.before.before.before.equation.result.at c.before.before.before.equation.result.size c.before.before.before.equation.ensures), members-inside c.before.before.before.before.before.before.before.before.before.before.before.args.depth c.before.before.before.before.before.before.before.before.before.before.before.args.words.now c.before.before.before.before.before.before.before.before.before.before.before.requires.0.accepted c.before.before.before.before.before.before.before.before.before.before.before.args.j c.before.before.before.before.before.loop.e _ c.before.before.before.before.before.before.before.before.before.before.before.requires.1 c.before.before.before.before.before.loop.invariant.2 (omega arith) _ (members-there c.before.before.before.before.before.before.before.before.before.before.before.args.words.now c.before.before.before.before.before.before.before.before.before.before.before.args.j c.before.before.before.before.before.loop.e c.before.before.before.equation.result.at c.before.before.before.equation.result.size c.before.before.before.equation.ensures))
+    (c.before.before.before.before.before.loop.invariant.3, omega (arith, c.before.before.before.before.before.loop.invariant.3, c.before.before.before.before.before.before.before.before.before.before.before.requires.2), parity_inside c.before.before.before.before.before.before.before.before.before.before.before.args.depth c.before.before.before.before.before.before.before.before.before.before.before.args.words.now c.before.before.before.before.before.before.before.before.before.before.before.requires.0.accepted c.before.before.before.before.before.before.before.before.before.before.before.args.j c.before.before.before.before.before.loop.e _ c.before.before.before.before.before.before.before.before.before.before.before.requires.1 c.before.before.before.before.before.loop.invariant.2 (omega arith) _ (members_there c.before.before.before.before.before.before.before.before.before.before.before.args.words.now c.before.before.before.before.before.before.before.before.before.before.before.args.j c.before.before.before.before.before.loop.e c.before.before.before.equation.result.at c.before.before.before.equation.result.size c.before.before.before.equation.ensures), members-inside c.before.before.before.before.before.before.before.before.before.before.before.args.depth c.before.before.before.before.before.before.before.before.before.before.before.args.words.now c.before.before.before.before.before.before.before.before.before.before.before.requires.0.accepted c.before.before.before.before.before.before.before.before.before.before.before.args.j c.before.before.before.before.before.loop.e _ c.before.before.before.before.before.before.before.before.before.before.before.requires.1 c.before.before.before.before.before.loop.invariant.2 (omega arith) _ (members_there c.before.before.before.before.before.before.before.before.before.before.before.args.words.now c.before.before.before.before.before.before.before.before.before.before.before.args.j c.before.before.before.before.before.loop.e c.before.before.before.equation.result.at c.before.before.before.equation.result.size c.before.before.before.equation.ensures))
 
 add-e : tie.Need-overflow-add-e invariant-loop decreases-loop
 add-e c =
     omega
-    (arith, c.before.before.before.before.before.before.before.loop-test.true, c.before.before.before.before.before.before.before.before.loop.invariant.1, k-small c.before.before.before.before.before.before.before.before.before.before.before.before.before.before.args.j (omega (arith, (accepted-depth c.before.before.before.before.before.before.before.before.before.before.before.before.before.before.args.depth c.before.before.before.before.before.before.before.before.before.before.before.before.before.before.args.words.now c.before.before.before.before.before.before.before.before.before.before.before.before.before.before.requires.0.accepted).1, c.before.before.before.before.before.before.before.before.before.before.before.before.before.before.requires.1)))
+    (arith, c.before.before.before.before.before.before.before.loop-test.true, c.before.before.before.before.before.before.before.before.loop.invariant.1, k_small c.before.before.before.before.before.before.before.before.before.before.before.before.before.before.args.j (omega (arith, (accepted-depth c.before.before.before.before.before.before.before.before.before.before.before.before.before.before.args.depth c.before.before.before.before.before.before.before.before.before.before.before.before.before.before.args.words.now c.before.before.before.before.before.before.before.before.before.before.before.before.before.before.requires.0.accepted).1, c.before.before.before.before.before.before.before.before.before.before.before.before.before.before.requires.1)))
 
 loop-less : tie.Need-loop-smaller invariant-loop decreases-loop
 loop-less c = omega (arith, c.before.before.before.before.before.before.before.loop-test.true)
 
 loop-again : tie.Need-loop-preserved invariant-loop decreases-loop
 loop-again c =
-    (omega arith, c.before.before.before.before.before.before.before.before.loop.invariant.1, c.before.before.before.before.before.before.before.before.loop.invariant.2, c.before.before.before.before.before.before.before.before.loop.invariant.3, search rules, sym (parity-step c.before.before.before.before.before.before.before.before.before.before.before.before.before.before.args.depth c.before.before.before.before.before.before.before.before.before.before.before.before.before.before.args.words.now c.before.before.before.before.before.before.before.before.before.before.before.before.before.before.requires.0.accepted c.before.before.before.before.before.before.before.before.before.before.before.before.before.before.args.j c.before.before.before.before.before.before.before.before.loop.e _ c.before.before.before.before.before.before.before.before.before.before.before.before.before.before.requires.1 c.before.before.before.before.before.before.before.before.loop.invariant.2 (omega arith) _ (members-there c.before.before.before.before.before.before.before.before.before.before.before.before.before.before.args.words.now c.before.before.before.before.before.before.before.before.before.before.before.before.before.before.args.j c.before.before.before.before.before.before.before.before.loop.e c.before.before.before.before.before.before.equation.result.at c.before.before.before.before.before.before.equation.result.size c.before.before.before.before.before.before.equation.ensures) c.before.before.before.before.before.before.before.before.loop.tree _ c.before.before.put-parity.ensures) ∙ c.before.before.before.before.before.before.before.before.loop.invariant.5)
+    (omega arith, c.before.before.before.before.before.before.before.before.loop.invariant.1, c.before.before.before.before.before.before.before.before.loop.invariant.2, c.before.before.before.before.before.before.before.before.loop.invariant.3, search rules, sym (parity_step c.before.before.before.before.before.before.before.before.before.before.before.before.before.before.args.depth c.before.before.before.before.before.before.before.before.before.before.before.before.before.before.args.words.now c.before.before.before.before.before.before.before.before.before.before.before.before.before.before.requires.0.accepted c.before.before.before.before.before.before.before.before.before.before.before.before.before.before.args.j c.before.before.before.before.before.before.before.before.loop.e _ c.before.before.before.before.before.before.before.before.before.before.before.before.before.before.requires.1 c.before.before.before.before.before.before.before.before.loop.invariant.2 (omega arith) _ (members_there c.before.before.before.before.before.before.before.before.before.before.before.before.before.before.args.words.now c.before.before.before.before.before.before.before.before.before.before.before.before.before.before.args.j c.before.before.before.before.before.before.before.before.loop.e c.before.before.before.before.before.before.equation.result.at c.before.before.before.before.before.before.equation.result.size c.before.before.before.before.before.before.equation.ensures) c.before.before.before.before.before.before.before.before.loop.tree _ c.before.before.put-parity.ensures) ∙ c.before.before.before.before.before.before.before.before.loop.invariant.5)
 
 same_length : tie.Need-same-length invariant-loop decreases-loop
 same_length c = search rules

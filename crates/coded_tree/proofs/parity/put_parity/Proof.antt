@@ -2,7 +2,7 @@
 use mathlib.Core.Path.{refl}
 use native.Mathlib.Omega.{arith}
 use borrow.Author.Rules.{rules}
-use Rattle.coded_tree.proofs.ParityLaws.{length-others, parity-put}
+use Rattle.coded_tree.proofs.ParityLaws.{length-others, parity_put}
 use Rattle.model.specs.Symbols.{zeros}
 use Rattle.parity_table.specs.Shape.{n_of}
 use Rattle.coded_tree.proofs.parity.put_parity.Statement.{statement}
@@ -45,7 +45,7 @@ returns : tie.Need-returns
 returns c =
     let start = c.before.before.before.before.before.before.before.before.before.before.before in
     let a = start.args in
-    parity-put a.tree.now _ a.j a.base a.x a.members.now start.requires.0 start.requires.1 start.requires.3
+    parity_put a.tree.now _ a.j a.base a.x a.members.now start.requires.0 start.requires.1 start.requires.3
     c.before.before.before.before.before.before.xor-others.ensures _ c.before.before.copy_at.ensures
 
 pub put-parity-spec : {M : Type 1} → statement M

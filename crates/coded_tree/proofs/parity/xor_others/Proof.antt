@@ -5,8 +5,8 @@ use Prim.Native.Nat.{◌+◌, ◌-◌, ◌*◌, ◌≤◌, ◌<◌}
 use native.Mathlib.Omega.{arith}
 use lib.ListN.{length, get_or, take, drop}
 use borrow.Author.Rules.{rules}
-use Rattle.coded_tree.proofs.ParityLaws.{symbol-there, symbol-full, left, left-none, left-all, turn-take, turn-skip}
-use Rattle.model.specs.Symbols.{symbolIn}
+use Rattle.coded_tree.proofs.ParityLaws.{symbol_there, symbol-full, left, left-none, left-all, turn-take, turn_skip}
+use Rattle.model.specs.Symbols.{symbol_in}
 use Rattle.model.proofs.Bytes.{length-zeros}
 use Rattle.model.proofs.Members.{every-below}
 use Rattle.octets.specs.ByteLists.{xors}
@@ -17,14 +17,14 @@ use Rattle.coded_tree.proofs.parity.xor_others.Tie as tie
 abbrev invariant-loop : tie.invariant-loop
 invariant-loop acc₀ tree base members x i₀ i-end acc i =
     (i ≤ i-end) × (i-end ≡ length members) × (length acc ≡ 256) ×
-    (xors acc (left members (λ y. symbolIn tree (base + y)) x i) ≡ left members (λ y. symbolIn tree (base + y)) x 0)
+    (xors acc (left members (λ y. symbol_in tree (base + y)) x i) ≡ left members (λ y. symbol_in tree (base + y)) x 0)
 
 abbrev decreases-loop : tie.decreases-loop
 decreases-loop acc₀ tree base members x i₀ i-end acc i = i-end - i
 
 loop-holds : tie.Need-loop-init invariant-loop decreases-loop
 loop-holds c =
-    (omega arith, refl, ap length c.before.before.before.requires.0 ∙ length-zeros, ap (λ a. xors a (left c.before.before.before.args.members.now (λ v. symbolIn c.before.before.before.args.tree.now (c.before.before.before.args.base + v)) c.before.before.before.args.x 0)) c.before.before.before.requires.0 ∙ left-all c.before.before.before.args.members.now (λ v. symbolIn c.before.before.before.args.tree.now (c.before.before.before.args.base + v)) c.before.before.before.args.x c.before.before.before.requires.1.0 (symbol-full c.before.before.before.args.tree.now c.before.before.before.args.base c.before.before.before.requires.1.0 c.before.before.before.requires.1.1) c.before.before.before.requires.1.2)
+    (omega arith, refl, ap length c.before.before.before.requires.0 ∙ length-zeros, ap (λ a. xors a (left c.before.before.before.args.members.now (λ v. symbol_in c.before.before.before.args.tree.now (c.before.before.before.args.base + v)) c.before.before.before.args.x 0)) c.before.before.before.requires.0 ∙ left-all c.before.before.before.args.members.now (λ v. symbol_in c.before.before.before.args.tree.now (c.before.before.before.args.base + v)) c.before.before.before.args.x c.before.before.before.requires.1.0 (symbol-full c.before.before.before.args.tree.now c.before.before.before.args.base c.before.before.before.requires.1.0 c.before.before.before.requires.1.1) c.before.before.before.requires.1.2)
 
 mul-y : tie.Need-overflow-mul-y invariant-loop decreases-loop
 mul-y c = search rules
@@ -63,19 +63,19 @@ loop-again c = let l = c.before.before.before.loop in
     let sized = symbol-full c.before.before.before.before.before.before.before.args.tree.now c.before.before.before.before.before.before.before.args.base c.before.before.before.before.before.before.before.requires.1.0 c.before.before.before.before.before.before.before.requires.1.1 y below in
     ⊎_elim
     (λ w.
-    let e : c.if1.acc ≡ xors l.acc (symbolIn c.before.before.before.before.before.before.before.args.tree.now (c.before.before.before.before.before.before.before.args.base + y)) =
+    let e : c.if1.acc ≡ xors l.acc (symbol_in c.before.before.before.before.before.before.before.args.tree.now (c.before.before.before.before.before.before.before.args.base + y)) =
     w.5 ∙ w.2.ensures ∙ ap (λ n. xors l.acc (take n (drop (256 * (c.before.before.before.before.before.before.before.args.base + y)) c.before.before.before.before.before.before.before.args.tree.now))) l.invariant.2
-    ∙ ap (xors l.acc) (sym (symbol-there c.before.before.before.before.before.before.before.args.tree.now c.before.before.before.before.before.before.before.args.base y)) in (
+    ∙ ap (xors l.acc) (sym (symbol_there c.before.before.before.before.before.before.before.args.tree.now c.before.before.before.before.before.before.before.args.base y)) in (
       omega arith,
       refl,
-      omega (arith, ap length e, length-xors l.acc (symbolIn c.before.before.before.before.before.before.before.args.tree.now (c.before.before.before.before.before.before.before.args.base + y)), sized, l.invariant.2),
-      turn-take c.before.before.before.before.before.before.before.args.members.now (λ v. symbolIn c.before.before.before.before.before.before.before.args.tree.now (c.before.before.before.before.before.before.before.args.base + v)) c.before.before.before.before.before.before.before.args.x l.i l.acc c.if1.acc (omega arith) w.0.taken l.invariant.3 e,
+      omega (arith, ap length e, length-xors l.acc (symbol_in c.before.before.before.before.before.before.before.args.tree.now (c.before.before.before.before.before.before.before.args.base + y)), sized, l.invariant.2),
+      turn-take c.before.before.before.before.before.before.before.args.members.now (λ v. symbol_in c.before.before.before.before.before.before.before.args.tree.now (c.before.before.before.before.before.before.before.args.base + v)) c.before.before.before.before.before.before.before.args.x l.i l.acc c.if1.acc (omega arith) w.0.taken l.invariant.3 e,
     ))
     (λ w. (
       omega arith,
       refl,
       ap length w.1 ∙ l.invariant.2,
-      ap (λ a. xors a (left c.before.before.before.before.before.before.before.args.members.now (λ v. symbolIn c.before.before.before.before.before.before.before.args.tree.now (c.before.before.before.before.before.before.before.args.base + v)) c.before.before.before.before.before.before.before.args.x (l.i + 1))) w.1 ∙ turn-skip c.before.before.before.before.before.before.before.args.members.now (λ v. symbolIn c.before.before.before.before.before.before.before.args.tree.now (c.before.before.before.before.before.before.before.args.base + v)) c.before.before.before.before.before.before.before.args.x l.i l.acc (omega arith) w.0.left l.invariant.3,
+      ap (λ a. xors a (left c.before.before.before.before.before.before.before.args.members.now (λ v. symbol_in c.before.before.before.before.before.before.before.args.tree.now (c.before.before.before.before.before.before.before.args.base + v)) c.before.before.before.before.before.before.before.args.x (l.i + 1))) w.1 ∙ turn_skip c.before.before.before.before.before.before.before.args.members.now (λ v. symbol_in c.before.before.before.before.before.before.before.args.tree.now (c.before.before.before.before.before.before.before.args.base + v)) c.before.before.before.before.before.before.before.args.x l.i l.acc (omega arith) w.0.left l.invariant.3,
     ))
     c.if1.branch
 
@@ -85,7 +85,7 @@ same_length c = omega (arith, ap length c.before.before.before.before.before.req
 returns : tie.Need-returns invariant-loop decreases-loop
 returns c =
     sym
-    (left-none c.before.before.before.before.before.args.members.now (λ v. symbolIn c.before.before.before.before.before.args.tree.now (c.before.before.before.before.before.args.base + v)) c.before.before.before.before.before.args.x c.before.loop.i c.before.loop.acc (omega arith) c.before.loop.invariant.2)
+    (left-none c.before.before.before.before.before.args.members.now (λ v. symbol_in c.before.before.before.before.before.args.tree.now (c.before.before.before.before.before.args.base + v)) c.before.before.before.before.before.args.x c.before.loop.i c.before.loop.acc (omega arith) c.before.loop.invariant.2)
     ∙ c.before.loop.invariant.3
 
 pub xor-others-spec : {M : Type 1} → statement M

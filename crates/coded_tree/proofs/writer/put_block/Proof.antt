@@ -1,7 +1,7 @@
 -- `put_block` meets its contract: the block is copied, and what is left of the base's data symbols is filled with zeros.
 use native.Mathlib.Omega.{arith}
 use borrow.Author.Rules.{rules}
-use Rattle.coded_tree.proofs.BlockLaws.{base-room, block-put}
+use Rattle.coded_tree.proofs.BlockLaws.{base-room, block_put}
 use Rattle.coded_tree.proofs.writer.put_block.Statement.{statement}
 use Rattle.coded_tree.proofs.writer.put_block.Tie as tie
 
@@ -67,7 +67,7 @@ returns : tie.Need-returns
 returns c =
     let s = c.before.before.before.before.before.before.before.before.before.before.before.before in
     let p = c.before.before.before.before.before.before.before.before.before.first-place in
-    block-put s.args.depth _ s.args.tree.now s.requires.0 p.ensures s.requires.3 _ s.args.block.now _ _
+    block_put s.args.depth _ s.args.tree.now s.requires.0 p.ensures s.requires.3 _ s.args.block.now _ _
     c.before.before.before.before.before.before.before.before.data-count.ensures s.requires.2
     c.before.before.before.before.before.before.copy_at.ensures
     c.before.before.fill.ensures

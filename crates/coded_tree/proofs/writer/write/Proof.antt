@@ -5,7 +5,7 @@ use lib.ListN.{replicate}
 use borrow.Author.Rules.{rules}
 use Rattle.coded_tree.proofs.WriterLaws.{written-tree, top-room}
 use Rattle.model.specs.Shape.{tree}
-use Rattle.model.specs.Writer.{filled, writtenMarks, writtenRoot}
+use Rattle.model.specs.Writer.{filled, written_marks, written_root}
 use Rattle.parity_table.specs.Parse.{table_of}
 use Rattle.parity_table.proofs.Accepts.{accepted-depth, accepted-table}
 use Rattle.coded_tree.proofs.writer.write.Statement.{statement}
@@ -39,7 +39,7 @@ same-length-3 : tie.Need-same-length-3
 same-length-3 c = search rules
 
 returns : tie.Need-returns
-unfolding writtenMarks writtenRoot
+unfolding written_marks written_root
 returns c =
     let s = c.before.before.before.before.before.before.before.before.before.before.before.before.before.before.before.before.before.before.before.before.before.before.before in
     let table = accepted-table s.args.depth s.args.words.now s.requires.0.accepted in

@@ -2,7 +2,7 @@
 use mathlib.Core.Path.{◌∙◌}
 use native.Mathlib.Omega.{arith}
 use borrow.Author.Rules.{rules}
-use Rattle.coded_tree.proofs.BlockLaws.{base-room, rest-zero}
+use Rattle.coded_tree.proofs.BlockLaws.{base-room, rest_zero}
 use Rattle.coded_tree.proofs.writer.zero_filled.Statement.{statement}
 use Rattle.coded_tree.proofs.writer.zero_filled.Tie as tie
 
@@ -58,7 +58,7 @@ returns c =
     let s = c.before.before.before.before.before in
     let p = c.before.before.before.first-place in
     c.is_zero.ensures
-    ∙ rest-zero s.args.depth _ s.args.tree.now s.requires.0 p.ensures s.requires.2 s.args.n _ c.before.before.data-count.ensures s.requires.3
+    ∙ rest_zero s.args.depth _ s.args.tree.now s.requires.0 p.ensures s.requires.2 s.args.n _ c.before.before.data-count.ensures s.requires.3
 
 pub zero-filled-spec : {M : Type 1} → statement M
 zero-filled-spec =

@@ -8,7 +8,7 @@ use lib.ListN.{drop, get_or, length}
 use Rattle.coded_tree.proofs.MarkLaws.{absent-is, held-is}
 use Rattle.model.proofs.Counts.{count-drop, count-end}
 use Rattle.model.proofs.Members.{every-below}
-use Rattle.model.specs.Repair.{absentAt}
+use Rattle.model.specs.Repair.{absent_at}
 use Rattle.model.specs.Shape.{places}
 use Rattle.model.specs.Symbols.{bit, count}
 use Rattle.model.specs.Shape.{tree as shape}
@@ -17,7 +17,7 @@ use Rattle.equation.proofs.absent.count_absent.Tie as tie
 
 abbrev invariant-loop : tie.invariant-loop
 invariant-loop members marks j base n₀ i₀ i-end n i =
-    (i ≤ i-end) × (i-end ≡ length members) × (base ≡ places shape j) × (n ≤ i) × (n + count (absentAt shape marks j) (drop i members) ≡ count (absentAt shape marks j) members)
+    (i ≤ i-end) × (i-end ≡ length members) × (base ≡ places shape j) × (n ≤ i) × (n + count (absent_at shape marks j) (drop i members) ≡ count (absent_at shape marks j) members)
 
 abbrev decreases-loop : tie.decreases-loop
 decreases-loop members marks j base n₀ i₀ i-end n i = i-end - i
@@ -62,7 +62,7 @@ loop-again : tie.Need-loop-preserved invariant-loop decreases-loop
 loop-again c =
     let s = c.before.before.before.before.before.before.before.before in
     let l = c.before.before.before.before.loop in
-    let p = absentAt shape s.args.marks.now s.args.j in
+    let p = absent_at shape s.args.marks.now s.args.j in
     let y = get_or s.args.members.now l.i 0 in
     let q = count-drop p s.args.members.now l.i (omega arith) in
     ⊎_elim
@@ -73,7 +73,7 @@ loop-again c =
 returns : tie.Need-returns invariant-loop decreases-loop
 returns c =
     let s = c.before.before.before.before.before in
-    omega (arith, c.before.loop.invariant.4, count-end (absentAt shape s.args.marks.now s.args.j) s.args.members.now c.before.loop.i (omega arith))
+    omega (arith, c.before.loop.invariant.4, count-end (absent_at shape s.args.marks.now s.args.j) s.args.members.now c.before.loop.i (omega arith))
 
 pub count-absent-spec : {M : Type 1} → statement M
 count-absent-spec =

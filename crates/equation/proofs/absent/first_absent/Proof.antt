@@ -4,9 +4,9 @@ use Prim.Native.Nat.{◌-◌, ◌≤◌}
 use native.Mathlib.Omega.{arith}
 use lib.ListN.{drop, length}
 use Rattle.coded_tree.proofs.MarkLaws.{absent-is, held-is}
-use Rattle.model.proofs.Counts.{first-end, first-here, first-skip}
+use Rattle.model.proofs.Counts.{first-end, first-here, first_skip}
 use Rattle.model.proofs.Members.{every-below}
-use Rattle.model.specs.Repair.{absentAt}
+use Rattle.model.specs.Repair.{absent_at}
 use Rattle.model.specs.Shape.{places}
 use Rattle.model.specs.Symbols.{first_of}
 use Rattle.model.specs.Shape.{tree as shape}
@@ -15,7 +15,7 @@ use Rattle.equation.proofs.absent.first_absent.Tie as tie
 
 abbrev invariant-loop : tie.invariant-loop
 invariant-loop members marks j base i₀ i-end i =
-    (i ≤ i-end) × (i-end ≡ length members) × (base ≡ places shape j) × (first_of (absentAt shape marks j) (drop i members) ≡ first_of (absentAt shape marks j) members)
+    (i ≤ i-end) × (i-end ≡ length members) × (base ≡ places shape j) × (first_of (absent_at shape marks j) (drop i members) ≡ first_of (absent_at shape marks j) members)
 
 abbrev decreases-loop : tie.decreases-loop
 decreases-loop members marks j base i₀ i-end i = i-end - i
@@ -51,7 +51,7 @@ returns : tie.Need-returns invariant-loop decreases-loop
 returns c =
     let s = c.before.before.before.before.before.before.before.before in
     let l = c.before.before.before.before.loop in
-    let p = absentAt shape s.args.marks.now s.args.j in
+    let p = absent_at shape s.args.marks.now s.args.j in
     sym (first-here p s.args.members.now l.i (omega arith) (absent-is s.args.marks.now s.args.j _ l.invariant.2 _ c.if1.true)) ∙ l.invariant.3
 
 add-i : tie.Need-overflow-add-i invariant-loop decreases-loop
@@ -64,14 +64,14 @@ loop-again : tie.Need-loop-preserved invariant-loop decreases-loop
 loop-again c =
     let s = c.before.before.before.before.before.before.before.before in
     let l = c.before.before.before.before.loop in
-    let p = absentAt shape s.args.marks.now s.args.j in
-    (omega arith, l.invariant.1, l.invariant.2, sym (first-skip p s.args.members.now l.i (omega arith) (held-is s.args.marks.now s.args.j _ l.invariant.2 _ c.if1.false)) ∙ l.invariant.3)
+    let p = absent_at shape s.args.marks.now s.args.j in
+    (omega arith, l.invariant.1, l.invariant.2, sym (first_skip p s.args.members.now l.i (omega arith) (held-is s.args.marks.now s.args.j _ l.invariant.2 _ c.if1.false)) ∙ l.invariant.3)
 
 returns-2 : tie.Need-returns-2 invariant-loop decreases-loop
 returns-2 c =
     let s = c.before.before.before.before.before in
     let l = c.before.loop in
-    sym (first-end (absentAt shape s.args.marks.now s.args.j) s.args.members.now l.i (omega arith)) ∙ l.invariant.3
+    sym (first-end (absent_at shape s.args.marks.now s.args.j) s.args.members.now l.i (omega arith)) ∙ l.invariant.3
 
 pub first-absent-spec : {M : Type 1} → statement M
 first-absent-spec =

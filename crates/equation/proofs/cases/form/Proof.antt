@@ -5,8 +5,8 @@ use lib.ListN.{length}
 use borrow.Author.Rules.{rules}
 use Rattle.model.specs.Shape.{tree}
 use Rattle.model.specs.Symbols.{zeros}
-use Rattle.model.proofs.Hung.{tree-hangs}
-use Rattle.equation.proofs.TurnLaws.{above, absent-in, form-faults, form-stores, mark-inside, member-low, member-rooted, member-there, proof-room, rest-length, xor-there}
+use Rattle.model.proofs.Hung.{tree_hangs}
+use Rattle.equation.proofs.TurnLaws.{above, absent_in, form_faults, form-stores, mark-inside, member-low, member-rooted, member_there, proof-room, rest-length, xor_there}
 use Rattle.equation.proofs.cases.form.Statement.{statement}
 use Rattle.equation.proofs.cases.form.Tie as tie
 
@@ -36,8 +36,8 @@ fits-requires c κs =
     let s = f.before.before.before.before.before.before.before.before.before in
     let a = s.args in
     let k = s.requires.0.work in
-    let x = absent-in a.members.now a.marks.now a.j _ s.requires.1 f.first_absent.ensures in
-    let v = xor-there a.tree.now a.members.now _ a.j _ _ p.ensures c.before.before.before.xor-others.ensures in
+    let x = absent_in a.members.now a.marks.now a.j _ s.requires.1 f.first_absent.ensures in
+    let v = xor_there a.tree.now a.members.now _ a.j _ _ p.ensures c.before.before.before.xor-others.ensures in
     (above a.root.now a.members.now a.tree.now a.out.now a.j a.e k, member-rooted a.root.now a.members.now a.tree.now a.out.now a.j a.e k _ x, ap length v ∙ rest-length a.root.now a.members.now a.tree.now a.out.now a.j a.e k _)
 
 add-p : tie.Need-overflow-add-p
@@ -47,7 +47,7 @@ add-p c =
     let s = f.before.before.before.before.before.before.before.before.before in
     let a = s.args in
     let k = s.requires.0.work in
-    let x = absent-in a.members.now a.marks.now a.j _ s.requires.1 f.first_absent.ensures in
+    let x = absent_in a.members.now a.marks.now a.j _ s.requires.1 f.first_absent.ensures in
     omega (arith, mark-inside a.marks.now a.members.now a.j p.result _ s.requires.0.marked p.ensures x)
 
 slice-aggregate-copy-at : tie.Need-slice-aggregate-copy-at
@@ -60,8 +60,8 @@ mul-copy-at c =
     let s = f.before.before.before.before.before.before.before.before.before in
     let a = s.args in
     let k = s.requires.0.work in
-    let x = absent-in a.members.now a.marks.now a.j _ s.requires.1 f.first_absent.ensures in
-    omega (arith, p.ensures, (member-there a.root.now a.members.now a.tree.now a.out.now a.j a.e k _ x).room)
+    let x = absent_in a.members.now a.marks.now a.j _ s.requires.1 f.first_absent.ensures in
+    omega (arith, p.ensures, (member_there a.root.now a.members.now a.tree.now a.out.now a.j a.e k _ x).room)
 
 copy-at-requires : tie.Need-copy-at-requires
 copy-at-requires c κs =
@@ -70,9 +70,9 @@ copy-at-requires c κs =
     let s = f.before.before.before.before.before.before.before.before.before in
     let a = s.args in
     let k = s.requires.0.work in
-    let x = absent-in a.members.now a.marks.now a.j _ s.requires.1 f.first_absent.ensures in
-    let v = xor-there a.tree.now a.members.now _ a.j _ _ p.ensures c.before.before.before.before.before.before.before.xor-others.ensures in
-    omega (arith, p.ensures, (member-there a.root.now a.members.now a.tree.now a.out.now a.j a.e k _ x).room, ap length v ∙ rest-length a.root.now a.members.now a.tree.now a.out.now a.j a.e k _)
+    let x = absent_in a.members.now a.marks.now a.j _ s.requires.1 f.first_absent.ensures in
+    let v = xor_there a.tree.now a.members.now _ a.j _ _ p.ensures c.before.before.before.before.before.before.before.xor-others.ensures in
+    omega (arith, p.ensures, (member_there a.root.now a.members.now a.tree.now a.out.now a.j a.e k _ x).room, ap length v ∙ rest-length a.root.now a.members.now a.tree.now a.out.now a.j a.e k _)
 
 slice-write-marks : tie.Need-slice-write-marks
 slice-write-marks c =
@@ -81,7 +81,7 @@ slice-write-marks c =
     let s = f.before.before.before.before.before.before.before.before.before in
     let a = s.args in
     let k = s.requires.0.work in
-    let x = absent-in a.members.now a.marks.now a.j _ s.requires.1 f.first_absent.ensures in
+    let x = absent_in a.members.now a.marks.now a.j _ s.requires.1 f.first_absent.ensures in
     omega (arith, mark-inside a.marks.now a.members.now a.j p.result _ s.requires.0.marked p.ensures x)
 
 slice-write-used : tie.Need-slice-write-used
@@ -103,7 +103,7 @@ returns c =
     let s = f.before.before.before.before.before.before.before.before.before in
     let a = s.args in
     let k = s.requires.0.work in
-    let v = xor-there a.tree.now a.members.now _ a.j _ _ p.ensures c.before.before.before.before.before.before.before.before.before.before.xor-others.ensures in
+    let v = xor_there a.tree.now a.members.now _ a.j _ _ p.ensures c.before.before.before.before.before.before.before.before.before.before.xor-others.ensures in
     let t = c.before.before.before.before.before in
     form-stores a.kind a.root.now a.members.now a.j a.e a.tree.now a.marks.now a.out.now a.used.now _ _ s.requires.1 f.first_absent.ensures v p.result _ _ _
     (sym t.before.fits2.ensures ∙ t.if1.true) p.ensures (ap length v ∙ rest-length a.root.now a.members.now a.tree.now a.out.now a.j a.e k _) c.before.before.copy_at.ensures refl refl
@@ -115,7 +115,7 @@ put-proof-requires c κs =
     let s = f.before.before.before.before.before.before.before.before.before in
     let a = s.args in
     let k = s.requires.0.work in
-    let x = absent-in a.members.now a.marks.now a.j _ s.requires.1 f.first_absent.ensures in
+    let x = absent_in a.members.now a.marks.now a.j _ s.requires.1 f.first_absent.ensures in
     (k.members, k.low, member-low a.root.now a.members.now a.tree.now a.out.now a.j a.e k _ x, proof-room a.root.now a.members.now a.tree.now a.out.now a.j a.e k _ x)
 
 same-length-4 : tie.Need-same-length-4
@@ -133,10 +133,10 @@ returns-2 c =
     let p = f.before.before.first-place in
     let s = f.before.before.before.before.before.before.before.before.before in
     let a = s.args in
-    let v = xor-there a.tree.now a.members.now _ a.j _ _ p.ensures c.before.before.before.before.before.before.before.before.before.before.xor-others.ensures in
+    let v = xor_there a.tree.now a.members.now _ a.j _ _ p.ensures c.before.before.before.before.before.before.before.before.before.before.xor-others.ensures in
     let t = c.before.before.before.before.before in
-    let w = c.before.before.put-proof.ensures tree (tree-hangs _) in
-    form-faults a.kind a.root.now a.members.now a.j a.e a.tree.now a.marks.now a.out.now a.used.now _ _ s.requires.1 f.first_absent.ensures v _ _
+    let w = c.before.before.put-proof.ensures tree (tree_hangs _) in
+    form_faults a.kind a.root.now a.members.now a.j a.e a.tree.now a.marks.now a.out.now a.used.now _ _ s.requires.1 f.first_absent.ensures v _ _
     (sym t.before.fits2.ensures ∙ t.if1.false) w.0 w.1
 
 pub form-spec : {M : Type 1} → statement M

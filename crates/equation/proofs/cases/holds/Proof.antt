@@ -3,7 +3,7 @@ use mathlib.Core.Path.{◌∙◌, refl}
 use native.Mathlib.Omega.{arith}
 use borrow.Author.Rules.{rules}
 use Rattle.model.specs.Symbols.{zeros}
-use Rattle.equation.proofs.TurnLaws.{holds-is, xor-there}
+use Rattle.equation.proofs.TurnLaws.{holds-is, xor_there}
 use Rattle.equation.proofs.cases.holds.Statement.{statement}
 use Rattle.equation.proofs.cases.holds.Tie as tie
 
@@ -32,7 +32,7 @@ returns c =
     let s = x.before.before.before.before.before in
     let a = s.args in
     c.is_zero.ensures
-    ∙ holds-is a.j _ a.tree.now a.members.now _ s.requires (omega arith) (xor-there a.tree.now a.members.now _ a.j _ _ p.ensures x.xor-others.ensures)
+    ∙ holds-is a.j _ a.tree.now a.members.now _ s.requires (omega arith) (xor_there a.tree.now a.members.now _ a.j _ _ p.ensures x.xor-others.ensures)
 
 pub holds-spec : {M : Type 1} → statement M
 holds-spec =

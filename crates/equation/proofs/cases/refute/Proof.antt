@@ -5,10 +5,10 @@ use native.Mathlib.Omega.{arith}
 use lib.ListN.{get_or, length}
 use borrow.Author.Rules.{rules}
 use Rattle.model.specs.Shape.{tree}
-use Rattle.model.specs.Symbols.{symAt, zeros}
+use Rattle.model.specs.Symbols.{sym_at, zeros}
 use Rattle.model.proofs.Members.{last_get}
-use Rattle.model.proofs.Hung.{tree-hangs}
-use Rattle.equation.proofs.TurnLaws.{above, full, last-in, member_below, member-low, member-rooted, member-there, proof-room, refute-faults, refute-twins, rest-length, twins-put, xor-there}
+use Rattle.model.proofs.Hung.{tree_hangs}
+use Rattle.equation.proofs.TurnLaws.{above, full, last_in, member_below, member-low, member-rooted, member_there, proof-room, refute_faults, refute-twins, rest-length, twins_put, xor_there}
 use Rattle.equation.proofs.cases.refute.Statement.{statement}
 use Rattle.equation.proofs.cases.refute.Tie as tie
 
@@ -44,8 +44,8 @@ fits-requires c κs =
     let w = c.before.before in
     let s = w.before.before.before.before.before.before.before.before in
     let a = s.args in
-    let z = last-in a.members.now s.requires.some in
-    let v = xor-there a.tree.now a.members.now _ a.j _ _ w.before.first-place.ensures w.xor-others.ensures in
+    let z = last_in a.members.now s.requires.some in
+    let v = xor_there a.tree.now a.members.now _ a.j _ _ w.before.first-place.ensures w.xor-others.ensures in
     (above a.root.now a.members.now a.tree.now a.out.now a.j a.e s.requires, member-rooted a.root.now a.members.now a.tree.now a.out.now a.j a.e s.requires _ z, ap length v ∙ rest-length a.root.now a.members.now a.tree.now a.out.now a.j a.e s.requires _)
 
 put-symbol-requires : tie.Need-put-symbol-requires
@@ -53,8 +53,8 @@ put-symbol-requires c κs =
     let w = c.before.before.before.before.before in
     let s = w.before.before.before.before.before.before.before.before in
     let a = s.args in
-    let z = last-in a.members.now s.requires.some in
-    (member-there a.root.now a.members.now a.tree.now a.out.now a.j a.e s.requires _ z, omega (arith, s.requires.twins-room))
+    let z = last_in a.members.now s.requires.some in
+    (member_there a.root.now a.members.now a.tree.now a.out.now a.j a.e s.requires _ z, omega (arith, s.requires.twins-room))
 
 slice-aggregate-copy-at : tie.Need-slice-aggregate-copy-at
 slice-aggregate-copy-at c = search rules
@@ -64,7 +64,7 @@ copy-at-requires c κs =
     let w = c.before.before.before.before.before.before.before.before.before.before in
     let s = w.before.before.before.before.before.before.before.before in
     let a = s.args in
-    let v = xor-there a.tree.now a.members.now _ a.j _ _ w.before.first-place.ensures w.xor-others.ensures in
+    let v = xor_there a.tree.now a.members.now _ a.j _ _ w.before.first-place.ensures w.xor-others.ensures in
     omega (arith, s.requires.twins-room, c.before.before.before.before.put-symbol.auto, ap length v ∙ rest-length a.root.now a.members.now a.tree.now a.out.now a.j a.e s.requires _)
 
 same_length : tie.Need-same-length
@@ -75,20 +75,20 @@ returns c =
     let w = c.before.before.before.before.before.before.before.before.before.before.before.before.before in
     let s = w.before.before.before.before.before.before.before.before in
     let a = s.args in
-    let z = last-in a.members.now s.requires.some in
-    let v = xor-there a.tree.now a.members.now _ a.j _ _ w.before.first-place.ensures w.xor-others.ensures in
+    let z = last_in a.members.now s.requires.some in
+    let v = xor_there a.tree.now a.members.now _ a.j _ _ w.before.first-place.ensures w.xor-others.ensures in
     let t = c.before.before.before.before.before.before.before in
     let q = t.before.before in
     refute-twins a.kind a.root.now a.members.now a.j a.e a.tree.now a.out.now _ _ _ (sym (last_get a.members.now 0 s.requires.some)) v
     (sym q.before.fits2.ensures ∙ q.if1.true)
-    (twins-put a.out.now t.put-symbol.new.1.1.1.0 c.before.before.copy_at.new.1.0 (symAt tree a.tree.now a.j (get_or a.members.now (length a.members.now - 1) 0)) w.xor-others.new.0 (full a.root.now a.members.now a.tree.now a.out.now a.j a.e s.requires _ (member_below a.root.now a.members.now a.tree.now a.out.now a.j a.e s.requires _ z)) s.requires.twins-room (t.put-symbol.ensures tree (tree-hangs _)) c.before.before.copy_at.ensures)
+    (twins_put a.out.now t.put-symbol.new.1.1.1.0 c.before.before.copy_at.new.1.0 (sym_at tree a.tree.now a.j (get_or a.members.now (length a.members.now - 1) 0)) w.xor-others.new.0 (full a.root.now a.members.now a.tree.now a.out.now a.j a.e s.requires _ (member_below a.root.now a.members.now a.tree.now a.out.now a.j a.e s.requires _ z)) s.requires.twins-room (t.put-symbol.ensures tree (tree_hangs _)) c.before.before.copy_at.ensures)
 
 put-proof-requires : tie.Need-put-proof-requires
 put-proof-requires c κs =
     let w = c.before.before.before.before.before in
     let s = w.before.before.before.before.before.before.before.before in
     let a = s.args in
-    let z = last-in a.members.now s.requires.some in
+    let z = last_in a.members.now s.requires.some in
     (s.requires.members, s.requires.low, member-low a.root.now a.members.now a.tree.now a.out.now a.j a.e s.requires _ z, proof-room a.root.now a.members.now a.tree.now a.out.now a.j a.e s.requires _ z)
 
 same-length-2 : tie.Need-same-length-2
@@ -99,10 +99,10 @@ returns-2 c =
     let w = c.before.before.before.before.before.before.before.before in
     let s = w.before.before.before.before.before.before.before.before in
     let a = s.args in
-    let v = xor-there a.tree.now a.members.now _ a.j _ _ w.before.first-place.ensures w.xor-others.ensures in
+    let v = xor_there a.tree.now a.members.now _ a.j _ _ w.before.first-place.ensures w.xor-others.ensures in
     let q = c.before.before.before.before in
-    let o = c.before.before.put-proof.ensures tree (tree-hangs _) in
-    refute-faults a.kind a.root.now a.members.now a.j a.e a.tree.now a.out.now _ _ _ (sym (last_get a.members.now 0 s.requires.some)) v _
+    let o = c.before.before.put-proof.ensures tree (tree_hangs _) in
+    refute_faults a.kind a.root.now a.members.now a.j a.e a.tree.now a.out.now _ _ _ (sym (last_get a.members.now 0 s.requires.some)) v _
     (sym q.before.fits2.ensures ∙ q.if1.false) o.0 o.1
 
 pub refute-spec : {M : Type 1} → statement M

@@ -1,7 +1,7 @@
 -- `settle` meets its contract: by the number of absent members.
 use mathlib.Core.Path.{◌∙◌, refl, sym}
 use borrow.Author.Rules.{rules}
-use Rattle.equation.proofs.TurnLaws.{act-refutes, act-uses, none-absent}
+use Rattle.equation.proofs.TurnLaws.{act_refutes, act_uses, none-absent}
 use Rattle.equation.proofs.cases.settle.Statement.{statement}
 use Rattle.equation.proofs.cases.settle.Tie as tie
 
@@ -45,7 +45,7 @@ returns-2 : tie.Need-returns-2
 returns-2 c =
     let s = c.before.before.before.before.before.before.before.before.before.before.before.before in
     let a = s.args in
-    act-uses a.kind a.root.now a.members.now a.j a.e a.tree.now a.marks.now a.out.now a.used.now
+    act_uses a.kind a.root.now a.members.now a.j a.e a.tree.now a.marks.now a.out.now a.used.now
     (none-absent a.members.now a.marks.now a.j _ s.requires.1 c.before.before.before.before.count-absent.ensures c.before.before.before.if1.false) _
     (sym c.before.holds.ensures ∙ c.if2.true) refl
 
@@ -65,7 +65,7 @@ returns-3 : tie.Need-returns-3
 returns-3 c =
     let s = c.before.before.before.before.before.before.before.before.before.before.before.before.before.before.before.before.before in
     let a = s.args in
-    act-refutes a.kind a.root.now a.members.now a.j a.e a.tree.now a.marks.now a.out.now a.used.now
+    act_refutes a.kind a.root.now a.members.now a.j a.e a.tree.now a.marks.now a.out.now a.used.now
     (none-absent a.members.now a.marks.now a.j _ s.requires.1 c.before.before.before.before.before.before.before.before.before.count-absent.ensures c.before.before.before.before.before.before.before.before.if1.false) _ _
     (sym c.before.before.before.before.before.before.holds.ensures ∙ c.before.before.before.before.before.if2.false) c.before.before.refute.ensures
 

@@ -5,8 +5,8 @@ use mathlib.Core.Path.{◌≡◌, subst, sym}
 use Prim.Native.Nat.{ℕ}
 use native.Mathlib.Omega.{arith}
 use borrow.Author.Rules.{rules}
-use Rattle.equation.proofs.TurnLaws.{members-are, members-fit, took-there}
-use Rattle.equation.specs.Rooms.{Turnable, membersAt}
+use Rattle.equation.proofs.TurnLaws.{members-are, members_fit, took_there}
+use Rattle.equation.specs.Rooms.{Turnable, members_at}
 use Rattle.equation.specs.Turns.{few}
 use Rattle.equation.proofs.cases.take.Statement.{statement}
 use Rattle.equation.proofs.cases.take.Tie as tie
@@ -23,7 +23,7 @@ count-members-requires c κs = search rules
 add-end : tie.Need-overflow-add-end
 add-end c =
     let s = c.before.before.before.before.before.before.before.before.before in
-    omega (arith, c.count-members.ensures, members-fit s.args.words.now s.args.starts.now s.args.number s.requires.0)
+    omega (arith, c.count-members.ensures, members_fit s.args.words.now s.args.starts.now s.args.number s.requires.0)
 
 mul-settle : tie.Need-overflow-mul-settle
 mul-settle c = search rules
@@ -37,7 +37,7 @@ part-settle-start c = search rules
 part-settle-end : tie.Need-slice-bounds-settle-end
 part-settle-end c =
     let s = c.before.before.before.before.before.before.before.before.before in
-    omega (arith, c.count-members.ensures, members-fit s.args.words.now s.args.starts.now s.args.number s.requires.0)
+    omega (arith, c.count-members.ensures, members_fit s.args.words.now s.args.starts.now s.args.number s.requires.0)
 
 settle-requires : tie.Need-settle-requires
 settle-requires c κs =
@@ -64,7 +64,7 @@ returns c =
     let n = c.before.before.before.before.before.before.before.before.before.before.before.before.before.before in
     let s = n.before.before.before.before.before.before.before.before.before in
     let a = s.args in
-    took-there a.kind a.root.now (membersAt a.words.now a.starts.now a.number) a.j a.e a.tree.now a.marks.now a.out.now a.used.now _ _ _ _ _ _
+    took_there a.kind a.root.now (members_at a.words.now a.starts.now a.number) a.j a.e a.tree.now a.marks.now a.out.now a.used.now _ _ _ _ _ _
     (members-are a.words.now a.starts.now a.number s.requires.0 _ n.count-members.ensures) c.before.before.before.before.before.before.before.before.settle.ensures
 
 pub take_spec : {M : Type 1} → statement M

@@ -3,7 +3,7 @@ use mathlib.Core.Path.{◌∙◌}
 use Prim.Native.Nat.{◌-◌}
 use native.Mathlib.Omega.{arith}
 use borrow.Author.Rules.{rules}
-use Rattle.model.proofs.Shapes.{tree-ok}
+use Rattle.model.proofs.Shapes.{tree_ok}
 use Rattle.equation.proofs.CommittedLaws.{above-room, fits_below, fits-top}
 use Rattle.equation.proofs.committed.fits.Statement.{statement}
 use Rattle.equation.proofs.committed.fits.Tie as tie
@@ -28,7 +28,7 @@ data-count-requires : tie.Need-data-count-requires
 data-count-requires c κs = omega (arith, c.before.before.before.before.before.requires.0.layer)
 
 rem-up : tie.Need-nonzero-rem-up
-rem-up c = omega (arith, c.data-count.ensures, tree-ok.shape.some (c.before.before.before.before.before.before.args.j - 1))
+rem-up c = omega (arith, c.data-count.ensures, tree_ok.shape.some (c.before.before.before.before.before.before.args.j - 1))
 
 add-up : tie.Need-overflow-add-up
 add-up c =

@@ -3,8 +3,8 @@ use mathlib.Core.Path.{◌∙◌, ap}
 use mathlib.Core.Bool.{true, false, not}
 use borrow.Author.Rules.{rules}
 use Rattle.coded_tree.proofs.MarkLaws.{absent-is, held-is}
-use Rattle.fault_writer.proofs.WayLaws.{symbol-there}
-use Rattle.equation.specs.States.{fitsIn}
+use Rattle.fault_writer.proofs.WayLaws.{symbol_there}
+use Rattle.equation.specs.States.{fits_in}
 use Rattle.equation.proofs.CommittedLaws.{gap_by}
 use Rattle.equation.proofs.committed.is_gap.Statement.{statement}
 use Rattle.equation.proofs.committed.is_gap.Tie as tie
@@ -46,7 +46,7 @@ returns-2 : tie.Need-returns-2
 returns-2 c =
     let p = c.before.before.before.before.first-place in
     let a = c.before.before.before.before.before.before.before.before.args in
-    ap not (c.fits2.ensures ∙ ap (fitsIn a.kind a.root.now a.tree.now a.j a.i) (symbol-there a.tree.now a.j a.i p.result p.ensures))
+    ap not (c.fits2.ensures ∙ ap (fits_in a.kind a.root.now a.tree.now a.j a.i) (symbol_there a.tree.now a.j a.i p.result p.ensures))
     ∙ gap_by a.kind a.root.now a.tree.now a.marks.now a.j a.i false (held-is a.marks.now a.j p.result p.ensures a.i c.before.before.if1.false)
 
 pub is-gap-spec : {M : Type 1} → statement M

@@ -3,9 +3,9 @@ use mathlib.Core.Path.{◌∙◌, sym}
 use Prim.Native.Nat.{ℕ, ◌<◌}
 use native.Mathlib.Omega.{arith}
 use borrow.Author.Rules.{rules}
-use Rattle.parity_table.specs.Shape.{maxDepth}
-use Rattle.calls.proofs.AdmissionLaws.{at-depth, deep-up-to, room_for}
-use Rattle.fault_calls.proofs.CheckingLaws.{none-checked}
+use Rattle.parity_table.specs.Shape.{max_depth}
+use Rattle.calls.proofs.AdmissionLaws.{at_depth, deep_up_to, room_for}
+use Rattle.fault_calls.proofs.CheckingLaws.{none_checked}
 use borrow.Fn.Kinds.{In}
 use borrow.Fn.PlainCycle.{Measures, is, falls, and}
 use Rattle.fault_calls.proofs.checking.check_deep.Reads as check-deep
@@ -55,7 +55,7 @@ check-deep-check-in-requires : (t : ℕ) → check-deep-lts.Need-check-in-requir
   check-deep-below t,
   check-deep.Post,
 ) (check-deep-at t) check-deep.Post
-check-deep-check-in-requires t c κs = room_for c.before.before.before.before.before.args.depth maxDepth (deep-up-to c.before.before.before.before.before.args.depth)
+check-deep-check-in-requires t c κs = room_for c.before.before.before.before.before.args.depth max_depth (deep_up_to c.before.before.before.before.before.args.depth)
 
 check-deep-stops-at-depth-requires : (t : ℕ) → check-deep-lts.Need-stops-at-depth-requires (
   check-in-reads.Asked,
@@ -76,7 +76,7 @@ check-deep-check-deep-requires : (t : ℕ) → check-deep-lts.Need-check-deep-re
   check-deep.Post,
 ) (check-deep-at t) check-deep.Post
 check-deep-check-deep-requires t c κs =
-    let k = at-depth c.before.before.before.before.before.before.before.before.before.before.args.depth _ (sym c.before.stops-at-depth.ensures ∙ c.if1.true) in
+    let k = at_depth c.before.before.before.before.before.before.before.before.before.before.args.depth _ (sym c.before.stops-at-depth.ensures ∙ c.if1.true) in
     (omega (arith, c.before.before.before.before.before.before.before.before.before.before.requires.0, k.0), tt)
 
 check-deep-returns : (t : ℕ) → check-deep-lts.Need-returns (
@@ -89,8 +89,8 @@ check-deep-returns : (t : ℕ) → check-deep-lts.Need-returns (
 ) (check-deep-at t) check-deep.Post
 check-deep-returns t c =
     let a = c.before.before.before.before.before.before.before.before.before.before.before.args in
-    let k = at-depth a.depth _ (sym c.before.before.stops-at-depth.ensures ∙ c.before.if1.true) in
-    c.check-deep.ensures ∙ sym (none-checked a.depth a.root-record.now a.table.now a.proof.now) ∙ sym k.1 ∙ c.before.before.before.before.before.check-in.ensures
+    let k = at_depth a.depth _ (sym c.before.before.stops-at-depth.ensures ∙ c.before.if1.true) in
+    c.check-deep.ensures ∙ sym (none_checked a.depth a.root_record.now a.table.now a.proof.now) ∙ sym k.1 ∙ c.before.before.before.before.before.check-in.ensures
 
 check-deep-returns-2 : (t : ℕ) → check-deep-lts.Need-returns-2 (
   check-in-reads.Asked,

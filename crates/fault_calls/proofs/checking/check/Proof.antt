@@ -1,7 +1,7 @@
 -- `check` meets its contract: small arrays serve a depth that is not deep.
 use borrow.Author.Rules.{rules}
 use Rattle.parity_table.specs.Shape.{shallow}
-use Rattle.calls.proofs.AdmissionLaws.{room_for, shallow-up-to}
+use Rattle.calls.proofs.AdmissionLaws.{room_for, shallow_up_to}
 use Rattle.fault_calls.proofs.checking.check.Statement.{statement}
 use Rattle.fault_calls.proofs.checking.check.Tie as tie
 
@@ -21,7 +21,7 @@ slice-aggregate-check-in-2 : tie.Need-slice-aggregate-check-in-2
 slice-aggregate-check-in-2 c = search rules
 
 check-in-requires : tie.Need-check-in-requires
-check-in-requires c κs = room_for c.before.before.before.before.before.before.before.args.depth shallow (shallow-up-to c.before.before.before.before.before.before.before.args.depth c.before.before.before.is-deep.ensures c.before.before.if1.false)
+check-in-requires c κs = room_for c.before.before.before.before.before.before.before.args.depth shallow (shallow_up_to c.before.before.before.before.before.before.before.args.depth c.before.before.before.is-deep.ensures c.before.before.if1.false)
 
 returns-2 : tie.Need-returns-2
 returns-2 c = search rules

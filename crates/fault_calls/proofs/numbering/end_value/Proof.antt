@@ -4,7 +4,7 @@ use Prim.Native.Nat.{◌^◌, ◌<◌}
 use borrow.Author.Rules.{rules}
 use Rattle.repair.specs.declared.End.{End}
 use Rattle.repair.specs.Reports.{end_of}
-use Rattle.fault_calls.specs.Repairing.{endValue}
+use Rattle.fault_calls.specs.Repairing.{end_value}
 use Rattle.fault_calls.proofs.numbering.end_value.Statement.{statement}
 use Rattle.fault_calls.proofs.numbering.end_value.Tie as tie
 
@@ -21,19 +21,19 @@ enum-known-end-3 : tie.Need-enum-known-end-3
 enum-known-end-3 c = search rules
 
 twins-value-requires : tie.Need-twins-value-requires
-twins-value-requires c κs = subst (λ (z : End). endValue c.before.before.before.args.kind (end_of z) < 2 ^ 16) c.before.end3.given.1 c.before.before.before.requires
+twins-value-requires c κs = subst (λ (z : End). end_value c.before.before.before.args.kind (end_of z) < 2 ^ 16) c.before.end3.given.1 c.before.before.before.requires
 
 returns : tie.Need-returns
 returns c = search rules
 
 returns-2 : tie.Need-returns-2
-returns-2 c = sym (ap (λ (z : End). endValue c.before.before.before.args.kind (end_of z)) c.before.end.given.1)
+returns-2 c = sym (ap (λ (z : End). end_value c.before.before.before.args.kind (end_of z)) c.before.end.given.1)
 
 returns-3 : tie.Need-returns-3
 returns-3 c = search rules
 
 returns-4 : tie.Need-returns-4
-returns-4 c = c.twins-value.ensures ∙ sym (ap (λ (z : End). endValue c.before.before.before.before.args.kind (end_of z)) c.before.before.end3.given.1)
+returns-4 c = c.twins-value.ensures ∙ sym (ap (λ (z : End). end_value c.before.before.before.before.args.kind (end_of z)) c.before.before.end3.given.1)
 
 pub end-value-spec : {M : Type 1} → statement M
 end-value-spec =

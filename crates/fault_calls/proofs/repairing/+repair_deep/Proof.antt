@@ -3,9 +3,9 @@ use mathlib.Core.Path.{◌∙◌, sym}
 use Prim.Native.Nat.{ℕ, ◌<◌}
 use native.Mathlib.Omega.{arith}
 use borrow.Author.Rules.{rules}
-use Rattle.parity_table.specs.Shape.{maxDepth}
-use Rattle.calls.proofs.AdmissionLaws.{at-depth, deep-up-to, room_for}
-use Rattle.fault_calls.proofs.RepairingLaws.{as-at-none, lists-for, stops_so}
+use Rattle.parity_table.specs.Shape.{max_depth}
+use Rattle.calls.proofs.AdmissionLaws.{at_depth, deep_up_to, room_for}
+use Rattle.fault_calls.proofs.RepairingLaws.{as_at_none, lists_for, stops_so}
 use borrow.Fn.Kinds.{In}
 use borrow.Fn.PlainCycle.{Measures, is, falls, and}
 use Rattle.fault_calls.proofs.repairing.repair_deep.Reads as repair-deep
@@ -113,7 +113,7 @@ repair-deep-repair-in-requires : (t : ℕ) → repair-deep-lts.Need-repair-in-re
 ) (repair-deep-at t) repair-deep.Post
 repair-deep-repair-in-requires t c κs =
     let d = c.before.before.before.before.before.before.before.before.before.before.before.before.before.before.before.args.depth in
-    (room_for d maxDepth (deep-up-to d), lists-for d maxDepth (deep-up-to d))
+    (room_for d max_depth (deep_up_to d), lists_for d max_depth (deep_up_to d))
 
 repair-deep-enum-known-outcome : (t : ℕ) → repair-deep-lts.Need-enum-known-outcome (
   repair-in-reads.Asked,
@@ -144,7 +144,7 @@ repair-deep-repair-deep-requires : (t : ℕ) → repair-deep-lts.Need-repair-dee
   repair-deep.Post,
 ) (repair-deep-at t) repair-deep.Post
 repair-deep-repair-deep-requires t c κs =
-    let k = at-depth c.before.before.before.before.before.before.before.before.before.before.before.before.before.before.before.before.before.before.before.before.before.before.before.before.before.before.before.before.before.before.before.before.before.before.before.before.before.args.depth _ (sym c.before.before.before.before.stops-at-depth.ensures ∙ c.before.before.before.if1.true) in
+    let k = at_depth c.before.before.before.before.before.before.before.before.before.before.before.before.before.before.before.before.before.before.before.before.before.before.before.before.before.before.before.before.before.before.before.before.before.before.before.before.before.args.depth _ (sym c.before.before.before.before.stops-at-depth.ensures ∙ c.before.before.before.if1.true) in
     (omega (arith, c.before.before.before.before.before.before.before.before.before.before.before.before.before.before.before.before.before.before.before.before.before.before.before.before.before.before.before.before.before.before.before.before.before.before.before.before.before.requires.0, k.0), tt)
 
 repair-deep-same-length : (t : ℕ) → repair-deep-lts.Need-same-length (
@@ -187,9 +187,9 @@ repair-deep-returns : (t : ℕ) → repair-deep-lts.Need-returns (
 ) (repair-deep-at t) repair-deep.Post
 repair-deep-returns t c =
     let a = c.before.before.before.before.before.before.before.before.before.before.before.before.before.before.before.before.before.before.before.before.before.before.before.before.before.before.before.before.before.before.before.before.before.before.before.before.before.before.before.before.before.before.before.before.args in
-    let k = at-depth a.depth _ (sym c.before.before.before.before.before.before.before.before.before.before.before.stops-at-depth.ensures ∙ c.before.before.before.before.before.before.before.before.before.before.if1.true) in
+    let k = at_depth a.depth _ (sym c.before.before.before.before.before.before.before.before.before.before.before.stops-at-depth.ensures ∙ c.before.before.before.before.before.before.before.before.before.before.if1.true) in
     c.before.before.before.before.before.before.repair-deep.ensures
-    ∙ as-at-none a.depth a.root-record.now a.table.now a.tree.now a.marks.now a.out.now _ _ _ _ (stops_so c.before.before.before.before.before.before.before.before.before.before.before.before.before.outcome.given.1 c.before.before.before.before.before.before.before.before.before.before.before.before.before.before.before.before.before.before.before.before.before.before.before.before.before.before.before.before.repair-in.ensures) k.1
+    ∙ as_at_none a.depth a.root_record.now a.table.now a.tree.now a.marks.now a.out.now _ _ _ _ (stops_so c.before.before.before.before.before.before.before.before.before.before.before.before.before.outcome.given.1 c.before.before.before.before.before.before.before.before.before.before.before.before.before.before.before.before.before.before.before.before.before.before.before.before.before.before.before.before.repair-in.ensures) k.1
 
 repair-deep-same-length-4 : (t : ℕ) → repair-deep-lts.Need-same-length-4 (
   repair-in-reads.Asked,

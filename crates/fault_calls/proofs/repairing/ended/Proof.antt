@@ -1,7 +1,7 @@
 -- `ended` meets its contract: whole is looked at once more.
 use mathlib.Core.Path.{sym, ◌∙◌}
 use borrow.Author.Rules.{rules}
-use Rattle.octets.proofs.Choice.{not_yes, not-no}
+use Rattle.octets.proofs.Choice.{not_yes, not_no}
 use Rattle.repair.specs.Reports.{end_of}
 use Rattle.fault_calls.proofs.RepairingLaws.{misfills, ends_so}
 use Rattle.fault_calls.proofs.repairing.ended.Statement.{statement}
@@ -16,12 +16,12 @@ zero-filled-requires c κs = search rules
 returns : tie.Need-returns
 returns c =
     let r = c.before.before.before.before.before.args.report in
-    misfills _ r.stored (end_of r.end) (sym c.before.before.before.end-number.ensures ∙ c.before.before.if1.true) (sym c.before.zero-filled.ensures ∙ not_yes _ c.if2.true)
+    misfills _ r.stored (end_of r.end) (sym c.before.before.before.end-number.ensures ∙ c.before.before.if1.true) (sym c.before.zero_filled_lem.ensures ∙ not_yes _ c.if2.true)
 
 returns-2 : tie.Need-returns-2
 returns-2 c =
     let r = c.before.before.before.before.before.args.report in
-    ends_so _ r.stored (end_of r.end) (λ e. sym c.before.zero-filled.ensures ∙ not-no _ c.if2.false)
+    ends_so _ r.stored (end_of r.end) (λ e. sym c.before.zero_filled_lem.ensures ∙ not_no _ c.if2.false)
 
 returns-3 : tie.Need-returns-3
 returns-3 c =

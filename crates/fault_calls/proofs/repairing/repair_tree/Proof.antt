@@ -1,8 +1,8 @@
 -- `repair_tree` meets its contract: small arrays serve a depth that is not deep.
 use borrow.Author.Rules.{rules}
 use Rattle.parity_table.specs.Shape.{shallow}
-use Rattle.calls.proofs.AdmissionLaws.{room_for, shallow-up-to}
-use Rattle.fault_calls.proofs.RepairingLaws.{lists-for}
+use Rattle.calls.proofs.AdmissionLaws.{room_for, shallow_up_to}
+use Rattle.fault_calls.proofs.RepairingLaws.{lists_for}
 use Rattle.fault_calls.proofs.repairing.repair_tree.Statement.{statement}
 use Rattle.fault_calls.proofs.repairing.repair_tree.Tie as tie
 
@@ -48,8 +48,8 @@ slice-aggregate-repair-in-7 c = search rules
 repair-in-requires : tie.Need-repair-in-requires
 repair-in-requires c κs =
     let d = c.before.before.before.before.before.before.before.before.before.before.before.before.before.before.before.before.before.args.depth in
-    let up_to_lem = shallow-up-to d c.before.before.before.before.before.before.before.before.before.before.before.is-deep.ensures c.before.before.before.before.before.before.before.before.before.before.if1.false in
-    (room_for d shallow up_to_lem, lists-for d shallow up_to_lem)
+    let up_to_lem = shallow_up_to d c.before.before.before.before.before.before.before.before.before.before.before.is-deep.ensures c.before.before.before.before.before.before.before.before.before.before.if1.false in
+    (room_for d shallow up_to_lem, lists_for d shallow up_to_lem)
 
 same-length-4 : tie.Need-same-length-4
 same-length-4 c = search rules

@@ -3,7 +3,7 @@ use mathlib.Core.Path.{sym, ◌∙◌}
 use borrow.Author.Rules.{rules}
 use Rattle.parity_table.specs.Parse.{table_of}
 use Rattle.parity_table.proofs.Accepts.{accepted-depth}
-use Rattle.fault_calls.proofs.RepairingLaws.{marks-refuse, repairs}
+use Rattle.fault_calls.proofs.RepairingLaws.{marks_refuse, repairs}
 use Rattle.fault_calls.proofs.repairing.repair_with.Statement.{statement}
 use Rattle.fault_calls.proofs.repairing.repair_with.Tie as tie
 
@@ -19,7 +19,7 @@ same_length c = search rules
 returns : tie.Need-returns
 returns c =
     let g = c.before.before.before.before.before.before.before.before.before.before.before.before.before.before.before.before.args in
-    marks-refuse g.kind g.root.now (table_of g.words.now) g.depth g.n g.tree.now g.marks.now g.out.now _ (sym c.before.s.given.1 ∙ c.before.before.before.test-marks.ensures)
+    marks_refuse g.kind g.root.now (table_of g.words.now) g.depth g.n g.tree.now g.marks.now g.out.now _ (sym c.before.s.given.1 ∙ c.before.before.before.test-marks.ensures)
 
 enum_told : tie.Need-enum-told
 enum_told c = search rules

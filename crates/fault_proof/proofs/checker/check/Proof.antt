@@ -2,13 +2,13 @@
 use Prim.Native.Nat.{◌*◌}
 use native.Mathlib.Omega.{arith}
 use borrow.Author.Rules.{rules}
-use Rattle.symbol_hash.specs.SymbolHash.{symbolHash}
+use Rattle.symbol_hash.specs.SymbolHash.{symbol_hash}
 use Rattle.parity_table.specs.Parse.{table_of}
-use Rattle.parity_table.proofs.Shape.{k-small}
-use Rattle.parity_table.proofs.Accepts.{accepted-table, members-there}
+use Rattle.parity_table.proofs.Shape.{k_small}
+use Rattle.parity_table.proofs.Accepts.{accepted-table, members_there}
 use Rattle.model.specs.Shape.{tree}
-use Rattle.model.proofs.Hung.{tree-hangs}
-use Rattle.fault_proof.proofs.HeadLaws.{layer-refused, layer_below, equation-refused, equation-below, named-judged, layer-known, layer-size, equation-there, named-members}
+use Rattle.model.proofs.Hung.{tree_hangs}
+use Rattle.fault_proof.proofs.HeadLaws.{layer-refused, layer_below, equation-refused, equation-below, named-judged, layer-known, layer-size, equation_there, named-members}
 use Rattle.fault_proof.proofs.checker.check.Statement.{statement}
 use Rattle.fault_proof.proofs.checker.check.Tie as tie
 
@@ -21,7 +21,7 @@ returns c =
     let x = c.before.before.before.before.before.before.requires.0 in
     let t = table_of a.words.now in
     let depth = (accepted-table a.depth a.words.now x.accepted).depth in
-    layer-refused t a.proof.now a.depth depth c.before.names.result c.before.names.ensures tree (symbolHash a.kind) a.root.now c.if1.true
+    layer-refused t a.proof.now a.depth depth c.before.names.result c.before.names.ensures tree (symbol_hash a.kind) a.root.now c.if1.true
 
 value-at-requires : tie.Need-value-at-requires
 value-at-requires c κs = search rules
@@ -41,7 +41,7 @@ mul-names c =
     let t = table_of a.words.now in
     let depth = (accepted-table a.depth a.words.now x.accepted).depth in
     let known = layer-known a.depth a.words.now x.accepted c.before.value-at.result (layer_below t a.proof.now a.depth depth c.before.before.before.names.result c.before.before.before.names.ensures c.before.before.if1.false c.before.value-at.result c.before.value-at.ensures) in
-    omega (arith, c.data-count.ensures, k-small c.before.value-at.result known)
+    omega (arith, c.data-count.ensures, k_small c.before.value-at.result known)
 
 names-requires-2 : tie.Need-names-requires-2
 names-requires-2 c κs = search rules
@@ -55,7 +55,7 @@ returns-2 c =
     let j = c.before.before.before.value-at in
     let k = c.before.before.data-count in
     equation-refused t a.proof.now a.depth depth c.before.before.before.before.before.names.result c.before.before.before.before.before.names.ensures c.before.before.before.before.if1.false j.result j.ensures (3 * k.result) (layer-size a.depth a.words.now x.accepted j.result (layer_below t a.proof.now a.depth depth c.before.before.before.before.before.names.result c.before.before.before.before.before.names.ensures c.before.before.before.before.if1.false c.before.before.before.value-at.result c.before.before.before.value-at.ensures) k.result k.ensures)
-    c.before.names2.result c.before.names2.ensures tree (symbolHash a.kind) a.root.now c.if2.true
+    c.before.names2.result c.before.names2.ensures tree (symbol_hash a.kind) a.root.now c.if2.true
 
 value-at-requires-2 : tie.Need-value-at-requires-2
 value-at-requires-2 c κs = search rules
@@ -72,7 +72,7 @@ equation-requires c κs =
     let hj = layer_below t a.proof.now a.depth depth c.before.before.before.before.before.before.names.result c.before.before.before.before.before.before.names.ensures c.before.before.before.before.before.if1.false c.before.before.before.before.value-at.result c.before.before.before.before.value-at.ensures in
     let he = equation-below t a.proof.now a.depth depth c.before.before.before.before.before.before.names.result c.before.before.before.before.before.before.names.ensures c.before.before.before.before.before.if1.false j.result j.ensures (3 * k.result) (layer-size a.depth a.words.now x.accepted j.result hj k.result k.ensures)
     c.before.before.names2.result c.before.before.names2.ensures c.before.if2.false e.result e.ensures in
-    equation-there a.depth a.words.now x.accepted j.result hj k.result k.ensures e.result he a.starts.now x
+    equation_there a.depth a.words.now x.accepted j.result hj k.result k.ensures e.result he a.starts.now x
 
 add-end : tie.Need-overflow-add-end
 add-end c = search rules
@@ -102,7 +102,7 @@ judge-requires c κs =
     let hj = layer_below t a.proof.now a.depth depth c.before.before.before.before.before.before.before.before.before.names.result c.before.before.before.before.before.before.before.before.before.names.ensures c.before.before.before.before.before.before.before.before.if1.false c.before.before.before.before.before.before.before.value-at.result c.before.before.before.before.before.before.before.value-at.ensures in
     let he = equation-below t a.proof.now a.depth depth c.before.before.before.before.before.before.before.before.before.names.result c.before.before.before.before.before.before.before.before.before.names.ensures c.before.before.before.before.before.before.before.before.if1.false j.result j.ensures (3 * k.result) (layer-size a.depth a.words.now x.accepted j.result hj k.result k.ensures)
     c.before.before.before.before.before.names2.result c.before.before.before.before.before.names2.ensures c.before.before.before.before.if2.false e.result e.ensures in (
-      named-members a.depth a.words.now x.accepted j.result hj k.result k.ensures e.result he a.root.now _ c.before.before.before.before.before.before.before.before.before.before.before.before.before.before.requires.1 (members-there a.words.now j.result e.result s.result.at s.result.size s.ensures),
+      named-members a.depth a.words.now x.accepted j.result hj k.result k.ensures e.result he a.root.now _ c.before.before.before.before.before.before.before.before.before.before.before.before.before.before.requires.1 (members_there a.words.now j.result e.result s.result.at s.result.size s.ensures),
       c.before.before.before.before.before.before.before.before.before.before.before.before.before.before.requires.2,
     )
 
@@ -117,8 +117,8 @@ returns-3 c =
     let e = c.before.before.before.before.value-at2 in
     let s = c.before.before.before.equation in
     named-judged t a.proof.now a.depth depth c.before.before.before.before.before.before.before.before.before.before.names.result c.before.before.before.before.before.before.before.before.before.before.names.ensures c.before.before.before.before.before.before.before.before.before.if1.false j.result j.ensures (3 * k.result) (layer-size a.depth a.words.now x.accepted j.result (layer_below t a.proof.now a.depth depth c.before.before.before.before.before.before.before.before.before.before.names.result c.before.before.before.before.before.before.before.before.before.before.names.ensures c.before.before.before.before.before.before.before.before.before.if1.false c.before.before.before.before.before.before.before.before.value-at.result c.before.before.before.before.before.before.before.before.value-at.ensures) k.result k.ensures)
-    c.before.before.before.before.before.before.names2.result c.before.before.before.before.before.before.names2.ensures c.before.before.before.before.before.if2.false e.result e.ensures tree (symbolHash a.kind) a.root.now _
-    (members-there a.words.now j.result e.result s.result.at s.result.size s.ensures) _ (c.judge.ensures tree (tree-hangs j.result))
+    c.before.before.before.before.before.before.names2.result c.before.before.before.before.before.before.names2.ensures c.before.before.before.before.before.if2.false e.result e.ensures tree (symbol_hash a.kind) a.root.now _
+    (members_there a.words.now j.result e.result s.result.at s.result.size s.ensures) _ (c.judge.ensures tree (tree_hangs j.result))
 
 pub check-spec : {M : Type 1} → statement M
 check-spec =

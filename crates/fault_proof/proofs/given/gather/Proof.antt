@@ -5,7 +5,7 @@ use Prim.Native.Nat.{◌-◌, ◌≤◌}
 use native.Mathlib.Omega.{arith}
 use lib.ListN.{length}
 use Rattle.model.proofs.Bytes.{length-zeros}
-use Rattle.fault_proof.proofs.GivenLaws.{Gathered, gathered-start, gathered-skip, way-room, gathered-on, gathered-end}
+use Rattle.fault_proof.proofs.GivenLaws.{Gathered, gathered_start, gathered_skip, way_room, gathered_on, gathered_end}
 use Rattle.fault_proof.proofs.given.gather.Statement.{statement}
 use Rattle.fault_proof.proofs.given.gather.Tie as tie
 
@@ -19,7 +19,7 @@ loop-holds : tie.Need-loop-init invariant-loop decreases-loop
 loop-holds c =
     let a = c.before.before.before.args in
     let pre = c.before.before.before.requires in
-    (omega arith, refl, gathered-start a.b.now a.members.now a.j a.x a.at a.acc.now pre.0 (omega (arith, pre.1)))
+    (omega arith, refl, gathered_start a.b.now a.members.now a.j a.x a.at a.acc.now pre.0 (omega (arith, pre.1)))
 
 mul-y : tie.Need-overflow-mul-y invariant-loop decreases-loop
 mul-y c = omega arith
@@ -34,25 +34,25 @@ xor-at-requires : tie.Need-xor-at-requires invariant-loop decreases-loop
 xor-at-requires c κs =
     let a = c.before.before.before.before.before.before.before.before.args in
     let l = c.before.before.before.before.loop in
-    omega (arith, l.invariant.2.sized, way-room a.b.now a.members.now a.j a.x l.i (omega arith) c.before.if1.true l.from 0 l.invariant.2.room)
+    omega (arith, l.invariant.2.sized, way_room a.b.now a.members.now a.j a.x l.i (omega arith) c.before.if1.true l.from 0 l.invariant.2.room)
 
 add-from : tie.Need-overflow-add-from invariant-loop decreases-loop
 add-from c =
     let a = c.before.before.before.before.before.before.before.before.before.before.before.args in
     let l = c.before.before.before.before.before.before.before.loop in
-    omega (arith, way-room a.b.now a.members.now a.j a.x l.i (omega arith) c.before.before.before.before.if1.true l.from 0 l.invariant.2.room)
+    omega (arith, way_room a.b.now a.members.now a.j a.x l.i (omega arith) c.before.before.before.before.if1.true l.from 0 l.invariant.2.room)
 
 mul-from : tie.Need-overflow-mul-from invariant-loop decreases-loop
 mul-from c =
     let a = c.before.before.before.before.before.before.before.before.before.before.before.args in
     let l = c.before.before.before.before.before.before.before.loop in
-    omega (arith, way-room a.b.now a.members.now a.j a.x l.i (omega arith) c.before.before.before.before.if1.true l.from 0 l.invariant.2.room)
+    omega (arith, way_room a.b.now a.members.now a.j a.x l.i (omega arith) c.before.before.before.before.if1.true l.from 0 l.invariant.2.room)
 
 add-from-2 : tie.Need-overflow-add-from-2 invariant-loop decreases-loop
 add-from-2 c =
     let a = c.before.before.before.before.before.before.before.before.before.before.before.args in
     let l = c.before.before.before.before.before.before.before.loop in
-    omega (arith, way-room a.b.now a.members.now a.j a.x l.i (omega arith) c.before.before.before.before.if1.true l.from 0 l.invariant.2.room)
+    omega (arith, way_room a.b.now a.members.now a.j a.x l.i (omega arith) c.before.before.before.before.if1.true l.from 0 l.invariant.2.room)
 
 add-i : tie.Need-overflow-add-i invariant-loop decreases-loop
 add-i c = omega arith
@@ -65,8 +65,8 @@ loop-again c =
     let a = c.before.before.before.before.before.before.before.args in
     let l = c.before.before.before.loop in
     ⊎_elim
-    (λ w. (omega arith, refl, gathered-on a.b.now a.members.now a.j a.x l.i (omega arith) w.0.taken l.from a.at c.if1.from l.acc c.if1.acc w.6 (w.5 ∙ w.2.ensures) l.invariant.2))
-    (λ w. (omega arith, refl, rw (w.1, w.2) (gathered-skip a.b.now a.members.now a.j a.x l.i (omega arith) w.0.left a.at l.acc l.from l.invariant.2)))
+    (λ w. (omega arith, refl, gathered_on a.b.now a.members.now a.j a.x l.i (omega arith) w.0.taken l.from a.at c.if1.from l.acc c.if1.acc w.6 (w.5 ∙ w.2.ensures) l.invariant.2))
+    (λ w. (omega arith, refl, rw (w.1, w.2) (gathered_skip a.b.now a.members.now a.j a.x l.i (omega arith) w.0.left a.at l.acc l.from l.invariant.2)))
     c.if1.branch
 
 same_length : tie.Need-same-length invariant-loop decreases-loop
@@ -79,7 +79,7 @@ returns : tie.Need-returns invariant-loop decreases-loop
 returns c =
     let a = c.before.before.before.before.before.args in
     let l = c.before.loop in
-    gathered-end a.b.now a.members.now a.j a.x a.at l.acc l.i l.from (omega arith) l.invariant.2
+    gathered_end a.b.now a.members.now a.j a.x a.at l.acc l.i l.from (omega arith) l.invariant.2
 
 pub gather-spec : {M : Type 1} → statement M
 gather-spec =

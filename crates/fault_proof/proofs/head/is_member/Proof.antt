@@ -4,13 +4,13 @@ use Prim.Native.Nat.{◌-◌, ◌≤◌}
 use native.Mathlib.Omega.{arith}
 use lib.ListN.{length, drop}
 use Rattle.model.specs.Symbols.{count}
-use Rattle.model.proofs.Counts.{isIt}
+use Rattle.model.proofs.Counts.{is_it}
 use Rattle.fault_proof.proofs.HeadLaws.{member-here, member-next, member-none}
 use Rattle.fault_proof.proofs.head.is_member.Statement.{statement}
 use Rattle.fault_proof.proofs.head.is_member.Tie as tie
 
 abbrev invariant-loop : tie.invariant-loop
-invariant-loop members x i₀ i-end i = (i ≤ i-end) × (i-end ≡ length members) × (count (isIt x) (drop i members) ≡ count (isIt x) members)
+invariant-loop members x i₀ i-end i = (i ≤ i-end) × (i-end ≡ length members) × (count (is_it x) (drop i members) ≡ count (is_it x) members)
 
 abbrev decreases-loop : tie.decreases-loop
 decreases-loop members x i₀ i-end i = i-end - i

@@ -1,7 +1,7 @@
 -- `withholds` meets its contract: the kind, then the members.
 use mathlib.Core.Path.{◌∙◌}
 use borrow.Author.Rules.{rules}
-use Rattle.fault_proof.proofs.HeadLaws.{withholds-kind, withholds-member}
+use Rattle.fault_proof.proofs.HeadLaws.{withholds_kind, withholds-member}
 use Rattle.fault_proof.proofs.head.withholds.Statement.{statement}
 use Rattle.fault_proof.proofs.head.withholds.Tie as tie
 
@@ -11,7 +11,7 @@ kind-at-requires c κs = search rules
 returns : tie.Need-returns
 returns c =
     let a = c.before.before.before.before.args in
-    withholds-kind a.proof.now a.members.now c.before.kind_at.result c.before.kind_at.ensures c.if1.true
+    withholds_kind a.proof.now a.members.now c.before.kind_at.result c.before.kind_at.ensures c.if1.true
 
 value-at-requires : tie.Need-value-at-requires
 value-at-requires c κs = search rules

@@ -3,16 +3,16 @@ use mathlib.Core.Path.{◌≡◌, refl}
 use Prim.Native.Nat.{◌+◌, ◌-◌, ◌≤◌}
 use native.Mathlib.Omega.{arith}
 use borrow.Author.Rules.{rules}
-use Rattle.symbol_hash.specs.SymbolHash.{symbolHash}
+use Rattle.symbol_hash.specs.SymbolHash.{symbol_hash}
 use Rattle.model.specs.Shape.{tree}
 use Rattle.model.specs.Fault.{reached}
-use Rattle.model.proofs.Shapes.{tree-ok}
-use Rattle.fault_proof.proofs.WayLaws.{FitBefore, way-inside, reached-next, fit-start, fits-here, breaks-here, leads-here}
+use Rattle.model.proofs.Shapes.{tree_ok}
+use Rattle.fault_proof.proofs.WayLaws.{FitBefore, way_inside, reached-next, fit_start, fits-here, breaks-here, leads-here}
 use Rattle.fault_proof.proofs.way.check.Statement.{statement}
 use Rattle.fault_proof.proofs.way.check.Tie as tie
 
 abbrev invariant-loop : tie.invariant-loop
-invariant-loop kind j i root b at x₀ m₀ x m = (x ≤ j) × (m ≡ reached tree j i x) × FitBefore (symbolHash kind) root b at j i x
+invariant-loop kind j i root b at x₀ m₀ x m = (x ≤ j) × (m ≡ reached tree j i x) × FitBefore (symbol_hash kind) root b at j i x
 
 abbrev decreases-loop : tie.decreases-loop
 decreases-loop kind j i root b at x₀ m₀ x m = j - x
@@ -21,7 +21,7 @@ loop-holds : tie.Need-loop-init invariant-loop decreases-loop
 unfolding reached
 loop-holds c =
     let a = c.before.before.args in
-    (omega arith, refl, fit-start (symbolHash a.kind) a.root.now a.b.now a.at a.j a.i)
+    (omega arith, refl, fit_start (symbol_hash a.kind) a.root.now a.b.now a.at a.j a.i)
 
 mul-from : tie.Need-overflow-mul-from invariant-loop decreases-loop
 mul-from c = omega arith
@@ -49,7 +49,7 @@ fits-requires c κs =
     let a = c.before.before.before.before.args in
     let pre = c.before.before.before.before.requires in
     let l = c.before.loop in
-    let inside = way-inside a.root.now a.j a.i l.x l.m l.invariant.0 l.invariant.1 pre.1 pre.2 in
+    let inside = way_inside a.root.now a.j a.i l.x l.m l.invariant.0 l.invariant.1 pre.1 pre.2 in
     (omega (arith, pre.0), search rules, inside.0, λ h. (inside.1 h, omega (arith, pre.3, h)))
 
 sub-t18 : tie.Need-overflow-sub-t18 invariant-loop decreases-loop
@@ -59,13 +59,13 @@ returns : tie.Need-returns invariant-loop decreases-loop
 returns c =
     let a = c.before.before.before.before.before.before.args in
     let l = c.before.before.before.loop in
-    breaks-here (symbolHash a.kind) a.root.now a.b.now a.at a.j a.i l.x l.m l.invariant.0 l.invariant.1 c.before.fits2.result c.before.fits2.ensures l.invariant.2 c.if1.true
+    breaks-here (symbol_hash a.kind) a.root.now a.b.now a.at a.j a.i l.x l.m l.invariant.0 l.invariant.1 c.before.fits2.result c.before.fits2.ensures l.invariant.2 c.if1.true
 
 returns-2 : tie.Need-returns-2 invariant-loop decreases-loop
 returns-2 c =
     let a = c.before.before.before.before.before.before.before.args in
     let l = c.before.before.before.before.loop in
-    leads-here (symbolHash a.kind) a.root.now a.b.now a.at a.j a.i l.x l.m l.invariant.0 l.invariant.1 c.before.before.fits2.result c.before.before.fits2.ensures l.invariant.2 c.before.if1.false c.if2.true
+    leads-here (symbol_hash a.kind) a.root.now a.b.now a.at a.j a.i l.x l.m l.invariant.0 l.invariant.1 c.before.before.fits2.result c.before.before.fits2.ensures l.invariant.2 c.before.if1.false c.if2.true
 
 add-x : tie.Need-overflow-add-x invariant-loop decreases-loop
 add-x c = omega arith
@@ -82,7 +82,7 @@ rem-m : tie.Need-nonzero-rem-m invariant-loop decreases-loop
 rem-m c =
     let a = c.before.before.before.before.before.before.before.before.args in
     let l = c.before.before.before.before.before.loop in
-    omega (arith, c.data-count.ensures, tree-ok.shape.some (a.j - (l.x + 1)))
+    omega (arith, c.data-count.ensures, tree_ok.shape.some (a.j - (l.x + 1)))
 
 loop-less : tie.Need-loop-smaller invariant-loop decreases-loop
 loop-less c = omega arith
@@ -91,7 +91,7 @@ loop-again : tie.Need-loop-preserved invariant-loop decreases-loop
 loop-again c =
     let a = c.before.before.before.before.before.before.before.before.args in
     let l = c.before.before.before.before.before.loop in
-    (omega (arith, l.invariant.0, c.before.if2.false), reached-next (symbolHash a.kind) a.root.now a.b.now a.at a.j a.i l.x l.m l.invariant.0 l.invariant.1 c.data-count.result c.data-count.ensures, fits-here (symbolHash a.kind) a.root.now a.b.now a.at a.j a.i l.x l.m l.invariant.0 l.invariant.1 c.before.before.before.fits2.result c.before.before.before.fits2.ensures l.invariant.2 c.before.before.if1.false)
+    (omega (arith, l.invariant.0, c.before.if2.false), reached-next (symbol_hash a.kind) a.root.now a.b.now a.at a.j a.i l.x l.m l.invariant.0 l.invariant.1 c.data-count.result c.data-count.ensures, fits-here (symbol_hash a.kind) a.root.now a.b.now a.at a.j a.i l.x l.m l.invariant.0 l.invariant.1 c.before.before.before.fits2.result c.before.before.before.fits2.ensures l.invariant.2 c.before.before.if1.false)
 
 pub check-spec : {M : Type 1} → statement M
 check-spec =

@@ -3,8 +3,8 @@ use Prim.Native.Nat.{◌-◌}
 use native.Mathlib.Omega.{arith}
 use lib.ListN.{drop}
 use borrow.Author.Rules.{rules}
-use Rattle.symbol_hash.specs.SymbolHash.{symbolHash}
-use Rattle.model.proofs.Shapes.{tree-ok}
+use Rattle.symbol_hash.specs.SymbolHash.{symbol_hash}
+use Rattle.model.proofs.Shapes.{tree_ok}
 use Rattle.fault_proof.proofs.WayLaws.{above-inside, path-none, path-some}
 use Rattle.fault_proof.proofs.way.check_path.Statement.{statement}
 use Rattle.fault_proof.proofs.way.check_path.Tie as tie
@@ -12,7 +12,7 @@ use Rattle.fault_proof.proofs.way.check_path.Tie as tie
 returns : tie.Need-returns
 returns c =
     let a = c.before.before.before.args in
-    path-none (symbolHash a.kind) a.root.now (drop a.at a.b.now) a.j a.i c.if1.true
+    path-none (symbol_hash a.kind) a.root.now (drop a.at a.b.now) a.j a.i c.if1.true
 
 sub-check : tie.Need-overflow-sub-check
 sub-check c = search rules
@@ -26,7 +26,7 @@ data-count-requires c κs = search rules
 rem-check : tie.Need-nonzero-rem-check
 rem-check c =
     let a = c.before.before.before.before.args in
-    omega (arith, c.data-count.ensures, tree-ok.shape.some (a.j - 1))
+    omega (arith, c.data-count.ensures, tree_ok.shape.some (a.j - 1))
 
 check-requires : tie.Need-check-requires
 check-requires c κs =
@@ -38,7 +38,7 @@ check-requires c κs =
 returns-2 : tie.Need-returns-2
 returns-2 c =
     let a = c.before.before.before.before.before.args in
-    path-some (symbolHash a.kind) a.root.now (drop a.at a.b.now) a.j a.i c.before.data-count.result _ c.before.before.if1.false c.before.data-count.ensures c.check.ensures
+    path-some (symbol_hash a.kind) a.root.now (drop a.at a.b.now) a.j a.i c.before.data-count.result _ c.before.before.if1.false c.before.data-count.ensures c.check.ensures
 
 pub check-path-spec : {M : Type 1} → statement M
 check-path-spec =

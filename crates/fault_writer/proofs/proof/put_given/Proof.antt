@@ -5,7 +5,7 @@ use mathlib.Core.Path.{◌∙◌, ◌≡◌, ap, refl, subst, sym}
 use Prim.Native.Nat.{◌+◌, ◌-◌, ◌<◌, ◌≤◌, ℕ}
 use native.Mathlib.Omega.{arith}
 use lib.ListN.{length}
-use Rattle.fault_writer.proofs.ProofLaws.{GivenAt, given-ends, given-room, given-skip, given-start, given-turn, given-written, member-layers}
+use Rattle.fault_writer.proofs.ProofLaws.{GivenAt, given-ends, given-room, given_skip, given_start, given-turn, given-written, member-layers}
 use Rattle.fault_writer.proofs.proof.put_given.Statement.{statement}
 use Rattle.fault_writer.proofs.proof.put_given.Tie as tie
 
@@ -18,7 +18,7 @@ decreases-loop tree members x j out₀ at p₀ i₀ i-end out p i = i-end - i
 loop-holds : tie.Need-loop-init invariant-loop decreases-loop
 loop-holds c =
     let s = c.before.before.before in
-    (omega arith, refl, given-start s.args.tree.now s.args.members.now s.args.x s.args.j s.args.at s.args.out.now)
+    (omega arith, refl, given_start s.args.tree.now s.args.members.now s.args.x s.args.j s.args.at s.args.out.now)
 
 mul-y : tie.Need-overflow-mul-y invariant-loop decreases-loop
 mul-y c = omega arith
@@ -65,7 +65,7 @@ loop-again c =
     let b = member-layers s.args.tree.now s.args.members.now s.args.j s.requires.0 l.i h in
     ⊎_elim
     (λ w. (omega arith, l.invariant.1, given-turn s.args.tree.now s.args.members.now s.args.x s.args.j s.args.at s.args.out.now s.requires.1 l.i l.p l.out l.invariant.2 h w.0.taken b c.if1.out c.if1.p (ap length w.5 ∙ w.2.kept.1.1.1.0) (w.5 ∙ w.2.ensures) (w.6 ∙ omega arith)))
-    (λ w. (omega arith, l.invariant.1, subst (λ (o : List ℕ). GivenAt s.args.tree.now s.args.members.now s.args.x s.args.j s.args.at s.args.out.now (l.i + 1) c.if1.p o) (sym w.1) (subst (λ (q : ℕ). GivenAt s.args.tree.now s.args.members.now s.args.x s.args.j s.args.at s.args.out.now (l.i + 1) q l.out) (sym w.2) (given-skip s.args.tree.now s.args.members.now s.args.x s.args.j s.args.at s.args.out.now s.requires.1 l.i l.p l.out l.invariant.2 h w.0.left))))
+    (λ w. (omega arith, l.invariant.1, subst (λ (o : List ℕ). GivenAt s.args.tree.now s.args.members.now s.args.x s.args.j s.args.at s.args.out.now (l.i + 1) c.if1.p o) (sym w.1) (subst (λ (q : ℕ). GivenAt s.args.tree.now s.args.members.now s.args.x s.args.j s.args.at s.args.out.now (l.i + 1) q l.out) (sym w.2) (given_skip s.args.tree.now s.args.members.now s.args.x s.args.j s.args.at s.args.out.now s.requires.1 l.i l.p l.out l.invariant.2 h w.0.left))))
     c.if1.branch
 
 same_length : tie.Need-same-length invariant-loop decreases-loop

@@ -7,8 +7,8 @@ use lib.ListN.{length}
 use borrow.Author.Rules.{rules}
 use Rattle.parity_table.specs.Parse.{over}
 use Rattle.model.proofs.Hung.{proof-hung}
-use Rattle.fault_writer.proofs.ProofLaws.{given-length, proof-length, proof-put}
-use Rattle.fault_writer.proofs.WayLaws.{layers-fewer}
+use Rattle.fault_writer.proofs.ProofLaws.{given-length, proof-length, proof_put}
+use Rattle.fault_writer.proofs.WayLaws.{layers_fewer}
 use Rattle.fault_writer.proofs.proof.put_proof.Statement.{statement}
 use Rattle.fault_writer.proofs.proof.put_proof.Tie as tie
 
@@ -28,7 +28,7 @@ put-path-requires c κs =
     let g = c.before.before.before in
     let s = g.before.before.before.before.before.before.before.before.before in
     let n = given-length s.args.tree.now s.args.members.now s.args.j s.args.e s.args.x s.requires.0 in
-    (layers-fewer s.args.j s.requires.0.symbols 0 s.args.tree.now (omega arith) s.requires.0.layers, omega (arith, n, s.requires.3, g.put-given.ensures.0, g.put-given.auto, g.before.before.before.before.put.auto))
+    (layers_fewer s.args.j s.requires.0.symbols 0 s.args.tree.now (omega arith) s.requires.0.layers, omega (arith, n, s.requires.3, g.put-given.ensures.0, g.put-given.auto, g.before.before.before.before.put.auto))
 
 mul-result : tie.Need-overflow-mul-result
 mul-result c = search rules
@@ -54,7 +54,7 @@ returns c =
     λ S h.
     let q = sym (proof-hung S a.j h a.tree.now a.e a.x a.members.now) in (
       omega (arith, n, m, ap length q, g.put-given.ensures.0),
-      proof-put a.tree.now a.members.now a.j a.e a.x s.requires.0 a.out.now _ _ _ _ s.requires.3 b.put.auto.1.1.1.1.0 b.put.ensures g.put-given.ensures.1 g.put-given.ensures.0 c.before.before.put-path.ensures
+      proof_put a.tree.now a.members.now a.j a.e a.x s.requires.0 a.out.now _ _ _ _ s.requires.3 b.put.auto.1.1.1.1.0 b.put.ensures g.put-given.ensures.1 g.put-given.ensures.0 c.before.before.put-path.ensures
           ∙ ap (λ (p : List ℕ). over p a.out.now) q,
     )
 

@@ -3,11 +3,11 @@ use mathlib.Core.Path.{refl, subst, sym}
 use Prim.Native.Nat.{◌%◌, ◌-◌, suc, ℕ}
 use native.Mathlib.Omega.{arith}
 use borrow.Author.Rules.{rules}
-use Rattle.fault_writer.proofs.WayLaws.{above-layers, path-none, path-put}
+use Rattle.fault_writer.proofs.WayLaws.{above-layers, path-none, path_put}
 use Rattle.fault_writer.specs.Room.{Layers}
-use Rattle.model.proofs.Shapes.{tree-ok}
+use Rattle.model.proofs.Shapes.{tree_ok}
 use Rattle.model.specs.Shape.{tree}
-use Rattle.model.specs.Symbols.{symAt}
+use Rattle.model.specs.Symbols.{sym_at}
 use Rattle.fault_writer.proofs.way.put_path.Statement.{statement}
 use Rattle.fault_writer.proofs.way.put_path.Tie as tie
 
@@ -18,7 +18,7 @@ data-count-requires : tie.Need-data-count-requires
 data-count-requires c κs = search rules
 
 rem-put-way : tie.Need-nonzero-rem-put-way
-rem-put-way c = omega (arith, c.data-count.ensures, tree-ok.shape.some (c.before.before.before.before.args.j - 1))
+rem-put-way c = omega (arith, c.data-count.ensures, tree_ok.shape.some (c.before.before.before.before.args.j - 1))
 
 put-way-requires : tie.Need-put-way-requires
 put-way-requires c κs =
@@ -34,12 +34,12 @@ same_length c = search rules
 returns : tie.Need-returns
 returns c =
     let s = c.before.before.before.before.before.before.before.before in
-    path-put (symAt tree s.args.tree.now) s.args.out.now _ s.args.at s.args.i s.args.j _ c.before.before.before.before.before.if1.true c.before.before.before.before.data-count.ensures c.before.before.put-way.ensures
+    path_put (sym_at tree s.args.tree.now) s.args.out.now _ s.args.at s.args.i s.args.j _ c.before.before.before.before.before.if1.true c.before.before.before.before.data-count.ensures c.before.before.put-way.ensures
 
 returns-2 : tie.Need-returns-2
 returns-2 c =
     let s = c.before.before.before in
-    path-none (symAt tree s.args.tree.now) s.args.out.now s.args.out.now s.args.at s.args.i s.args.j c.if1.false refl
+    path-none (sym_at tree s.args.tree.now) s.args.out.now s.args.out.now s.args.at s.args.i s.args.j c.if1.false refl
 
 pub put-path-spec : {M : Type 1} → statement M
 put-path-spec =

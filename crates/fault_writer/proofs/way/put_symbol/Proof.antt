@@ -4,9 +4,9 @@ use mathlib.Core.Path.{◌∙◌, ap, sym}
 use Prim.Native.Nat.{ℕ}
 use native.Mathlib.Omega.{arith}
 use borrow.Author.Rules.{rules}
-use Rattle.fault_writer.proofs.WayLaws.{symbol-there}
+use Rattle.fault_writer.proofs.WayLaws.{symbol_there}
 use Rattle.fault_writer.specs.Room.{splice}
-use Rattle.model.proofs.Hung.{symAt-hung}
+use Rattle.model.proofs.Hung.{sym_at-hung}
 use Rattle.fault_writer.proofs.way.put_symbol.Statement.{statement}
 use Rattle.fault_writer.proofs.way.put_symbol.Tie as tie
 
@@ -42,8 +42,8 @@ returns c =
     let s = c.before.before.before.before.before.before.before.before.args in
     let p = c.before.before.before.before.before.first-place in
     λ S h.
-    c.before.before.copy_at.ensures ∙ ap (splice s.out.now s.at) (symbol-there s.tree.now s.l s.m p.result p.ensures)
-    ∙ ap (λ (f : ℕ → List ℕ). splice s.out.now s.at (f s.m)) (sym (symAt-hung S s.l h s.tree.now))
+    c.before.before.copy_at.ensures ∙ ap (splice s.out.now s.at) (symbol_there s.tree.now s.l s.m p.result p.ensures)
+    ∙ ap (λ (f : ℕ → List ℕ). splice s.out.now s.at (f s.m)) (sym (sym_at-hung S s.l h s.tree.now))
 
 pub put-symbol-spec : {M : Type 1} → statement M
 put-symbol-spec =

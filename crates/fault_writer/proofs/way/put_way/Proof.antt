@@ -2,9 +2,9 @@
 use mathlib.Core.Path.{◌∙◌}
 use Prim.Native.Nat.{◌-◌}
 use native.Mathlib.Omega.{arith}
-use Rattle.fault_writer.proofs.WayLaws.{WayAt, up-layers, way_end, way-start, way-turn}
-use Rattle.model.proofs.Hung.{tree-hangs}
-use Rattle.model.proofs.Shapes.{tree-ok}
+use Rattle.fault_writer.proofs.WayLaws.{WayAt, up_layers, way_end, way_start, way_turn}
+use Rattle.model.proofs.Hung.{tree_hangs}
+use Rattle.model.proofs.Shapes.{tree_ok}
 use Rattle.model.specs.Shape.{tree}
 use Rattle.fault_writer.proofs.way.put_way.Statement.{statement}
 use Rattle.fault_writer.proofs.way.put_way.Tie as tie
@@ -21,7 +21,7 @@ put-symbol-requires c κs = let pre = c.before.before.before.requires in (pre.0,
 loop-holds : tie.Need-loop-init invariant-loop decreases-loop
 loop-holds c =
     let s = c.before.before.before.before.before.before.args in
-    way-start s.tree.now s.j s.i s.at _
+    way_start s.tree.now s.j s.i s.at _
 
 sub-l : tie.Need-overflow-sub-l invariant-loop decreases-loop
 sub-l c = omega arith
@@ -30,7 +30,7 @@ data-count-requires : tie.Need-data-count-requires invariant-loop decreases-loop
 data-count-requires c κs = omega (arith, c.before.before.before.before.before.before.before.before.requires.0.layer, c.before.loop.invariant.within)
 
 rem-m : tie.Need-nonzero-rem-m invariant-loop decreases-loop
-rem-m c = omega (arith, c.data-count.ensures, tree-ok.shape.some (c.before.before.loop.l - 1))
+rem-m c = omega (arith, c.data-count.ensures, tree_ok.shape.some (c.before.before.loop.l - 1))
 
 add-p : tie.Need-overflow-add-p invariant-loop decreases-loop
 add-p c =
@@ -42,7 +42,7 @@ put-symbol-requires-2 c κs =
     let s = c.before.before.before.before.before.before.before.before.before.before in
     let a = s.args in
     let l = c.before.before.before.loop in (
-      up-layers a.tree.now a.j a.i a.at _ s.requires.0 (omega (arith, s.requires.1)) l.l l.m l.p l.out l.invariant c.before.before.loop-test.true _ c.before.data-count.ensures,
+      up_layers a.tree.now a.j a.i a.at _ s.requires.0 (omega (arith, s.requires.1)) l.l l.m l.p l.out l.invariant c.before.before.loop-test.true _ c.before.data-count.ensures,
       omega (arith, l.invariant.spot, l.invariant.within, l.invariant.sized, s.requires.1),
     )
 
@@ -55,7 +55,7 @@ loop-again c =
     let s = b.before.before.before.before.before.before.before.before in
     let a = s.args in
     let l = b.before.loop in
-    way-turn a.tree.now a.j a.i a.at _ s.requires.0 (omega (arith, s.requires.1)) l.l l.m l.p l.out l.invariant b.loop-test.true _ c.before.before.before.before.data-count.ensures _ c.before.before.put-symbol2.auto.1.1.1.0 (c.before.before.put-symbol2.ensures tree (tree-hangs _))
+    way_turn a.tree.now a.j a.i a.at _ s.requires.0 (omega (arith, s.requires.1)) l.l l.m l.p l.out l.invariant b.loop-test.true _ c.before.before.before.before.data-count.ensures _ c.before.before.put-symbol2.auto.1.1.1.0 (c.before.before.put-symbol2.ensures tree (tree_hangs _))
 
 same_length : tie.Need-same-length invariant-loop decreases-loop
 same_length c = c.before.loop.invariant.sized ∙ c.before.before.before.before.put-symbol.auto.1.1.1.0
@@ -66,7 +66,7 @@ returns c =
     let a = s.args in
     let l = c.before.loop in
     let p = c.before.before.before.before.put-symbol in
-    way_end a.tree.now a.j a.i a.at _ s.requires.0 (omega (arith, s.requires.1)) l.l l.m l.p l.out l.invariant a.out.now p.auto.1.1.1.0 (p.ensures tree (tree-hangs _)) (omega arith)
+    way_end a.tree.now a.j a.i a.at _ s.requires.0 (omega (arith, s.requires.1)) l.l l.m l.p l.out l.invariant a.out.now p.auto.1.1.1.0 (p.ensures tree (tree_hangs _)) (omega arith)
 
 pub put-way-spec : {M : Type 1} → statement M
 put-way-spec =

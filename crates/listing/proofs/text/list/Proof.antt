@@ -6,13 +6,13 @@ use native.Mathlib.Omega.{arith}
 use lib.ListN.{length, take}
 use lib.Seq.{sets}
 use borrow.Author.Rules.{rules}
-use Rattle.octets.proofs.Writes.{Putting, putting-start, putting-step, putting-room, putting-end}
-use Rattle.listing.proofs.TextLaws.{line_of, linesLeft, lines-turn, lines_none, lines-length, symbol-length, line-of, listed, headed}
+use Rattle.octets.proofs.Writes.{Putting, putting_start, putting_step, putting_room, putting_end}
+use Rattle.listing.proofs.TextLaws.{line_of, lines_left, lines_turn, lines_none, lines_length, symbol-length, line_of_lem, listed, headed}
 use Rattle.listing.proofs.text.list.Statement.{statement}
 use Rattle.listing.proofs.text.list.Tie as tie
 
 abbrev invariant-loop : tie.invariant-loop
-invariant-loop tree text₀ symbols at₀ i₀ text at i = (i ≤ 16) × Putting text₀ at₀ (linesLeft tree 0) text at (linesLeft tree i)
+invariant-loop tree text₀ symbols at₀ i₀ text at i = (i ≤ 16) × Putting text₀ at₀ (lines_left tree 0) text at (lines_left tree i)
 
 abbrev decreases-loop : tie.decreases-loop
 decreases-loop tree text₀ symbols at₀ i₀ text at i = 16 - i
@@ -25,7 +25,7 @@ copy-at-requires c κs = search rules
 
 loop-holds : tie.Need-loop-init invariant-loop decreases-loop
 loop-holds c =
-    (omega arith, putting-start c.before.copy_at.new.1.0 10 (linesLeft c.before.before.before.before.args.tree.now 0))
+    (omega arith, putting_start c.before.copy_at.new.1.0 10 (lines_left c.before.before.before.before.args.tree.now 0))
 
 mul-s : tie.Need-overflow-mul-s invariant-loop decreases-loop
 mul-s c = search rules
@@ -51,7 +51,7 @@ put-line-requires c κs =
     let l = c.before.before.before.loop in (
       symbol-length t l.i (omega arith),
       omega
-          (arith, ap length (line-of t l.i), l.invariant.1.long, putting-room l.invariant.1 (line_of t l.i) (linesLeft t (l.i + 1)) (lines-turn t l.i (omega arith)) (omega (arith, lines-length t))),
+          (arith, ap length (line_of_lem t l.i), l.invariant.1.long, putting_room l.invariant.1 (line_of t l.i) (lines_left t (l.i + 1)) (lines_turn t l.i (omega arith)) (omega (arith, lines_length t))),
     )
 
 add-i : tie.Need-overflow-add-i invariant-loop decreases-loop
@@ -65,9 +65,9 @@ loop-again c =
     let t = c.before.before.before.before.before.before.before.before.before.args.tree.now in
     let l = c.before.before.before.before.loop in
     let r = c.put-line in
-    let e = line-of t l.i in (
+    let e = line_of_lem t l.i in (
       omega arith,
-      putting-step l.invariant.1 (line_of t l.i) (linesLeft t (l.i + 1)) (lines-turn t l.i (omega arith)) r.new.0 r.result
+      putting_step l.invariant.1 (line_of t l.i) (lines_left t (l.i + 1)) (lines_turn t l.i (omega arith)) r.new.0 r.result
           (r.ensures.1 ∙ ap (sets l.text l.at) e) (r.ensures.0 ∙ ap (λ (x : List ℕ). l.at + length x) e),
     )
 
@@ -76,7 +76,7 @@ returns c =
     let a = c.before.before.before.before.before.before.args in
     let l = c.before.loop in
     let h = c.before.before.before.copy_at in
-    (putting-end l.invariant.1 (lines_none a.tree.now l.i (omega arith))).1
+    (putting_end l.invariant.1 (lines_none a.tree.now l.i (omega arith))).1
     ∙ listed a.tree.now h.new.1.0 (omega arith) (ap (take 10) h.ensures ∙ headed a.text.now)
 
 pub list-spec : {M : Type 1} → statement M

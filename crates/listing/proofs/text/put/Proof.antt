@@ -5,12 +5,12 @@ use lib.ListN.{length, replicate, length-take}
 use lib.Seq.{take_all}
 use borrow.Author.Rules.{rules}
 use Rattle.listing.proofs.TextLaws.{listing-length}
-use Rattle.listing.proofs.CodedLaws.{house-written, printed-nothing, printed-block, never-stops}
+use Rattle.listing.proofs.CodedLaws.{house-written, printed_nothing, printed-block, never_stops}
 use Rattle.listing.proofs.text.put.Statement.{statement}
 use Rattle.listing.proofs.text.put.Tie as tie
 
 returns : tie.Need-returns
-returns c = ((omega arith, refl), printed-nothing c.before.before.args.input.now c.if1.true)
+returns c = ((omega arith, refl), printed_nothing c.before.before.args.input.now c.if1.true)
 
 slice-aggregate-write-bytes : tie.Need-slice-aggregate-write-bytes
 slice-aggregate-write-bytes c = search rules
@@ -61,7 +61,7 @@ returns-3 c =
     let h = c.before.before.before.before.before.before.before.before.before.before.before.write_bytes in
     let w = c.before.before.before.before.before.write-tree in
     let e = house-written h.result (replicate 244 0) h.new.0 refl h.ensures.0 h.ensures.1 in
-    absurd (never-stops h.new.0 i e c.before.before.before.before.before.before.before.before.before.before.before.before.before.if1.false w.result _ _ _ w.ensures _ c.enum-told2.given.1)
+    absurd (never_stops h.new.0 i e c.before.before.before.before.before.before.before.before.before.before.before.before.before.if1.false w.result _ _ _ w.ensures _ c.enum-told2.given.1)
 
 pub put_spec : {M : Type 1} → statement M
 put_spec =

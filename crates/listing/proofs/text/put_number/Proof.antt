@@ -4,7 +4,7 @@ use native.Mathlib.Omega.{arith}
 use lib.ListN.{length}
 use lib.Seq.{sets}
 use borrow.Author.Rules.{rules}
-use Rattle.listing.proofs.TextLaws.{one-digit, two_digits, two-stores}
+use Rattle.listing.proofs.TextLaws.{one_digit, two_digits, two-stores}
 use Rattle.listing.proofs.text.put_number.Statement.{statement}
 use Rattle.listing.proofs.text.put_number.Tie as tie
 
@@ -12,7 +12,7 @@ add-text : tie.Need-overflow-add-text
 add-text c = search rules
 
 element-write-text : tie.Need-element-write-text
-element-write-text c = omega (arith, ap length (one-digit c.before.args.n c.if1.true))
+element-write-text c = omega (arith, ap length (one_digit c.before.args.n c.if1.true))
 
 add-result : tie.Need-overflow-add-result
 add-result c = search rules
@@ -20,7 +20,7 @@ add-result c = search rules
 returns : tie.Need-returns
 returns c =
     let a = c.before.args in
-    let e = one-digit a.n c.if1.true in
+    let e = one_digit a.n c.if1.true in
     (omega (arith, ap length e), ap (sets a.text.now a.at) e)
 
 add-text-2 : tie.Need-overflow-add-text-2

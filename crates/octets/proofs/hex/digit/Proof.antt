@@ -1,6 +1,6 @@
 -- `digit` meets its contract.
 use borrow.Author.Rules.{rules}
-use Rattle.octets.proofs.HexLaws.{digit_low, digit-high}
+use Rattle.octets.proofs.HexLaws.{digit_low, digit_high}
 use Rattle.octets.proofs.hex.digit.Statement.{statement}
 use Rattle.octets.proofs.hex.digit.Tie as tie
 
@@ -14,7 +14,7 @@ returns : tie.Need-returns
 returns c = digit_low _ _ c.if1.true
 
 returns-2 : tie.Need-returns-2
-returns-2 c = digit-high _ _ c.if1.false
+returns-2 c = digit_high _ _ c.if1.false
 
 pub digit-spec : {M : Type 1} → statement M
 digit-spec = tie.close (tie.spec add-result add-result-2 returns returns-2)

@@ -4,20 +4,20 @@ use Prim.Native.Nat.{◌-◌, ◌*◌, ◌≤◌}
 use native.Mathlib.Omega.{arith}
 use lib.ListN.{length, take, length-set}
 use borrow.Author.Rules.{rules}
-use Rattle.octets.specs.Hex.{hexOf, lower}
-use Rattle.octets.proofs.HexLaws.{hex-more, hex-all}
+use Rattle.octets.specs.Hex.{hex_of, lower}
+use Rattle.octets.proofs.HexLaws.{hex_more, hex_all}
 use Rattle.octets.proofs.hex.put_hex.Statement.{statement}
 use Rattle.octets.proofs.hex.put_hex.Tie as tie
 
 abbrev invariant-loop : tie.invariant-loop
 invariant-loop s out₀ i₀ i-end out i =
-    (i ≤ i-end) × (i-end ≡ length s) × (length out ≡ length s * 2) × (take (i * 2) out ≡ hexOf lower (take i s))
+    (i ≤ i-end) × (i-end ≡ length s) × (length out ≡ length s * 2) × (take (i * 2) out ≡ hex_of lower (take i s))
 
 abbrev decreases-loop : tie.decreases-loop
 decreases-loop s out₀ i₀ i-end out i = length s - i
 
 loop-holds : tie.Need-loop-init invariant-loop decreases-loop
-unfolding hexOf
+unfolding hex_of
 loop-holds c = (omega arith, refl, omega arith, refl)
 
 shared-slice-read-high : tie.Need-shared-slice-read-high invariant-loop decreases-loop
@@ -55,13 +55,13 @@ loop-less c = search rules
 
 loop-again : tie.Need-loop-preserved invariant-loop decreases-loop
 loop-again c =
-    (omega arith, c.before.before.before.before.before.loop.invariant.1, simp length-set c.before.before.before.before.before.loop.invariant.2, hex-more lower _ _ c.before.before.before.before.before.loop.i _ _ (omega arith) c.before.before.before.before.before.loop.invariant.2 c.before.before.before.before.before.loop.invariant.3 c.before.before.high.ensures c.low.ensures)
+    (omega arith, c.before.before.before.before.before.loop.invariant.1, simp length-set c.before.before.before.before.before.loop.invariant.2, hex_more lower _ _ c.before.before.before.before.before.loop.i _ _ (omega arith) c.before.before.before.before.before.loop.invariant.2 c.before.before.before.before.before.loop.invariant.3 c.before.before.high.ensures c.low.ensures)
 
 same_length : tie.Need-same-length invariant-loop decreases-loop
 same_length c = omega arith
 
 returns : tie.Need-returns invariant-loop decreases-loop
-returns c = hex-all lower _ _ c.before.loop.i (omega arith) c.before.loop.invariant.2 c.before.loop.invariant.3
+returns c = hex_all lower _ _ c.before.loop.i (omega arith) c.before.loop.invariant.2 c.before.loop.invariant.3
 
 pub put-hex-spec : {M : Type 1} → statement M
 put-hex-spec =

@@ -6,7 +6,7 @@ use lib.Dec.{eqb}
 use lib.ListN.{length, take, replicate}
 use borrow.Author.Rules.{rules}
 use Rattle.octets.specs.ByteLists.{same}
-use Rattle.octets.proofs.ListLaws.{zero_turn, zero-end}
+use Rattle.octets.proofs.ListLaws.{zero_turn, zero_end}
 use Rattle.octets.proofs.lists.is_zero.Statement.{statement}
 use Rattle.octets.proofs.lists.is_zero.Tie as tie
 
@@ -40,7 +40,7 @@ loop-again c =
 returns : tie.Need-returns invariant-loop decreases-loop
 returns c =
     let l = c.before.loop in
-    zero-end c.before.before.before.args.s.now l.i l.most (omega arith) l.invariant.2
+    zero_end c.before.before.before.args.s.now l.i l.most (omega arith) l.invariant.2
 
 pub is-zero-spec : {M : Type 1} → statement M
 is-zero-spec =

@@ -3,7 +3,7 @@ use mathlib.Core.Path.{◌≡◌, refl, sym}
 use Prim.Native.Nat.{◌-◌, ◌≤◌}
 use native.Mathlib.Omega.{arith}
 use lib.ListN.{length, take, drop, length-set}
-use Rattle.octets.proofs.ListLaws.{length_part, get_d_part, XorSo, xor-start, xor-turn, xor-end}
+use Rattle.octets.proofs.ListLaws.{length_part, get_d_part, XorSo, xor_start, xor_turn, xor_end}
 use Rattle.octets.proofs.lists.xor_at.Statement.{statement}
 use Rattle.octets.proofs.lists.xor_at.Tie as tie
 
@@ -15,7 +15,7 @@ abbrev decreases-loop : tie.decreases-loop
 decreases-loop s₀ t at i₀ i-end s i = i-end - i
 
 loop-holds : tie.Need-loop-init invariant-loop decreases-loop
-loop-holds c = (omega arith, refl, refl, xor-start _ _)
+loop-holds c = (omega arith, refl, refl, xor_start _ _)
 
 slice-read-s : tie.Need-slice-read-s invariant-loop decreases-loop
 slice-read-s c = omega arith
@@ -37,14 +37,14 @@ loop-less c = omega arith
 
 loop-again : tie.Need-loop-preserved invariant-loop decreases-loop
 loop-again c =
-    (omega arith, c.before.before.before.loop.invariant.1, simp length-set c.before.before.before.loop.invariant.2, xor-turn _ (take (length c.before.before.before.before.args.s.now) (drop c.before.before.before.before.args.at c.before.before.before.before.args.t.now)) c.before.before.before.loop.s c.before.before.before.loop.i _ (length_part c.before.before.before.before.args.t.now c.before.before.before.before.args.at (length c.before.before.before.before.args.s.now) c.before.before.before.before.requires) (omega arith) (sym (get_d_part c.before.before.before.before.args.t.now c.before.before.before.before.args.at (length c.before.before.before.before.args.s.now) c.before.before.before.loop.i (omega arith))) c.before.before.before.loop.invariant.3)
+    (omega arith, c.before.before.before.loop.invariant.1, simp length-set c.before.before.before.loop.invariant.2, xor_turn _ (take (length c.before.before.before.before.args.s.now) (drop c.before.before.before.before.args.at c.before.before.before.before.args.t.now)) c.before.before.before.loop.s c.before.before.before.loop.i _ (length_part c.before.before.before.before.args.t.now c.before.before.before.before.args.at (length c.before.before.before.before.args.s.now) c.before.before.before.before.requires) (omega arith) (sym (get_d_part c.before.before.before.before.args.t.now c.before.before.before.before.args.at (length c.before.before.before.before.args.s.now) c.before.before.before.loop.i (omega arith))) c.before.before.before.loop.invariant.3)
 
 same_length : tie.Need-same-length invariant-loop decreases-loop
 same_length c = omega arith
 
 returns : tie.Need-returns invariant-loop decreases-loop
 returns c =
-    xor-end _ _ _ c.before.loop.i
+    xor_end _ _ _ c.before.loop.i
     (length_part c.before.before.args.t.now c.before.before.args.at (length c.before.before.args.s.now) c.before.before.requires)
     (omega arith) c.before.loop.invariant.3
 

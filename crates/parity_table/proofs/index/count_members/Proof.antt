@@ -3,7 +3,7 @@ use mathlib.Core.Path.{◌≡◌, ap}
 use Prim.Native.Nat.{ℕ, ◌+◌, ◌-◌, ◌≤◌}
 use native.Mathlib.Omega.{arith}
 use lib.ListN.{length}
-use Rattle.parity_table.proofs.Starts.{left, members-go, members-stop, members-over}
+use Rattle.parity_table.proofs.Starts.{left, members_go, members_stop, members-over}
 use native.Mathlib.Nat.{add-zero, add_assoc}
 use Rattle.parity_table.proofs.index.count_members.Statement.{statement}
 use Rattle.parity_table.proofs.index.count_members.Tie as tie
@@ -33,7 +33,7 @@ returns : tie.Need-returns invariant-loop decreases-loop
 returns c =
     let a = c.before.before.before.before.args in
     let l = c.before.before.before.loop in
-    omega (arith, members-stop a.ws.now (a.at + l.n) (omega arith) c.if1.true, l.invariant.1)
+    omega (arith, members_stop a.ws.now (a.at + l.n) (omega arith) c.if1.true, l.invariant.1)
 
 add-n : tie.Need-overflow-add-n invariant-loop decreases-loop
 add-n c = omega arith
@@ -47,7 +47,7 @@ loop-again c =
     let l = c.before.before.before.loop in (
       omega arith,
       omega
-          (arith, members-go a.ws.now (a.at + l.n) (omega arith) (omega (arith, c.if1.false)), l.invariant.1, ap (λ (k : ℕ). left a.ws.now k) (add_assoc a.at l.n 1)),
+          (arith, members_go a.ws.now (a.at + l.n) (omega arith) (omega (arith, c.if1.false)), l.invariant.1, ap (λ (k : ℕ). left a.ws.now k) (add_assoc a.at l.n 1)),
     )
 
 returns-2 : tie.Need-returns-2 invariant-loop decreases-loop

@@ -3,7 +3,7 @@ use mathlib.Core.Path.{ap}
 use Prim.Native.Nat.{ℕ, ◌-◌}
 use native.Mathlib.Omega.{arith}
 use lib.ListN.{get_or}
-use Rattle.parity_table.proofs.Accepts.{layer-known, start-known, start-inside, located}
+use Rattle.parity_table.proofs.Accepts.{layer-known, start_known, start_inside, located}
 use Rattle.parity_table.proofs.index.equation.Statement.{statement}
 use Rattle.parity_table.proofs.index.equation.Tie as tie
 
@@ -16,19 +16,19 @@ number-of-requires c κs =
 mul_at : tie.Need-overflow-mul-at
 mul_at c =
     let a = c.before.before.before.args in
-    omega (arith, c.number_of_lem.ensures, start-known a.ws.now a.starts.now a.j a.e c.before.before.before.requires)
+    omega (arith, c.number_of_lem.ensures, start_known a.ws.now a.starts.now a.j a.e c.before.before.before.requires)
 
 shared-slice-read-at : tie.Need-shared-slice-read-at
 shared-slice-read-at c =
     let a = c.before.before.before.before.args in
     omega
-    (arith, c.before.number_of_lem.ensures, start-known a.ws.now a.starts.now a.j a.e c.before.before.before.before.requires)
+    (arith, c.before.number_of_lem.ensures, start_known a.ws.now a.starts.now a.j a.e c.before.before.before.before.requires)
 
 count-members-requires : tie.Need-count-members-requires
 count-members-requires c κs =
     let a = c.before.before.before.before.args in
     omega
-    (arith, ap (λ (n : ℕ). get_or a.starts.now n 0) c.before.number_of_lem.ensures, start-inside a.ws.now a.starts.now a.j a.e c.before.before.before.before.requires)
+    (arith, ap (λ (n : ℕ). get_or a.starts.now n 0) c.before.number_of_lem.ensures, start_inside a.ws.now a.starts.now a.j a.e c.before.before.before.before.requires)
 
 returns : tie.Need-returns
 returns c =

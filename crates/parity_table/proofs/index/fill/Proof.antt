@@ -2,7 +2,7 @@
 use Prim.Native.Nat.{ℕ, ◌-◌}
 use native.Mathlib.Omega.{arith}
 use lib.ListN.{length, get_or}
-use Rattle.parity_table.proofs.Starts.{Filling, filling-start, filling_skip, filling-room, filling-put, filling-end, opens-yes, opens-low, opens-high}
+use Rattle.parity_table.proofs.Starts.{Filling, filling_start, filling_skip, filling_room, filling_put, filling_end, opens_yes, opens_low, opens_high}
 use Rattle.parity_table.proofs.index.fill.Statement.{statement}
 use Rattle.parity_table.proofs.index.fill.Tie as tie
 
@@ -13,7 +13,7 @@ abbrev decreases-loop : tie.decreases-loop
 decreases-loop ws starts₀ found₀ i₀ starts found i = length ws - i
 
 loop-holds : tie.Need-loop-init invariant-loop decreases-loop
-loop-holds c = filling-start c.args.ws.now c.args.starts.now c.requires
+loop-holds c = filling_start c.args.ws.now c.args.starts.now c.requires
 
 mul-w : tie.Need-overflow-mul-w invariant-loop decreases-loop
 mul-w c = omega arith
@@ -28,27 +28,27 @@ mul-starts : tie.Need-overflow-mul-starts invariant-loop decreases-loop
 mul-starts c =
     let a = c.before.before.before.before.before.args in
     let l = c.before.before.before.before.loop in
-    let good = c.before.before.before.before.before.well-formed in
+    let good = c.before.before.before.before.before.well_formed in
     let w : ℕ = get_or a.ws.now l.i 0 in
     omega
-    (arith, filling-room a.ws.now a.starts.now l.starts l.found l.i l.invariant (omega arith) (opens-yes w c.before.if1.true c.if2.true), l.invariant.long, good)
+    (arith, filling_room a.ws.now a.starts.now l.starts l.found l.i l.invariant (omega arith) (opens_yes w c.before.if1.true c.if2.true), l.invariant.long, good)
 
 slice-write-starts : tie.Need-slice-write-starts invariant-loop decreases-loop
 slice-write-starts c =
     let a = c.before.before.before.before.before.args in
     let l = c.before.before.before.before.loop in
     let w : ℕ = get_or a.ws.now l.i 0 in
-    filling-room a.ws.now a.starts.now l.starts l.found l.i l.invariant (omega arith)
-    (opens-yes w c.before.if1.true c.if2.true)
+    filling_room a.ws.now a.starts.now l.starts l.found l.i l.invariant (omega arith)
+    (opens_yes w c.before.if1.true c.if2.true)
 
 add-found : tie.Need-overflow-add-found invariant-loop decreases-loop
 add-found c =
     let a = c.before.before.before.before.before.args in
     let l = c.before.before.before.before.loop in
-    let good = c.before.before.before.before.before.well-formed in
+    let good = c.before.before.before.before.before.well_formed in
     let w : ℕ = get_or a.ws.now l.i 0 in
     omega
-    (arith, filling-room a.ws.now a.starts.now l.starts l.found l.i l.invariant (omega arith) (opens-yes w c.before.if1.true c.if2.true), l.invariant.long, good)
+    (arith, filling_room a.ws.now a.starts.now l.starts l.found l.i l.invariant (omega arith) (opens_yes w c.before.if1.true c.if2.true), l.invariant.long, good)
 
 loop-less : tie.Need-loop-smaller invariant-loop decreases-loop
 loop-less c = omega arith
@@ -58,8 +58,8 @@ loop-again c =
     let a = c.before.before.before.before.before.args in
     let l = c.before.before.before.before.loop in
     let w : ℕ = get_or a.ws.now l.i 0 in
-    filling-put a.ws.now a.starts.now l.starts l.found l.i l.invariant (omega arith)
-    (opens-yes w c.before.if1.true c.if2.true)
+    filling_put a.ws.now a.starts.now l.starts l.found l.i l.invariant (omega arith)
+    (opens_yes w c.before.if1.true c.if2.true)
 
 loop-less-2 : tie.Need-loop-smaller-2 invariant-loop decreases-loop
 loop-less-2 c = omega arith
@@ -69,7 +69,7 @@ loop-again-2 c =
     let a = c.before.before.before.before.before.args in
     let l = c.before.before.before.before.loop in
     let w : ℕ = get_or a.ws.now l.i 0 in
-    filling_skip a.ws.now a.starts.now l.starts l.found l.i l.invariant (omega arith) (opens-high w c.if2.false)
+    filling_skip a.ws.now a.starts.now l.starts l.found l.i l.invariant (omega arith) (opens_high w c.if2.false)
 
 loop-less-3 : tie.Need-loop-smaller-3 invariant-loop decreases-loop
 loop-less-3 c = omega arith
@@ -80,7 +80,7 @@ loop-again-3 c =
     let l = c.before.before.before.loop in
     let w : ℕ = get_or a.ws.now l.i 0 in
     filling_skip a.ws.now a.starts.now l.starts l.found l.i l.invariant (omega arith)
-    (opens-low w (omega (arith, c.if1.false)))
+    (opens_low w (omega (arith, c.if1.false)))
 
 same_length : tie.Need-same-length invariant-loop decreases-loop
 same_length c = c.before.loop.invariant.long
@@ -89,7 +89,7 @@ returns : tie.Need-returns invariant-loop decreases-loop
 returns c =
     let a = c.before.before.args in
     let l = c.before.loop in
-    filling-end a.ws.now a.starts.now l.starts l.found l.i l.invariant c.loop-test.false
+    filling_end a.ws.now a.starts.now l.starts l.found l.i l.invariant c.loop-test.false
 
 pub fill_spec : {M : Type 1} → statement M
 fill_spec =

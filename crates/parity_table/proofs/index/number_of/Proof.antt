@@ -5,7 +5,7 @@ use native.Mathlib.Omega.{arith}
 use borrow.Author.Rules.{rules}
 use Rattle.parity_table.specs.Shape.{k_of}
 use Rattle.parity_table.proofs.Accepts.{number_small}
-use Rattle.parity_table.specs.Parse.{equationsAbove, number_in}
+use Rattle.parity_table.specs.Parse.{equations_above, number_in}
 use Rattle.parity_table.proofs.index.number_of.Statement.{statement}
 use Rattle.parity_table.proofs.index.number_of.Tie as tie
 
@@ -37,7 +37,7 @@ add-result c =
     omega (arith, b, c.before.data-count.ensures, c.data-count2.ensures, pre.1)
 
 returns : tie.Need-returns
-unfolding number_in equationsAbove
+unfolding number_in equations_above
 returns c =
     let a = c.before.before.args in
     ap (λ (k : ℕ). 3 * (k - c.data-count2.result) + a.e) c.before.data-count.ensures

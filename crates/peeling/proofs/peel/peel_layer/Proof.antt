@@ -4,7 +4,7 @@ use Prim.Native.Nat.{◌<◌}
 use native.Mathlib.Omega.{arith}
 use lib.ListN.{length}
 use borrow.Author.Rules.{rules}
-use Rattle.peeling.proofs.LoopLaws.{Searching, absent-kept, lower-asks, order-kept, pick-asks, search-faulty, search-over, search-start, search-stored, search-twins, search-used, stored-less, take-asks, used-less}
+use Rattle.peeling.proofs.LoopLaws.{Searching, absent-kept, lower_asks, order_kept, pick_asks, search_faulty, search_over, search_start, search_stored, search_twins, search_used, stored_less, take_asks, used_less}
 use Rattle.peeling.proofs.PeelLaws.{stored-few}
 use Rattle.peeling.proofs.TurnLaws.{unused}
 use Rattle.peeling.proofs.peel.peel_layer.Statement.{statement}
@@ -19,10 +19,10 @@ abbrev decreases-loop : tie.decreases-loop
 decreases-loop kind root words starts from last next tree₀ marks₀ out₀ used₀ absent₀ order₀ j stored n got₀ at₀ tree marks out used absent order got at = unused used
 
 loop-holds : tie.Need-loop-init invariant-loop decreases-loop
-loop-holds c = let s = c.before.before.before.before.before.before.before.before.before.before.before in (refl, search-start s.requires.0 s.args.kind s.args.stored)
+loop-holds c = let s = c.before.before.before.before.before.before.before.before.before.before.before in (refl, search_start s.requires.0 s.args.kind s.args.stored)
 
 pick-requires : tie.Need-pick-requires invariant-loop decreases-loop
-pick-requires c κs = pick-asks c.before.before.before.before.before.before.before.before.before.before.before.before.before.before.before.requires.0 c.before.before.before.loop.invariant.1
+pick-requires c κs = pick_asks c.before.before.before.before.before.before.before.before.before.before.before.before.before.before.before.requires.0 c.before.before.before.loop.invariant.1
 
 same_length : tie.Need-same-length invariant-loop decreases-loop
 same_length c = c.before.before.before.before.before.before.before.loop.invariant.1.peeling.tree-length
@@ -40,12 +40,12 @@ same-length-5 : tie.Need-same-length-5 invariant-loop decreases-loop
 same-length-5 c = absent-kept c.before.before.before.before.before.before.before.before.before.before.before.before.before.before.before.before.before.before.before.requires.0 c.before.before.before.before.before.before.before.loop.invariant.1
 
 same-length-6 : tie.Need-same-length-6 invariant-loop decreases-loop
-same-length-6 c = c.before.before.before.pick.auto.1.1.0 ∙ order-kept c.before.before.before.before.before.before.before.before.before.before.before.before.before.before.before.before.before.before.before.requires.0 c.before.before.before.before.before.before.before.loop.invariant.1
+same-length-6 c = c.before.before.before.pick.auto.1.1.0 ∙ order_kept c.before.before.before.before.before.before.before.before.before.before.before.before.before.before.before.before.before.before.before.requires.0 c.before.before.before.before.before.before.before.loop.invariant.1
 
 returns : tie.Need-returns invariant-loop decreases-loop
 returns c =
     let l = c.before.before.before.before.before.before.before.loop in
-    search-over c.before.before.before.before.before.before.before.before.before.before.before.before.before.before.before.before.before.before.before.requires.0 l.invariant.1 c.before.before.before.pick.ensures (omega (arith, l.invariant.0, c.if1.true))
+    search_over c.before.before.before.before.before.before.before.before.before.before.before.before.before.before.before.before.before.before.before.requires.0 l.invariant.1 c.before.before.before.pick.ensures (omega (arith, l.invariant.0, c.if1.true))
 
 past-requires : tie.Need-past-requires invariant-loop decreases-loop
 past-requires c = omega (arith, c.before.before.before.before.before.before.before.loop.invariant.0, c.if1.false, c.before.before.before.before.before.before.before.before.before.before.before.before.before.before.before.before.before.before.before.requires.0.lent.low)
@@ -64,7 +64,7 @@ take-requires c κs =
     let l = b.before.before.before.before.loop in
     let s = b.before.before.before.before.before.before.before.before.before.before.before.before.before.before.before.before in
     let he : b.pick.result < length s.args.used.now = omega (arith, l.invariant.0, c.before.before.before.before.before.if1.false) in
-    take-asks s.requires.0 l.invariant.1 b.pick.ensures he
+    take_asks s.requires.0 l.invariant.1 b.pick.ensures he
 
 enum_told : tie.Need-enum-told invariant-loop decreases-loop
 enum_told c = search rules
@@ -76,7 +76,7 @@ loop-less c =
     let l = b.before.before.before.before.loop in
     let s = b.before.before.before.before.before.before.before.before.before.before.before.before.before.before.before.before in
     let he : b.pick.result < length s.args.used.now = omega (arith, l.invariant.0, w.before.before.before.before.before.before.if1.false) in
-    used-less s.requires.0 l.invariant.1 b.pick.ensures he w.before.before.before.before.before.past.ensures w.take.ensures c.enum_told.given.1
+    used_less s.requires.0 l.invariant.1 b.pick.ensures he w.before.before.before.before.before.past.ensures w.take.ensures c.enum_told.given.1
 
 loop-again : tie.Need-loop-preserved invariant-loop decreases-loop
 loop-again c =
@@ -86,7 +86,7 @@ loop-again c =
     let s = b.before.before.before.before.before.before.before.before.before.before.before.before.before.before.before.before in
     let he : b.pick.result < length s.args.used.now = omega (arith, l.invariant.0, w.before.before.before.before.before.before.if1.false) in
     let k = w.take.auto.1.1.1.1.1 in
-    (l.invariant.0, search-used s.requires.0 l.invariant.1 b.pick.ensures he w.before.before.before.before.before.past.ensures w.take.ensures k.0 k.1.0 k.1.1.0 k.1.1.1.0 c.enum_told.given.1)
+    (l.invariant.0, search_used s.requires.0 l.invariant.1 b.pick.ensures he w.before.before.before.before.before.past.ensures w.take.ensures k.0 k.1.0 k.1.1.0 k.1.1.1.0 c.enum_told.given.1)
 
 enum-known-x : tie.Need-enum-known-x invariant-loop decreases-loop
 enum-known-x c = search rules
@@ -102,7 +102,7 @@ lower-requires c κs =
     let s = b.before.before.before.before.before.before.before.before.before.before.before.before.before.before.before.before in
     let he : b.pick.result < length s.args.used.now = omega (arith, l.invariant.0, w.before.before.before.before.before.before.if1.false) in
     let k = w.take.auto.1.1.1.1.1 in
-    lower-asks s.requires.0 l.invariant.1 b.pick.ensures he w.before.before.before.before.before.past.ensures w.take.ensures k.0 k.1.0 k.1.1.0 k.1.1.1.0 _ c.before.before.before.before.x.given.1
+    lower_asks s.requires.0 l.invariant.1 b.pick.ensures he w.before.before.before.before.before.past.ensures w.take.ensures k.0 k.1.0 k.1.1.0 k.1.1.1.0 _ c.before.before.before.before.x.given.1
 
 loop-less-2 : tie.Need-loop-smaller-2 invariant-loop decreases-loop
 loop-less-2 c =
@@ -111,7 +111,7 @@ loop-less-2 c =
     let l = b.before.before.before.before.loop in
     let s = b.before.before.before.before.before.before.before.before.before.before.before.before.before.before.before.before in
     let he : b.pick.result < length s.args.used.now = omega (arith, l.invariant.0, w.before.before.before.before.before.before.if1.false) in
-    stored-less s.requires.0 l.invariant.1 b.pick.ensures he w.before.before.before.before.before.past.ensures w.take.ensures _ c.before.before.before.before.before.before.before.before.before.x.given.1
+    stored_less s.requires.0 l.invariant.1 b.pick.ensures he w.before.before.before.before.before.past.ensures w.take.ensures _ c.before.before.before.before.before.before.before.before.before.x.given.1
 
 loop-again-2 : tie.Need-loop-preserved-2 invariant-loop decreases-loop
 loop-again-2 c =
@@ -122,7 +122,7 @@ loop-again-2 c =
     let s = b.before.before.before.before.before.before.before.before.before.before.before.before.before.before.before.before in
     let he : b.pick.result < length s.args.used.now = omega (arith, l.invariant.0, w.before.before.before.before.before.before.if1.false) in
     let k = w.take.auto.1.1.1.1.1 in
-    (l.invariant.0, search-stored s.requires.0 l.invariant.1 b.pick.ensures he w.before.before.before.before.before.past.ensures w.take.ensures k.0 k.1.0 k.1.1.0 k.1.1.1.0 _ c.before.before.before.before.before.before.before.before.before.x.given.1 _ _ y.auto.1.1.1.0 y.ensures.0 y.ensures.1)
+    (l.invariant.0, search_stored s.requires.0 l.invariant.1 b.pick.ensures he w.before.before.before.before.before.past.ensures w.take.ensures k.0 k.1.0 k.1.1.0 k.1.1.1.0 _ c.before.before.before.before.before.before.before.before.before.x.given.1 _ _ y.auto.1.1.1.0 y.ensures.0 y.ensures.1)
 
 enum-known-withheld : tie.Need-enum-known-withheld invariant-loop decreases-loop
 enum-known-withheld c = search rules
@@ -143,7 +143,7 @@ same-length-11 : tie.Need-same-length-11 invariant-loop decreases-loop
 same-length-11 c = absent-kept c.before.before.before.before.before.before.before.before.before.before.before.before.before.before.before.before.before.before.before.before.before.before.before.before.before.before.before.before.before.before.before.before.before.before.before.before.requires.0 c.before.before.before.before.before.before.before.before.before.before.before.before.before.before.before.before.before.before.before.before.before.before.before.before.loop.invariant.1
 
 same-length-12 : tie.Need-same-length-12 invariant-loop decreases-loop
-same-length-12 c = c.before.before.before.before.before.before.before.before.before.before.before.before.before.before.before.before.before.before.before.before.pick.auto.1.1.0 ∙ order-kept c.before.before.before.before.before.before.before.before.before.before.before.before.before.before.before.before.before.before.before.before.before.before.before.before.before.before.before.before.before.before.before.before.before.before.before.before.requires.0 c.before.before.before.before.before.before.before.before.before.before.before.before.before.before.before.before.before.before.before.before.before.before.before.before.loop.invariant.1
+same-length-12 c = c.before.before.before.before.before.before.before.before.before.before.before.before.before.before.before.before.before.before.before.before.pick.auto.1.1.0 ∙ order_kept c.before.before.before.before.before.before.before.before.before.before.before.before.before.before.before.before.before.before.before.before.before.before.before.before.before.before.before.before.before.before.before.before.before.before.before.before.requires.0 c.before.before.before.before.before.before.before.before.before.before.before.before.before.before.before.before.before.before.before.before.before.before.before.before.loop.invariant.1
 
 returns-2 : tie.Need-returns-2 invariant-loop decreases-loop
 returns-2 c =
@@ -152,7 +152,7 @@ returns-2 c =
     let l = b.before.before.before.before.loop in
     let s = b.before.before.before.before.before.before.before.before.before.before.before.before.before.before.before.before in
     let he : b.pick.result < length s.args.used.now = omega (arith, l.invariant.0, w.before.before.before.before.before.before.if1.false) in
-    (search-faulty s.requires.0 l.invariant.1 b.pick.ensures he w.before.before.before.before.before.past.ensures w.take.ensures _ _ c.before.withheld.given.1, stored-few l.invariant.1.peeling, tt)
+    (search_faulty s.requires.0 l.invariant.1 b.pick.ensures he w.before.before.before.before.before.past.ensures w.take.ensures _ _ c.before.withheld.given.1, stored-few l.invariant.1.peeling, tt)
 
 enum-known-x-2 : tie.Need-enum-known-x-2 invariant-loop decreases-loop
 enum-known-x-2 c = search rules
@@ -173,7 +173,7 @@ same-length-17 : tie.Need-same-length-17 invariant-loop decreases-loop
 same-length-17 c = absent-kept c.before.before.before.before.before.before.before.before.before.before.before.before.before.before.before.before.before.before.before.before.before.before.before.before.before.before.before.before.before.before.before.before.before.before.before.before.requires.0 c.before.before.before.before.before.before.before.before.before.before.before.before.before.before.before.before.before.before.before.before.before.before.before.before.loop.invariant.1
 
 same-length-18 : tie.Need-same-length-18 invariant-loop decreases-loop
-same-length-18 c = c.before.before.before.before.before.before.before.before.before.before.before.before.before.before.before.before.before.before.before.before.pick.auto.1.1.0 ∙ order-kept c.before.before.before.before.before.before.before.before.before.before.before.before.before.before.before.before.before.before.before.before.before.before.before.before.before.before.before.before.before.before.before.before.before.before.before.before.requires.0 c.before.before.before.before.before.before.before.before.before.before.before.before.before.before.before.before.before.before.before.before.before.before.before.before.loop.invariant.1
+same-length-18 c = c.before.before.before.before.before.before.before.before.before.before.before.before.before.before.before.before.before.before.before.before.pick.auto.1.1.0 ∙ order_kept c.before.before.before.before.before.before.before.before.before.before.before.before.before.before.before.before.before.before.before.before.before.before.before.before.before.before.before.before.before.before.before.before.before.before.before.before.requires.0 c.before.before.before.before.before.before.before.before.before.before.before.before.before.before.before.before.before.before.before.before.before.before.before.before.loop.invariant.1
 
 returns-3 : tie.Need-returns-3 invariant-loop decreases-loop
 returns-3 c =
@@ -182,7 +182,7 @@ returns-3 c =
     let l = b.before.before.before.before.loop in
     let s = b.before.before.before.before.before.before.before.before.before.before.before.before.before.before.before.before in
     let he : b.pick.result < length s.args.used.now = omega (arith, l.invariant.0, w.before.before.before.before.before.before.if1.false) in
-    (search-twins s.requires.0 l.invariant.1 b.pick.ensures he w.before.before.before.before.before.past.ensures w.take.ensures _ c.before.x2.given.1, stored-few l.invariant.1.peeling, tt)
+    (search_twins s.requires.0 l.invariant.1 b.pick.ensures he w.before.before.before.before.before.past.ensures w.take.ensures _ c.before.x2.given.1, stored-few l.invariant.1.peeling, tt)
 
 pub peel-layer-spec : {M : Type 1} → statement M
 peel-layer-spec =

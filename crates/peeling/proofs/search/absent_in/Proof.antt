@@ -4,10 +4,10 @@ use mathlib.Core.Path.{◌∙◌, ap, subst, sym}
 use Prim.Native.Nat.{ℕ}
 use native.Mathlib.Omega.{arith}
 use borrow.Author.Rules.{rules}
-use Rattle.model.specs.Repair.{absentAt}
+use Rattle.model.specs.Repair.{absent_at}
 use Rattle.model.specs.Shape.{tree}
 use Rattle.model.specs.Symbols.{count}
-use Rattle.equation.proofs.TurnLaws.{members-are, members-fit}
+use Rattle.equation.proofs.TurnLaws.{members-are, members_fit}
 use Rattle.equation.specs.Rooms.{Marked}
 use Rattle.peeling.proofs.search.absent_in.Statement.{statement}
 use Rattle.peeling.proofs.search.absent_in.Tie as tie
@@ -24,7 +24,7 @@ count-members-requires c κs = search rules
 add-end : tie.Need-overflow-add-end
 add-end c =
     let s = c.before.before.before.before.before in
-    omega (arith, c.count-members.ensures, members-fit s.args.words.now s.args.starts.now s.args.number s.requires.0)
+    omega (arith, c.count-members.ensures, members_fit s.args.words.now s.args.starts.now s.args.number s.requires.0)
 
 mul-count-absent : tie.Need-overflow-mul-count-absent
 mul-count-absent c = search rules
@@ -38,7 +38,7 @@ part-count-absent-start c = search rules
 part-count-absent-end : tie.Need-slice-bounds-count-absent-end
 part-count-absent-end c =
     let s = c.before.before.before.before.before in
-    omega (arith, c.count-members.ensures, members-fit s.args.words.now s.args.starts.now s.args.number s.requires.0)
+    omega (arith, c.count-members.ensures, members_fit s.args.words.now s.args.starts.now s.args.number s.requires.0)
 
 count-absent-requires : tie.Need-count-absent-requires
 count-absent-requires c κs =
@@ -50,7 +50,7 @@ returns : tie.Need-returns
 returns c =
     let s = c.before.before.before.before.before.before.before in
     c.count-absent.ensures
-    ∙ ap (count (absentAt tree s.args.marks.now s.args.j)) (members-are s.args.words.now s.args.starts.now s.args.number s.requires.0 _ c.before.before.count-members.ensures)
+    ∙ ap (count (absent_at tree s.args.marks.now s.args.j)) (members-are s.args.words.now s.args.starts.now s.args.number s.requires.0 _ c.before.before.count-members.ensures)
 
 pub absent-in-spec : {M : Type 1} → statement M
 absent-in-spec =

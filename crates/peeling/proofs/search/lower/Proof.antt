@@ -4,7 +4,7 @@ use mathlib.Core.Path.{◌∙◌, ◌≡◌, refl}
 use Prim.Native.Nat.{◌-◌, ◌<◌, ℕ}
 use native.Mathlib.Omega.{arith}
 use lib.ListN.{length}
-use Rattle.peeling.proofs.WalkLaws.{Walking, walk_end, walk-equation, walk-less, walk-slot, walk-some, walk_start, walk_turn}
+use Rattle.peeling.proofs.WalkLaws.{Walking, walk_end, walk_equation, walk_less, walk_slot, walk_some, walk_start, walk_turn}
 use Rattle.peeling.specs.Search.{Ordered, Thread}
 use Rattle.peeling.proofs.search.lower.Statement.{statement}
 use Rattle.peeling.proofs.search.lower.Tie as tie
@@ -41,19 +41,19 @@ note-requires c κs =
     let k = s.requires.thread in
     let w = l.invariant.3 s.requires.words s.requires.starts s.requires.from k in
     let h : 0 < l.slot = omega (arith, c.before.before.loop-test.true) in
-    (l.invariant.2, l.invariant.0 ∙ s.requires.sized, s.requires.low, walk-equation k w h, walk-some k w h s.requires.enough)
+    (l.invariant.2, l.invariant.0 ∙ s.requires.sized, s.requires.low, walk_equation k w h, walk_some k w h s.requires.enough)
 
 mul-slot-2 : tie.Need-overflow-mul-slot-2 invariant-loop decreases-loop
 mul-slot-2 c =
     let s = c.before.before.before.before.before.before.before.before.before.before.before.before.before.before.before in
     let l = c.before.before.before.before.before.before.before.before.loop in
-    omega (arith, walk-slot s.requires.thread (l.invariant.3 s.requires.words s.requires.starts s.requires.from s.requires.thread) (omega (arith, c.before.before.before.before.before.before.before.loop-test.true)), s.requires.thread.room)
+    omega (arith, walk_slot s.requires.thread (l.invariant.3 s.requires.words s.requires.starts s.requires.from s.requires.thread) (omega (arith, c.before.before.before.before.before.before.before.loop-test.true)), s.requires.thread.room)
 
 shared-slice-read-slot-2 : tie.Need-shared-slice-read-slot-2 invariant-loop decreases-loop
 shared-slice-read-slot-2 c =
     let s = c.before.before.before.before.before.before.before.before.before.before.before.before.before.before.before.before in
     let l = c.before.before.before.before.before.before.before.before.before.loop in
-    omega (arith, walk-slot s.requires.thread (l.invariant.3 s.requires.words s.requires.starts s.requires.from s.requires.thread) (omega (arith, c.before.before.before.before.before.before.before.before.loop-test.true)), s.requires.thread.room)
+    omega (arith, walk_slot s.requires.thread (l.invariant.3 s.requires.words s.requires.starts s.requires.from s.requires.thread) (omega (arith, c.before.before.before.before.before.before.before.before.loop-test.true)), s.requires.thread.room)
 
 cast-slot-2 : tie.Need-overflow-cast-slot-2 invariant-loop decreases-loop
 cast-slot-2 c = omega (arith, c.shared-slice-known5.given (c.before.before.before.before.before.before.before.before.before.loop.slot - 1))
@@ -62,7 +62,7 @@ loop-less : tie.Need-loop-smaller invariant-loop decreases-loop
 loop-less c =
     let s = c.before.before.before.before.before.before.before.before.before.before.before.before.before.before.before.before in
     let l = c.before.before.before.before.before.before.before.before.before.loop in
-    walk-less s.requires.thread (l.invariant.3 s.requires.words s.requires.starts s.requires.from s.requires.thread) (omega (arith, c.before.before.before.before.before.before.before.before.loop-test.true))
+    walk_less s.requires.thread (l.invariant.3 s.requires.words s.requires.starts s.requires.from s.requires.thread) (omega (arith, c.before.before.before.before.before.before.before.before.loop-test.true))
 
 loop-again : tie.Need-loop-preserved invariant-loop decreases-loop
 loop-again c =
@@ -71,7 +71,7 @@ loop-again c =
     let v = c.before.before.before.before.before.note in
     let h : 0 < l.slot = omega (arith, c.before.before.before.before.before.before.before.before.loop-test.true) in
     let k₀ = s.requires.thread in
-    let some = walk-some k₀ (l.invariant.3 s.requires.words s.requires.starts s.requires.from k₀) h s.requires.enough in
+    let some = walk_some k₀ (l.invariant.3 s.requires.words s.requires.starts s.requires.from k₀) h s.requires.enough in
     (v.auto.1.0 ∙ l.invariant.0, v.auto.1.1.0 ∙ l.invariant.1, v.ensures.1, λ ws starts from k. walk_turn k (l.invariant.3 ws starts from k) h _ v.ensures.0 (l.invariant.0 ∙ s.requires.sized) some)
 
 same_length : tie.Need-same-length invariant-loop decreases-loop

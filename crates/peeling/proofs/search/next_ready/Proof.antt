@@ -3,7 +3,7 @@ use mathlib.Core.Path.{◌∙◌, ◌≡◌, refl, sym}
 use Prim.Native.Nat.{◌-◌, ◌≤◌}
 use native.Mathlib.Omega.{arith}
 use lib.ListN.{length}
-use Rattle.model.proofs.Counts.{lowest-hit, lowest-none, lowest-pass}
+use Rattle.model.proofs.Counts.{lowest_hit, lowest-none, lowest_pass}
 use Rattle.model.specs.Symbols.{lowest}
 use Rattle.peeling.specs.Search.{ready}
 use Rattle.peeling.proofs.search.next_ready.Statement.{statement}
@@ -28,7 +28,7 @@ returns : tie.Need-returns invariant-loop decreases-loop
 returns c =
     let a = c.before.before.before.before.before.before.args in
     let l = c.before.before.before.loop in
-    lowest-hit (ready a.used.now a.absent.now) (length a.used.now) l.e _ l.invariant.2 (omega (arith, l.invariant.0)) (sym c.before.is-ready.ensures ∙ c.if1.true)
+    lowest_hit (ready a.used.now a.absent.now) (length a.used.now) l.e _ l.invariant.2 (omega (arith, l.invariant.0)) (sym c.before.is-ready.ensures ∙ c.if1.true)
 
 add-e : tie.Need-overflow-add-e invariant-loop decreases-loop
 add-e c = omega arith
@@ -40,7 +40,7 @@ loop-again : tie.Need-loop-preserved invariant-loop decreases-loop
 loop-again c =
     let a = c.before.before.before.before.before.before.args in
     let l = c.before.before.before.loop in
-    (l.invariant.0, omega arith, lowest-pass (ready a.used.now a.absent.now) (length a.used.now) l.e _ l.invariant.2 (omega (arith, l.invariant.0)) (sym c.before.is-ready.ensures ∙ c.if1.false))
+    (l.invariant.0, omega arith, lowest_pass (ready a.used.now a.absent.now) (length a.used.now) l.e _ l.invariant.2 (omega (arith, l.invariant.0)) (sym c.before.is-ready.ensures ∙ c.if1.false))
 
 returns-2 : tie.Need-returns-2 invariant-loop decreases-loop
 returns-2 c =

@@ -2,7 +2,7 @@
 use mathlib.Core.Path.{refl}
 use native.Mathlib.Omega.{arith}
 use borrow.Author.Rules.{rules}
-use Rattle.peeling.proofs.OrderLaws.{noted-late, noted-many, noted-ready, noted-used}
+use Rattle.peeling.proofs.OrderLaws.{noted_late, noted_many, noted-ready, noted-used}
 use Rattle.peeling.proofs.search.note.Statement.{statement}
 use Rattle.peeling.proofs.search.note.Tie as tie
 
@@ -21,7 +21,7 @@ same_length c = search rules
 returns : tie.Need-returns
 returns c =
     let s = c.before.before.before.before.before in
-    (refl, noted-many s.args.used.now s.args.absent.now s.args.at s.requires.0 s.args.q s.requires.1 s.requires.3 s.requires.4 c.if1.true)
+    (refl, noted_many s.args.used.now s.args.absent.now s.args.at s.requires.0 s.args.q s.requires.1 s.requires.3 s.requires.4 c.if1.true)
 
 same-length-2 : tie.Need-same-length-2
 same-length-2 c = search rules
@@ -29,7 +29,7 @@ same-length-2 c = search rules
 returns-2 : tie.Need-returns-2
 returns-2 c =
     let s = c.before.before.before.before.before.before in
-    (refl, noted-late s.args.used.now s.args.absent.now s.args.at s.requires.0 s.args.q s.requires.1 s.requires.3 s.requires.4 c.if2.true)
+    (refl, noted_late s.args.used.now s.args.absent.now s.args.at s.requires.0 s.args.q s.requires.1 s.requires.3 s.requires.4 c.if2.true)
 
 shared-slice-read-if3 : tie.Need-shared-slice-read-if3
 shared-slice-read-if3 c = search rules

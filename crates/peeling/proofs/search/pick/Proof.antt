@@ -2,7 +2,7 @@
 use mathlib.Core.Path.{refl}
 use native.Mathlib.Omega.{arith}
 use borrow.Author.Rules.{rules}
-use Rattle.peeling.proofs.PickLaws.{picked-after, picked-before}
+use Rattle.peeling.proofs.PickLaws.{picked_after, picked_before}
 use Rattle.peeling.proofs.search.pick.Statement.{statement}
 use Rattle.peeling.proofs.search.pick.Tie as tie
 
@@ -21,7 +21,7 @@ same_length c = search rules
 returns : tie.Need-returns
 returns c =
     let s = c.before.before.before.before.before.before.before in
-    picked-after s.args.used.now s.args.absent.now s.args.at s.requires.0 c.before.before.least.ensures c.before.if1.true s.requires.4 c.next-ready.ensures
+    picked_after s.args.used.now s.args.absent.now s.args.at s.requires.0 c.before.before.least.ensures c.before.if1.true s.requires.4 c.next-ready.ensures
 
 cast-set : tie.Need-overflow-cast-set
 cast-set c = omega (arith, c.before.before.before.before.before.before.before.requires.3)
@@ -35,7 +35,7 @@ same-length-2 c = c.before.before.set.auto.0
 returns-2 : tie.Need-returns-2
 returns-2 c =
     let s = c.before.before.before.before.before.before.before.before.before.before in
-    picked-before s.args.used.now s.args.absent.now s.args.at s.requires.0 c.before.before.before.before.before.least.ensures (omega (arith, c.before.before.before.before.if1.false)) _ _ refl c.before.before.set.ensures
+    picked_before s.args.used.now s.args.absent.now s.args.at s.requires.0 c.before.before.before.before.before.least.ensures (omega (arith, c.before.before.before.before.if1.false)) _ _ refl c.before.before.set.ensures
 
 pub pick_spec : {M : Type 1} → statement M
 pick_spec =

@@ -4,11 +4,11 @@ use Prim.Native.Nat.{◌+◌, ◌-◌, ◌<◌, ◌≤◌}
 use native.Mathlib.Omega.{arith}
 use borrow.Author.Rules.{rules}
 use lib.ListN.{length, length-set}
-use Rattle.model.proofs.Counts.{count-le}
-use Rattle.model.specs.Repair.{absentAt}
+use Rattle.model.proofs.Counts.{count_le}
+use Rattle.model.specs.Repair.{absent_at}
 use Rattle.model.specs.Shape.{tree}
-use Rattle.equation.specs.Rooms.{membersAt}
-use Rattle.peeling.proofs.PrepareLaws.{CountedTo, counts-next, order-start}
+use Rattle.equation.specs.Rooms.{members_at}
+use Rattle.peeling.proofs.PrepareLaws.{CountedTo, counts-next, order_start}
 use Rattle.peeling.proofs.search.prepare.Statement.{statement}
 use Rattle.peeling.proofs.search.prepare.Tie as tie
 
@@ -46,7 +46,7 @@ cast-absent c =
     let s = c.before.before.before.before.before.before.before.before.before.before.before.before.before in
     let a = s.args in
     let l = c.before.before.loop in
-    omega (arith, c.absent-in.ensures, count-le (absentAt tree a.marks.now a.j) (membersAt a.words.now a.starts.now (a.from + l.e)), s.requires.0.narrow l.e (omega (arith, l.invariant.0)))
+    omega (arith, c.absent_in.ensures, count_le (absent_at tree a.marks.now a.j) (members_at a.words.now a.starts.now (a.from + l.e)), s.requires.0.narrow l.e (omega (arith, l.invariant.0)))
 
 slice-write-absent : tie.Need-slice-write-absent invariant-loop decreases-loop
 slice-write-absent c =
@@ -63,7 +63,7 @@ loop-again : tie.Need-loop-preserved invariant-loop decreases-loop
 loop-again c =
     let s = c.before.before.before.before.before.before.before.before.before.before.before.before.before in
     let l = c.before.before.loop in
-    (l.invariant.0, omega arith, length-set l.absent l.e c.absent-in.result ∙ l.invariant.2, counts-next s.args.words.now s.args.starts.now s.args.from s.args.j s.args.marks.now l.e l.absent l.invariant.3 (omega (arith, l.invariant.0, l.invariant.2, s.requires.1)) _ c.absent-in.ensures)
+    (l.invariant.0, omega arith, length-set l.absent l.e c.absent_in.result ∙ l.invariant.2, counts-next s.args.words.now s.args.starts.now s.args.from s.args.j s.args.marks.now l.e l.absent l.invariant.3 (omega (arith, l.invariant.0, l.invariant.2, s.requires.1)) _ c.absent_in.ensures)
 
 same_length : tie.Need-same-length invariant-loop decreases-loop
 same_length c = c.before.loop.invariant.2
@@ -75,7 +75,7 @@ returns : tie.Need-returns invariant-loop decreases-loop
 returns c =
     let s = c.before.before.before.before.before.before.before.before.before.before.before.before in
     let l = c.before.loop in
-    (record { sized = l.invariant.2 ∙ s.requires.1; counts = λ e h. l.invariant.3 e (omega (arith, l.invariant.0)) }, order-start s.args.used.now l.absent s.requires.2 c.before.before.before.before.fill-words.ensures)
+    (record { sized = l.invariant.2 ∙ s.requires.1; counts = λ e h. l.invariant.3 e (omega (arith, l.invariant.0)) }, order_start s.args.used.now l.absent s.requires.2 c.before.before.before.before.fill-words.ensures)
 
 pub prepare-spec : {M : Type 1} → statement M
 prepare-spec =

@@ -2,7 +2,7 @@
 use mathlib.Core.Path.{◌∙◌, refl, sym}
 use borrow.Author.Rules.{rules}
 use Rattle.model.specs.Symbols.{zeros}
-use Rattle.peeling.proofs.SweepLaws.{sweep-erase, sweep-keep}
+use Rattle.peeling.proofs.SweepLaws.{sweep_erase, sweep_keep}
 use Rattle.peeling.proofs.sweep.sweep_at.Statement.{statement}
 use Rattle.peeling.proofs.sweep.sweep_at.Tie as tie
 
@@ -38,8 +38,8 @@ unfolding zeros
 returns c =
     let p = c.before.before.before.before.before in
     let a = p.before.before.before.before.before.before.before.before.args in
-    sweep-erase a.kind a.root.now a.tree.now a.marks.now a.j a.i p.first-place.result _ _ p.first-place.ensures
-    (sym p.before.before.is-gap.ensures ∙ p.before.if1.true) c.before.before.copy_at.ensures refl
+    sweep_erase a.kind a.root.now a.tree.now a.marks.now a.j a.i p.first-place.result _ _ p.first-place.ensures
+    (sym p.before.before.is_gap.ensures ∙ p.before.if1.true) c.before.before.copy_at.ensures refl
 
 same-length-3 : tie.Need-same-length-3
 same-length-3 c = search rules
@@ -50,7 +50,7 @@ same-length-4 c = search rules
 returns-2 : tie.Need-returns-2
 returns-2 c =
     let a = c.before.before.before.before.before.before.before.args in
-    sweep-keep a.kind a.root.now a.tree.now a.marks.now a.j a.i (sym c.before.is-gap.ensures ∙ c.if1.false)
+    sweep_keep a.kind a.root.now a.tree.now a.marks.now a.j a.i (sym c.before.is_gap.ensures ∙ c.if1.false)
 
 pub sweep-at-spec : {M : Type 1} → statement M
 sweep-at-spec =

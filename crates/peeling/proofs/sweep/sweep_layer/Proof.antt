@@ -1,8 +1,8 @@
 -- `sweep_layer` meets its contract. The loop keeps: the symbols before i are swept.
 use Prim.Native.Nat.{◌-◌, ◌≤◌}
 use native.Mathlib.Omega.{arith}
-use Rattle.equation.proofs.TurnLaws.{level-fewer}
-use Rattle.peeling.proofs.SweepLaws.{Sweeping, level-keep, sweep-end, sweep-start, sweep-turn}
+use Rattle.equation.proofs.TurnLaws.{level_fewer}
+use Rattle.peeling.proofs.SweepLaws.{Sweeping, level_keep, sweep-end, sweep_start, sweep-turn}
 use Rattle.peeling.proofs.sweep.sweep_layer.Statement.{statement}
 use Rattle.peeling.proofs.sweep.sweep_layer.Tie as tie
 
@@ -13,13 +13,13 @@ abbrev decreases-loop : tie.decreases-loop
 decreases-loop kind root tree₀ marks₀ j n i₀ tree marks i = n - i
 
 loop-holds : tie.Need-loop-init invariant-loop decreases-loop
-loop-holds c = let a = c.before.before.before.args in (omega arith, sweep-start a.kind a.root.now a.j a.n a.tree.now a.marks.now)
+loop-holds c = let a = c.before.before.before.args in (omega arith, sweep_start a.kind a.root.now a.j a.n a.tree.now a.marks.now)
 
 sweep-at-requires : tie.Need-sweep-at-requires invariant-loop decreases-loop
 sweep-at-requires c κs =
     let l = c.before.before.before in
     let w = l.loop.invariant.1 in
-    level-keep w.tree-length w.marks-length (level-fewer _ (omega arith) l.before.before.before.before.requires)
+    level_keep w.tree-length w.marks-length (level_fewer _ (omega arith) l.before.before.before.before.requires)
 
 add-i : tie.Need-overflow-add-i invariant-loop decreases-loop
 add-i c = let l = c.before.before.before.before.before.before.before.before in omega (arith, l.before.before.before.before.requires.marks-room)

@@ -4,10 +4,10 @@ use mathlib.Core.Path.{◌∙◌, ap}
 use Prim.Native.Nat.{ℕ}
 use borrow.Author.Rules.{rules}
 use Rattle.octets.specs.ByteLists.{same}
-use Rattle.parity_table.proofs.Accepts.{members-there}
+use Rattle.parity_table.proofs.Accepts.{members_there}
 use Rattle.model.specs.Shape.{tree}
-use Rattle.model.specs.Symbols.{xorOf, zeros, symAt}
-use Rattle.recoding.proofs.LookLaws.{members-of}
+use Rattle.model.specs.Symbols.{xor_of, zeros, sym_at}
+use Rattle.recoding.proofs.LookLaws.{members_of_lem}
 use Rattle.recoding.proofs.look.equation_holds.Statement.{statement}
 use Rattle.recoding.proofs.look.equation_holds.Tie as tie
 
@@ -34,14 +34,14 @@ holds-requires c κs =
     let e = c.before.before.equation in
     let s = c.before.before.before.before.before.before in
     let a = s.args in
-    members-of a.words.now a.starts.now a.tree.now _ a.j a.e s.requires.0 s.requires.1 (members-there a.words.now a.j a.e e.result.at e.result.size e.ensures)
+    members_of_lem a.words.now a.starts.now a.tree.now _ a.j a.e s.requires.0 s.requires.1 (members_there a.words.now a.j a.e e.result.at e.result.size e.ensures)
 
 returns : tie.Need-returns
 returns c =
     let e = c.before.before.before.equation in
     let a = c.before.before.before.before.before.before.before.args in
     c.holds.ensures
-    ∙ ap (λ (ms : List ℕ). same (xorOf (symAt tree a.tree.now a.j) ms) zeros) (members-there a.words.now a.j a.e e.result.at e.result.size e.ensures)
+    ∙ ap (λ (ms : List ℕ). same (xor_of (sym_at tree a.tree.now a.j) ms) zeros) (members_there a.words.now a.j a.e e.result.at e.result.size e.ensures)
 
 pub equation-holds-spec : {M : Type 1} → statement M
 equation-holds-spec =

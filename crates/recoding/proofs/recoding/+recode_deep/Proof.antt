@@ -2,9 +2,9 @@
 use mathlib.Core.Path.{◌∙◌, sym}
 use native.Mathlib.Omega.{arith}
 use borrow.Author.Rules.{rules}
-use Rattle.parity_table.specs.Shape.{maxDepth}
-use Rattle.calls.proofs.AdmissionLaws.{at-depth, deep-up-to, room_for}
-use Rattle.recoding.proofs.RecodingLaws.{as-at-none}
+use Rattle.parity_table.specs.Shape.{max_depth}
+use Rattle.calls.proofs.AdmissionLaws.{at_depth, deep_up_to, room_for}
+use Rattle.recoding.proofs.RecodingLaws.{as_at_none}
 use Rattle.calls.proofs.stops_at_depth.Reads as stops-at-depth-reads
 use Rattle.recoding.proofs.recoding.recode_in.Reads as recode-in-reads
 use Prim.Native.Nat.{ℕ, ◌<◌}
@@ -56,7 +56,7 @@ recode-deep-recode-in-requires : (t : ℕ) → recode-deep-lts.Need-recode-in-re
   recode-deep-below t,
   recode-deep.Post,
 ) (recode-deep-at t) recode-deep.Post
-recode-deep-recode-in-requires t c κs = let a = c.before.before.before.before.before.before.before.before.before.before.before.before.args in room_for a.depth maxDepth (deep-up-to a.depth)
+recode-deep-recode-in-requires t c κs = let a = c.before.before.before.before.before.before.before.before.before.before.before.before.args in room_for a.depth max_depth (deep_up_to a.depth)
 
 recode-deep-stops-at-depth-requires : (t : ℕ) → recode-deep-lts.Need-stops-at-depth-requires (
   recode-in-reads.Asked,
@@ -78,7 +78,7 @@ recode-deep-recode-deep-requires : (t : ℕ) → recode-deep-lts.Need-recode-dee
 ) (recode-deep-at t) recode-deep.Post
 recode-deep-recode-deep-requires t c κs =
     let s = c.before.before.before.before.before.before.before.before.before.before.before.before.before.before.before.before.before.before.before.before.before.before.before.before.before.before in
-    let k = at-depth s.args.depth _ (sym c.before.before.before.before.stops-at-depth.ensures ∙ c.before.before.before.if1.true) in
+    let k = at_depth s.args.depth _ (sym c.before.before.before.before.stops-at-depth.ensures ∙ c.before.before.before.if1.true) in
     (omega (arith, s.requires.0, k.0), tt)
 
 recode-deep-same-length : (t : ℕ) → recode-deep-lts.Need-same-length (
@@ -121,9 +121,9 @@ recode-deep-returns : (t : ℕ) → recode-deep-lts.Need-returns (
 ) (recode-deep-at t) recode-deep.Post
 recode-deep-returns t c =
     let a = c.before.before.before.before.before.before.before.before.before.before.before.before.before.before.before.before.before.before.before.before.before.before.before.before.before.before.before.before.before.before.before.before.before.args in
-    let k = at-depth a.depth _ (sym c.before.before.before.before.before.before.before.before.before.before.before.stops-at-depth.ensures ∙ c.before.before.before.before.before.before.before.before.before.before.if1.true) in
+    let k = at_depth a.depth _ (sym c.before.before.before.before.before.before.before.before.before.before.before.stops-at-depth.ensures ∙ c.before.before.before.before.before.before.before.before.before.before.if1.true) in
     c.before.before.before.before.before.before.recode-deep.ensures
-    ∙ as-at-none a.depth a.root-record.now a.table.now a.tree.now a.marks.now a.new-tree.now a.new-marks.now a.new-record.now _ _ _ _ c.before.before.before.before.before.before.before.before.before.before.before.before.before.before.before.before.before.before.before.before.recode-in.ensures k.1
+    ∙ as_at_none a.depth a.root_record.now a.table.now a.tree.now a.marks.now a.new-tree.now a.new-marks.now a.new_record_lem.now _ _ _ _ c.before.before.before.before.before.before.before.before.before.before.before.before.before.before.before.before.before.before.before.before.recode-in.ensures k.1
 
 recode-deep-same-length-4 : (t : ℕ) → recode-deep-lts.Need-same-length-4 (
   recode-in-reads.Asked,

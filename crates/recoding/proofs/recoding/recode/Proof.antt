@@ -1,7 +1,7 @@
 -- `recode` meets its contract: small arrays serve a depth that is not deep.
 use borrow.Author.Rules.{rules}
 use Rattle.parity_table.specs.Shape.{shallow}
-use Rattle.calls.proofs.AdmissionLaws.{room_for, shallow-up-to}
+use Rattle.calls.proofs.AdmissionLaws.{room_for, shallow_up_to}
 use Rattle.recoding.proofs.recoding.recode.Statement.{statement}
 use Rattle.recoding.proofs.recoding.recode.Tie as tie
 
@@ -30,7 +30,7 @@ slice-aggregate-recode-in-2 : tie.Need-slice-aggregate-recode-in-2
 slice-aggregate-recode-in-2 c = search rules
 
 recode-in-requires : tie.Need-recode-in-requires
-recode-in-requires c κs = let a = c.before.before.before.before.before.before.before.before.before.before.before.before.before.before.args in room_for a.depth shallow (shallow-up-to a.depth c.before.before.before.before.before.before.is-deep.ensures c.before.before.before.before.before.if1.false)
+recode-in-requires c κs = let a = c.before.before.before.before.before.before.before.before.before.before.before.before.before.before.args in room_for a.depth shallow (shallow_up_to a.depth c.before.before.before.before.before.before.is-deep.ensures c.before.before.before.before.before.if1.false)
 
 same-length-4 : tie.Need-same-length-4
 same-length-4 c = search rules

@@ -9,11 +9,11 @@ use Rattle.parity_table.proofs.Accepts.{accepted-depth}
 use Rattle.symbol_hash.specs.declared.Kind.{Kind}
 use Rattle.model.specs.Shape.{tree}
 use Rattle.model.specs.Writer.{block_of}
-use Rattle.coded_tree.proofs.BlockLaws.{base-room, block-part}
+use Rattle.coded_tree.proofs.BlockLaws.{base-room, block_part}
 use Rattle.calls.specs.declared.Answer.{Answer}
 use Rattle.calls.specs.declared.Answer.TheVariants.{Done}
 use Rattle.volume_calls.specs.Writing.{written_by}
-use Rattle.recoding.specs.Recoding.{otherKind}
+use Rattle.recoding.specs.Recoding.{other_kind}
 use Rattle.recoding.proofs.RecodingLaws.{block-short}
 use Rattle.recoding.proofs.recoding.recode_with.Statement.{statement}
 use Rattle.recoding.proofs.recoding.recode_with.Tie as tie
@@ -27,7 +27,7 @@ enum-known-s c = search rules
 returns : tie.Need-returns
 returns c =
     let a = c.before.before.before.before.before.before.before.before.before.before.before.before.before.args in
-    ap (λ (x : Answer). written_by x a.depth (otherKind a.kind) a.table.now (take a.n (block_of tree a.depth a.tree.now)) a.new-tree.now a.new-marks.now a.new-record.now) (sym c.before.s.given.1 ∙ c.before.before.before.test-source.ensures)
+    ap (λ (x : Answer). written_by x a.depth (other_kind a.kind) a.table.now (take a.n (block_of tree a.depth a.tree.now)) a.new-tree.now a.new-marks.now a.new_record_lem.now) (sym c.before.s.given.1 ∙ c.before.before.before.test-source.ensures)
 
 enum_told : tie.Need-enum-told
 enum_told c = search rules
@@ -73,8 +73,8 @@ returns-2 c =
     let s = c.before.before.before.before.before.before.before.before.before.before.before.before.before.before.before.before.before.before.before.before.before.before.before.before.before in
     let a = s.args in
     c.before.before.before.before.before.before.write-with.ensures
-    ∙ ap₂ (λ (k : Kind) (b : List ℕ). written_by Done a.depth k a.table.now b a.new-tree.now a.new-marks.now a.new-record.now) c.before.before.before.before.before.before.before.before.before.before.before.other.ensures (block-part s.args.depth _ s.args.tree.now (accepted-depth s.args.depth s.args.words.now s.requires.source.indexed.accepted).0 c.before.before.before.before.before.before.before.before.before.before.before.before.first-place.ensures s.requires.source.tree-full s.args.n s.requires.size_fits)
-    ∙ ap (λ (x : Answer). written_by x a.depth (otherKind a.kind) a.table.now (take a.n (block_of tree a.depth a.tree.now)) a.new-tree.now a.new-marks.now a.new-record.now) (sym c.before.before.before.before.before.before.before.before.before.before.before.before.before.enum_told.given.1 ∙ c.before.before.before.before.before.before.before.before.before.before.before.before.before.before.before.test-source.ensures)
+    ∙ ap₂ (λ (k : Kind) (b : List ℕ). written_by Done a.depth k a.table.now b a.new-tree.now a.new-marks.now a.new_record_lem.now) c.before.before.before.before.before.before.before.before.before.before.before.other.ensures (block_part s.args.depth _ s.args.tree.now (accepted-depth s.args.depth s.args.words.now s.requires.source.indexed.accepted).0 c.before.before.before.before.before.before.before.before.before.before.before.before.first-place.ensures s.requires.source.tree-full s.args.n s.requires.size_fits)
+    ∙ ap (λ (x : Answer). written_by x a.depth (other_kind a.kind) a.table.now (take a.n (block_of tree a.depth a.tree.now)) a.new-tree.now a.new-marks.now a.new_record_lem.now) (sym c.before.before.before.before.before.before.before.before.before.before.before.before.before.enum_told.given.1 ∙ c.before.before.before.before.before.before.before.before.before.before.before.before.before.before.before.test-source.ensures)
 
 pub recode-with-spec : {M : Type 1} → statement M
 recode-with-spec =

@@ -33,7 +33,7 @@ slice-relend-prefix-repair-with-3 : tie.Need-slice-relend-prefix-repair-with-3
 slice-relend-prefix-repair-with-3 c = search rules
 
 slice-aggregate-repair-with-3 : tie.Need-slice-aggregate-repair-with-3
-slice-aggregate-repair-with-3 c = sym (length-take-le _ c.before.before.before.before.before.before.before.before.before.before.before.before.before.before.before.before.before.before.args.order.now (omega (arith, c.before.before.before.before.before.before.data-count.ensures, c.before.before.before.before.before.before.before.before.before.before.before.before.before.before.before.before.before.before.requires.2.order-room)))
+slice-aggregate-repair-with-3 c = sym (length-take-le _ c.before.before.before.before.before.before.before.before.before.before.before.before.before.before.before.before.before.before.args.order.now (omega (arith, c.before.before.before.before.before.before.data-count.ensures, c.before.before.before.before.before.before.before.before.before.before.before.before.before.before.before.before.before.before.requires.2.order_room)))
 
 mul-repair-with-2 : tie.Need-overflow-mul-repair-with-2
 mul-repair-with-2 c = search rules
@@ -55,7 +55,7 @@ repair-with-requires c κs =
       record {
         used-full = omega (arith, length-take-le (3 * r) a.used.now (omega (arith, k, l.used-room)), k);
         absent-full = omega (arith, length-take-le (3 * r) a.absent.now (omega (arith, k, l.absent-room)), k);
-        order-full = omega (arith, length-take-le (2 * (3 * r)) a.order.now (omega (arith, k, l.order-room)), k);
+        order_full = omega (arith, length-take-le (2 * (3 * r)) a.order.now (omega (arith, k, l.order_room)), k);
         last-full = omega (arith, length-take-le (4 * r) a.last.now (omega (arith, k, l.last-room)), k);
         next-room = l.next-room;
       },

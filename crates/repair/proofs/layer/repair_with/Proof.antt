@@ -5,11 +5,11 @@ use native.Mathlib.Omega.{arith}
 use lib.ListN.{length, length-replicate, replicate}
 use Rattle.parity_table.specs.Parse.{table_of}
 use Rattle.parity_table.specs.Shape.{k_of, n_of}
-use Rattle.model.proofs.Hung.{tree-hangs}
-use Rattle.model.proofs.Shapes.{tree-ok}
+use Rattle.model.proofs.Hung.{tree_hangs}
+use Rattle.model.proofs.Shapes.{tree_ok}
 use Rattle.model.specs.Shape.{places, tree}
 use Rattle.equation.specs.Rooms.{Level}
-use Rattle.repair.proofs.LayerLaws.{countable, equations, given-keep, layer_below, layered, level, own-keep, peelable, reads, threadable}
+use Rattle.repair.proofs.LayerLaws.{countable, equations, given_keep, layer_below, layered, level, own_keep, peelable, reads, threadable}
 use borrow.Author.Rules.{rules}
 use Rattle.repair.proofs.layer.repair_with.Statement.{statement}
 use Rattle.repair.proofs.layer.repair_with.Tie as tie
@@ -18,7 +18,7 @@ number-of-requires : tie.Need-number-of-requires
 unfolding k_of
 number-of-requires c κs =
     let g = c.before.before.before.before.before.before.before.before.before.before.before.requires.0 in
-    (layer_below g.1 c.before.before.before.before.before.before.before.before.before.before.before.args.j g.2, omega (arith, tree-ok.shape.some c.before.before.before.before.before.before.before.before.before.before.before.args.j))
+    (layer_below g.1 c.before.before.before.before.before.before.before.before.before.before.before.args.j g.2, omega (arith, tree_ok.shape.some c.before.before.before.before.before.before.before.before.before.before.before.args.j))
 
 sweep-layer-requires : tie.Need-sweep-layer-requires
 unfolding n_of
@@ -32,11 +32,11 @@ set-up-requires c κs =
     let a = c.before.before.before.before.before.before.before.before.before.before.before.before.before.before.before.before.before.before.before.before.before.before.before.before.before.args in
     let g = c.before.before.before.before.before.before.before.before.before.before.before.before.before.before.before.before.before.before.before.before.before.before.before.before.before.requires.0 in
     let own = c.before.before.before.before.before.before.before.before.before.before.before.before.before.before.before.before.before.before.before.before.before.before.before.before.before.requires.2 in
-    let k = given-keep {t' = a.tree.now} {o' = a.out.now} refl c.before.before.before.before.before.before.before.before.before.before.sweep-layer.auto.1.1.1.0 refl g.1 in (
+    let k = given_keep {t' = a.tree.now} {o' = a.out.now} refl c.before.before.before.before.before.before.before.before.before.before.sweep-layer.auto.1.1.1.0 refl g.1 in (
       threadable g.1 a.j g.2 _ c.before.before.before.before.before.before.before.before.before.before.before.before.before.number_of_lem.ensures own,
       countable k a.j g.2 _ c.before.before.before.before.before.before.before.before.before.before.before.before.before.number_of_lem.ensures own,
       own.absent-full ∙ sym own.used-full,
-      omega (arith, own.order-full, own.used-full),
+      omega (arith, own.order_full, own.used-full),
     )
 
 peel-layer-requires : tie.Need-peel-layer-requires
@@ -45,8 +45,8 @@ peel-layer-requires c κs =
     let g = c.before.before.before.before.before.before.before.before.before.before.before.before.before.before.before.before.before.before.before.before.before.before.before.before.before.before.before.before.before.before.before.before.before.before.before.before.before.before.before.before.before.before.before.before.requires.0 in
     let w = c.before.before.before.before.before.before.before.before.before.before.before.before.before.before.before.before.before.before.before.before.before.before.before.before.before.before.before.before.before.sweep-layer in
     let u = c.before.before.before.before.before.before.before.before.before.before.before.before.before.before.before.before.before.before.set-up in
-    let k = given-keep w.auto.1.1.0 w.auto.1.1.1.0 refl g.1 in
-    let own = own-keep u.auto.1.1.1.1.0 u.auto.1.1.1.1.1.0 u.auto.1.1.1.1.1.1.0 u.auto.1.1.1.1.1.1.1.0 u.auto.1.1.1.1.1.1.1.1.0 c.before.before.before.before.before.before.before.before.before.before.before.before.before.before.before.before.before.before.before.before.before.before.before.before.before.before.before.before.before.before.before.before.before.before.before.before.before.before.before.before.before.before.before.before.requires.2 in
+    let k = given_keep w.auto.1.1.0 w.auto.1.1.1.0 refl g.1 in
+    let own = own_keep u.auto.1.1.1.1.0 u.auto.1.1.1.1.1.0 u.auto.1.1.1.1.1.1.0 u.auto.1.1.1.1.1.1.1.0 u.auto.1.1.1.1.1.1.1.1.0 c.before.before.before.before.before.before.before.before.before.before.before.before.before.before.before.before.before.before.before.before.before.before.before.before.before.before.before.before.before.before.before.before.before.before.before.before.before.before.before.before.before.before.before.before.requires.2 in
     (peelable k a.j g.2 _ c.before.before.before.before.before.before.before.before.before.before.before.before.before.before.before.before.before.before.before.before.before.before.before.before.before.before.before.before.before.before.before.before.number_of_lem.ensures own u.ensures.1 u.ensures.2 u.ensures.3, c.before.before.before.before.before.before.before.before.before.before.before.before.before.before.before.before.before.before.before.before.before.before.before.before.before.before.before.before.before.before.before.before.before.before.before.before.before.before.before.before.before.before.before.before.requires.1)
 
 settle-requires : tie.Need-settle-requires
@@ -90,9 +90,9 @@ returns c =
     let u = c.before.before.before.before.before.before.before.before.before.before.before.before.before.before.before.before.before.before.before.before.before.before.before.before.before.before.before.before.before.before.before.before.before.set-up.ensures.0 in
     let p = c.before.before.before.before.before.before.before.before.before.before.before.before.before.before.peel-layer in
     let n = ap length u ∙ length-replicate {A = ℕ} (length a.used.now) 0 ∙ own.used-full in (
-      layered a.kind a.root.now (table_of a.words.now) a.j _ own.last-full (c.before.before.before.before.before.before.before.before.before.before.before.before.before.before.before.before.before.before.before.before.before.before.before.before.before.before.before.before.before.before.before.before.before.before.before.before.before.before.before.before.before.before.before.before.sweep-layer.ensures tree (tree-hangs a.j))
+      layered a.kind a.root.now (table_of a.words.now) a.j _ own.last-full (c.before.before.before.before.before.before.before.before.before.before.before.before.before.before.before.before.before.before.before.before.before.before.before.before.before.before.before.before.before.before.before.before.before.before.before.before.before.before.before.before.before.before.before.before.sweep-layer.ensures tree (tree_hangs a.j))
           (u ∙ ap (λ (m : ℕ). replicate m 0) (own.used-full ∙ sym (equations g.1 a.j g.2)))
-          (p.ensures.0 tree (tree-hangs a.j) (table_of a.words.now) (reads g.1 a.j g.2 _ c.before.before.before.before.before.before.before.before.before.before.before.before.before.before.before.before.before.before.before.before.before.before.before.before.before.before.before.before.before.before.before.before.before.before.before.before.before.before.before.before.before.before.before.before.before.before.before.number_of_lem.ensures _ n)) _ c.settle.ensures,
+          (p.ensures.0 tree (tree_hangs a.j) (table_of a.words.now) (reads g.1 a.j g.2 _ c.before.before.before.before.before.before.before.before.before.before.before.before.before.before.before.before.before.before.before.before.before.before.before.before.before.before.before.before.before.before.before.before.before.before.before.before.before.before.before.before.before.before.before.before.before.before.before.number_of_lem.ensures _ n)) _ c.settle.ensures,
       omega (arith, p.ensures.1, n),
     )
 

@@ -2,15 +2,15 @@
 use mathlib.Core.Path.{◌≡◌, refl}
 use Prim.Native.Nat.{◌-◌, ◌≤◌}
 use native.Mathlib.Omega.{arith}
-use Rattle.model.specs.Sampling.{sampleSize}
-use Rattle.octets.proofs.Choice.{not_yes, not-no}
-use Rattle.symbol_hash.specs.SymbolHash.{symbolHash}
-use Rattle.sampling.proofs.CheckLaws.{FitBefore, fits-here, breaks-here, leads-here, fit-start}
+use Rattle.model.specs.Sampling.{sample_size}
+use Rattle.octets.proofs.Choice.{not_yes, not_no}
+use Rattle.symbol_hash.specs.SymbolHash.{symbol_hash}
+use Rattle.sampling.proofs.CheckLaws.{FitBefore, fits-here, breaks-here, leads-here, fit_start}
 use Rattle.sampling.proofs.checker.check.Statement.{statement}
 use Rattle.sampling.proofs.checker.check.Tie as tie
 
 abbrev invariant-loop : tie.invariant-loop
-invariant-loop kind depth i root sample x₀ x-end x = (x ≤ x-end) × (x-end ≡ sampleSize depth) × FitBefore (symbolHash kind) root sample depth i x
+invariant-loop kind depth i root sample x₀ x-end x = (x ≤ x-end) × (x-end ≡ sample_size depth) × FitBefore (symbol_hash kind) root sample depth i x
 
 abbrev decreases-loop : tie.decreases-loop
 decreases-loop kind depth i root sample x₀ x-end x = x-end - x
@@ -23,7 +23,7 @@ sub-x-end c = omega arith
 
 loop-holds : tie.Need-loop-init invariant-loop decreases-loop
 loop-holds c =
-    (omega arith, refl, fit-start (symbolHash c.before.before.args.kind) c.before.before.args.root.now c.before.before.args.sample.now c.before.before.args.depth c.before.before.args.i)
+    (omega arith, refl, fit_start (symbol_hash c.before.before.args.kind) c.before.before.args.root.now c.before.before.args.sample.now c.before.before.args.depth c.before.before.args.i)
 
 symbol-fits-requires : tie.Need-symbol-fits-requires invariant-loop decreases-loop
 symbol-fits-requires c κs = (c.before.before.before.before.requires.0, (omega arith, omega arith), omega arith, omega arith)
@@ -33,7 +33,7 @@ layer-of-requires c κs = (omega arith, omega arith)
 
 returns : tie.Need-returns invariant-loop decreases-loop
 returns c =
-    breaks-here (symbolHash c.before.before.before.before.before.before.before.args.kind) c.before.before.before.before.before.before.before.args.root.now
+    breaks-here (symbol_hash c.before.before.before.before.before.before.before.args.kind) c.before.before.before.before.before.before.before.args.root.now
     c.before.before.before.before.before.before.before.args.sample.now
     c.before.before.before.before.before.before.before.args.depth
     c.before.before.before.before.before.before.before.args.i c.before.before.before.before.loop.x
@@ -49,11 +49,11 @@ loop-less c = omega arith
 
 loop-again : tie.Need-loop-preserved invariant-loop decreases-loop
 loop-again c =
-    (omega arith, c.before.before.before.loop.invariant.1, fits-here (symbolHash c.before.before.before.before.before.before.args.kind) c.before.before.before.before.before.before.args.root.now c.before.before.before.before.before.before.args.sample.now c.before.before.before.before.before.before.args.depth c.before.before.before.before.before.before.args.i c.before.before.before.loop.x c.before.symbol-fits.result c.before.symbol-fits.ensures (omega arith) c.before.before.before.loop.invariant.2 (not-no _ c.if1.false))
+    (omega arith, c.before.before.before.loop.invariant.1, fits-here (symbol_hash c.before.before.before.before.before.before.args.kind) c.before.before.before.before.before.before.args.root.now c.before.before.before.before.before.before.args.sample.now c.before.before.before.before.before.before.args.depth c.before.before.before.before.before.before.args.i c.before.before.before.loop.x c.before.symbol-fits.result c.before.symbol-fits.ensures (omega arith) c.before.before.before.loop.invariant.2 (not_no _ c.if1.false))
 
 returns-2 : tie.Need-returns-2 invariant-loop decreases-loop
 returns-2 c =
-    leads-here (symbolHash c.before.before.before.before.args.kind) c.before.before.before.before.args.root.now c.before.before.before.before.args.sample.now
+    leads-here (symbol_hash c.before.before.before.before.args.kind) c.before.before.before.before.args.root.now c.before.before.before.before.args.sample.now
     c.before.before.before.before.args.depth c.before.before.before.before.args.i c.before.loop.x
     (omega arith) c.before.loop.invariant.2
 

@@ -2,7 +2,7 @@
 use native.Mathlib.Omega.{arith}
 use borrow.Author.Rules.{rules}
 use Rattle.model.proofs.Hung.{top-hashes}
-use Rattle.symbol_hash.specs.SymbolHash.{symbolHash}
+use Rattle.symbol_hash.specs.SymbolHash.{symbol_hash}
 use Rattle.sampling.proofs.CheckLaws.{fits-is}
 use Rattle.sampling.proofs.SymbolLaws.{in_tree}
 use Rattle.sampling.proofs.checker.symbol_fits.Statement.{statement}
@@ -59,7 +59,7 @@ fits-requires c κs =
 returns : tie.Need-returns
 returns c =
     let a = c.before.before.before.before.before.before.args in
-    fits-is (symbolHash a.kind) a.root.now a.sample.now a.depth a.i a.x c.before.before.before.layer-of.result c.before.before.number_of_lem.result c.fits2.result c.before.before.before.layer-of.ensures c.before.before.number_of_lem.ensures c.fits2.ensures
+    fits-is (symbol_hash a.kind) a.root.now a.sample.now a.depth a.i a.x c.before.before.before.layer-of.result c.before.before.number_of_lem.result c.fits2.result c.before.before.before.layer-of.ensures c.before.before.number_of_lem.ensures c.fits2.ensures
 
 pub symbol-fits-spec : {M : Type 1} → statement M
 symbol-fits-spec =

@@ -2,14 +2,14 @@
 use mathlib.Core.Path.{◌≡◌, refl}
 use Prim.Native.Nat.{◌-◌, ◌≤◌}
 use native.Mathlib.Omega.{arith}
-use Rattle.model.specs.Sampling.{sampleSize}
+use Rattle.model.specs.Sampling.{sample_size}
 use Rattle.sampling.proofs.SamplerLaws.{HeldBefore, absent-here, held-here, all_held, held_start}
-use Rattle.sampling.proofs.SymbolLaws.{sample-place-lt}
+use Rattle.sampling.proofs.SymbolLaws.{sample-place_lt}
 use Rattle.sampling.proofs.sampler.first_absent.Statement.{statement}
 use Rattle.sampling.proofs.sampler.first_absent.Tie as tie
 
 abbrev invariant-loop : tie.invariant-loop
-invariant-loop depth i marks x₀ x-end x = (x ≤ x-end) × (x-end ≡ sampleSize depth) × HeldBefore depth i marks x
+invariant-loop depth i marks x₀ x-end x = (x ≤ x-end) × (x-end ≡ sample_size depth) × HeldBefore depth i marks x
 
 abbrev decreases-loop : tie.decreases-loop
 decreases-loop depth i marks x₀ x-end x = x-end - x
@@ -29,7 +29,7 @@ sample-place-requires c κs = (c.before.before.before.requires.0, (omega arith, 
 shared-slice-read-if1 : tie.Need-shared-slice-read-if1 invariant-loop decreases-loop
 shared-slice-read-if1 c =
     omega
-    (arith, sample-place-lt c.before.before.before.before.before.args.depth c.before.before.before.before.before.args.i c.before.before.before.loop.x c.before.before.before.before.before.requires.0 (omega arith), c.before.sample-place.ensures)
+    (arith, sample-place_lt c.before.before.before.before.before.args.depth c.before.before.before.before.before.args.i c.before.before.before.loop.x c.before.before.before.before.before.requires.0 (omega arith), c.before.sample-place.ensures)
 
 returns : tie.Need-returns invariant-loop decreases-loop
 returns c =

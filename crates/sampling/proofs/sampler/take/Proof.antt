@@ -3,17 +3,17 @@ use mathlib.Core.Path.{◌≡◌, refl, ◌∙◌}
 use Prim.Native.Nat.{◌-◌, ◌*◌, ◌≤◌}
 use native.Mathlib.Omega.{arith}
 use lib.ListN.{length}
-use Rattle.model.specs.Sampling.{sampleSize}
+use Rattle.model.specs.Sampling.{sample_size}
 use Rattle.model.specs.Shape.{tree}
 use Rattle.model.specs.Symbols.{joined}
-use Rattle.sampling.proofs.SamplerLaws.{Taken, taken-all, copied-length, taken_more, copied-same}
-use Rattle.sampling.proofs.SymbolLaws.{sample-place-lt}
+use Rattle.sampling.proofs.SamplerLaws.{Taken, taken-all, copied_length, taken_more, copied_same}
+use Rattle.sampling.proofs.SymbolLaws.{sample-place_lt}
 use Rattle.sampling.proofs.sampler.take.Statement.{statement}
 use Rattle.sampling.proofs.sampler.take.Tie as tie
 
 abbrev invariant-loop : tie.invariant-loop
 invariant-loop depth i tree sample₀ x₀ x-end sample x =
-    (x ≤ x-end) × (x-end ≡ sampleSize depth) × (length sample ≡ 256 * sampleSize depth) × Taken depth i tree sample x
+    (x ≤ x-end) × (x-end ≡ sample_size depth) × (length sample ≡ 256 * sample_size depth) × Taken depth i tree sample x
 
 abbrev decreases-loop : tie.decreases-loop
 decreases-loop depth i tree sample₀ x₀ x-end sample x = x-end - x
@@ -34,27 +34,27 @@ sample-place-requires c κs = (c.before.before.before.before.requires.0, (omega 
 mul-from : tie.Need-overflow-mul-from invariant-loop decreases-loop
 mul-from c =
     omega
-    (arith, sample-place-lt c.before.before.before.before.before.args.depth c.before.before.before.before.before.args.i c.before.before.loop.x c.before.before.before.before.before.requires.0 (omega arith), c.sample-place.ensures)
+    (arith, sample-place_lt c.before.before.before.before.before.args.depth c.before.before.before.before.before.args.i c.before.before.loop.x c.before.before.before.before.before.requires.0 (omega arith), c.sample-place.ensures)
 
 add-to : tie.Need-overflow-add-to invariant-loop decreases-loop
 add-to c =
     omega
-    (arith, sample-place-lt c.before.before.before.before.before.args.depth c.before.before.before.before.before.args.i c.before.before.loop.x c.before.before.before.before.before.requires.0 (omega arith), c.sample-place.ensures)
+    (arith, sample-place_lt c.before.before.before.before.before.args.depth c.before.before.before.before.before.args.i c.before.before.loop.x c.before.before.before.before.before.requires.0 (omega arith), c.sample-place.ensures)
 
 sub-copy-at : tie.Need-overflow-sub-copy-at invariant-loop decreases-loop
 sub-copy-at c =
     omega
-    (arith, sample-place-lt c.before.before.before.before.before.args.depth c.before.before.before.before.before.args.i c.before.before.loop.x c.before.before.before.before.before.requires.0 (omega arith), c.sample-place.ensures)
+    (arith, sample-place_lt c.before.before.before.before.before.args.depth c.before.before.before.before.before.args.i c.before.before.loop.x c.before.before.before.before.before.requires.0 (omega arith), c.sample-place.ensures)
 
 part-copy-at-start : tie.Need-slice-bounds-copy-at-start invariant-loop decreases-loop
 part-copy-at-start c =
     omega
-    (arith, sample-place-lt c.before.before.before.before.before.args.depth c.before.before.before.before.before.args.i c.before.before.loop.x c.before.before.before.before.before.requires.0 (omega arith), c.sample-place.ensures)
+    (arith, sample-place_lt c.before.before.before.before.before.args.depth c.before.before.before.before.before.args.i c.before.before.loop.x c.before.before.before.before.before.requires.0 (omega arith), c.sample-place.ensures)
 
 part-copy-at-end : tie.Need-slice-bounds-copy-at-end invariant-loop decreases-loop
 part-copy-at-end c =
     omega
-    (arith, sample-place-lt c.before.before.before.before.before.args.depth c.before.before.before.before.before.args.i c.before.before.loop.x c.before.before.before.before.before.requires.0 (omega arith), c.sample-place.ensures)
+    (arith, sample-place_lt c.before.before.before.before.before.args.depth c.before.before.before.before.before.args.i c.before.before.loop.x c.before.before.before.before.before.requires.0 (omega arith), c.sample-place.ensures)
 
 mul-copy-at : tie.Need-overflow-mul-copy-at invariant-loop decreases-loop
 mul-copy-at c = omega arith
@@ -62,7 +62,7 @@ mul-copy-at c = omega arith
 copy-at-requires : tie.Need-copy-at-requires invariant-loop decreases-loop
 copy-at-requires c κs =
     omega
-    (arith, copied-length c.before.before.before.before.before.before.before.args.depth c.before.before.before.before.before.before.before.args.i c.before.before.before.before.before.before.before.args.tree.now c.before.before.before.before.loop.sample c.before.before.before.before.loop.x c.before.before.sample-place.result c.before.before.sample-place.ensures (omega (arith, sample-place-lt c.before.before.before.before.before.before.before.args.depth c.before.before.before.before.before.before.before.args.i c.before.before.before.before.loop.x c.before.before.before.before.before.before.before.requires.0 (omega arith), c.before.before.sample-place.ensures)) (omega arith))
+    (arith, copied_length c.before.before.before.before.before.before.before.args.depth c.before.before.before.before.before.before.before.args.i c.before.before.before.before.before.before.before.args.tree.now c.before.before.before.before.loop.sample c.before.before.before.before.loop.x c.before.before.sample-place.result c.before.before.sample-place.ensures (omega (arith, sample-place_lt c.before.before.before.before.before.before.before.args.depth c.before.before.before.before.before.before.before.args.i c.before.before.before.before.loop.x c.before.before.before.before.before.before.before.requires.0 (omega arith), c.before.before.sample-place.ensures)) (omega arith))
 
 add-x : tie.Need-overflow-add-x invariant-loop decreases-loop
 add-x c = omega arith
@@ -72,7 +72,7 @@ loop-less c = omega arith
 
 loop-again : tie.Need-loop-preserved invariant-loop decreases-loop
 loop-again c =
-    (omega arith, c.before.before.before.before.before.before.before.loop.invariant.1, copied-same c.before.before.before.before.before.before.before.before.before.before.args.depth c.before.before.before.before.before.before.before.before.before.before.args.i c.before.before.before.before.before.before.before.before.before.before.args.tree.now c.before.before.before.before.before.before.before.loop.sample c.before.before.before.before.before.before.before.loop.x c.before.before.before.before.before.sample-place.result c.before.before.before.before.before.sample-place.ensures (omega (arith, sample-place-lt c.before.before.before.before.before.before.before.before.before.before.args.depth c.before.before.before.before.before.before.before.before.before.before.args.i c.before.before.before.before.before.before.before.loop.x c.before.before.before.before.before.before.before.before.before.before.requires.0 (omega arith), c.before.before.before.before.before.sample-place.ensures)) (omega arith) _ c.before.before.copy_at.ensures ∙ c.before.before.before.before.before.before.before.loop.invariant.2, taken_more c.before.before.before.before.before.before.before.before.before.before.args.depth c.before.before.before.before.before.before.before.before.before.before.args.i c.before.before.before.before.before.before.before.before.before.before.args.tree.now c.before.before.before.before.before.before.before.loop.sample c.before.before.before.before.before.before.before.loop.x c.before.before.before.before.before.sample-place.result c.before.before.before.before.before.sample-place.ensures (omega (arith, sample-place-lt c.before.before.before.before.before.before.before.before.before.before.args.depth c.before.before.before.before.before.before.before.before.before.before.args.i c.before.before.before.before.before.before.before.loop.x c.before.before.before.before.before.before.before.before.before.before.requires.0 (omega arith), c.before.before.before.before.before.sample-place.ensures)) (omega arith) c.before.before.before.before.before.before.before.loop.invariant.3 _ c.before.before.copy_at.ensures)
+    (omega arith, c.before.before.before.before.before.before.before.loop.invariant.1, copied_same c.before.before.before.before.before.before.before.before.before.before.args.depth c.before.before.before.before.before.before.before.before.before.before.args.i c.before.before.before.before.before.before.before.before.before.before.args.tree.now c.before.before.before.before.before.before.before.loop.sample c.before.before.before.before.before.before.before.loop.x c.before.before.before.before.before.sample-place.result c.before.before.before.before.before.sample-place.ensures (omega (arith, sample-place_lt c.before.before.before.before.before.before.before.before.before.before.args.depth c.before.before.before.before.before.before.before.before.before.before.args.i c.before.before.before.before.before.before.before.loop.x c.before.before.before.before.before.before.before.before.before.before.requires.0 (omega arith), c.before.before.before.before.before.sample-place.ensures)) (omega arith) _ c.before.before.copy_at.ensures ∙ c.before.before.before.before.before.before.before.loop.invariant.2, taken_more c.before.before.before.before.before.before.before.before.before.before.args.depth c.before.before.before.before.before.before.before.before.before.before.args.i c.before.before.before.before.before.before.before.before.before.before.args.tree.now c.before.before.before.before.before.before.before.loop.sample c.before.before.before.before.before.before.before.loop.x c.before.before.before.before.before.sample-place.result c.before.before.before.before.before.sample-place.ensures (omega (arith, sample-place_lt c.before.before.before.before.before.before.before.before.before.before.args.depth c.before.before.before.before.before.before.before.before.before.before.args.i c.before.before.before.before.before.before.before.loop.x c.before.before.before.before.before.before.before.before.before.before.requires.0 (omega arith), c.before.before.before.before.before.sample-place.ensures)) (omega arith) c.before.before.before.before.before.before.before.loop.invariant.3 _ c.before.before.copy_at.ensures)
 
 same_length : tie.Need-same-length invariant-loop decreases-loop
 same_length c = omega arith

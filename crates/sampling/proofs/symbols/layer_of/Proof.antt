@@ -1,7 +1,7 @@
 -- `layer_of` meets its contract.
 use native.Mathlib.Omega.{arith}
 use borrow.Author.Rules.{rules}
-use Rattle.model.specs.Sampling.{sampleLayer}
+use Rattle.model.specs.Sampling.{sample_layer}
 use Rattle.sampling.proofs.symbols.layer_of.Statement.{statement}
 use Rattle.sampling.proofs.symbols.layer_of.Tie as tie
 
@@ -15,7 +15,7 @@ sub-result-2 : tie.Need-overflow-sub-result-2
 sub-result-2 c = search rules
 
 returns : tie.Need-returns
-unfolding sampleLayer
+unfolding sample_layer
 returns c = omega arith
 
 pub layer-of-spec : {M : Type 1} → statement M

@@ -18,7 +18,7 @@ place-of-requires c κs = let h = in_tree c.before.before.args.depth c.before.be
     (omega arith, h.1)
 
 returns : tie.Need-returns
-returns c = c.place-of.ensures ∙ ap₂ (place tree) c.before.before.layer-of.ensures c.before.number_of_lem.ensures
+returns c = c.place_of_lem.ensures ∙ ap₂ (place tree) c.before.before.layer-of.ensures c.before.number_of_lem.ensures
 
 pub sample-place-spec : {M : Type 1} → statement M
 sample-place-spec =

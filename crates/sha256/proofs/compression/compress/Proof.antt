@@ -1,6 +1,6 @@
 -- `compress` meets its contract: the four steps of section 6.2.2, one after the other.
 use Rattle.std.proofs.Common.{rules}
-use Rattle.sha256.proofs.CompressionLaws.{four-steps}
+use Rattle.sha256.proofs.CompressionLaws.{four_steps}
 use Rattle.sha256.proofs.compression.compress.Statement.{statement}
 use Rattle.sha256.proofs.compression.compress.Tie as tie
 
@@ -18,7 +18,7 @@ intermediate-hash-requires c κs = search rules
 
 returns : tie.Need-returns
 returns c =
-    four-steps _ _ _ _ _ _ c.before.before.before.message-schedule.ensures c.before.before.working-variables.ensures
+    four_steps _ _ _ _ _ _ c.before.before.before.message-schedule.ensures c.before.before.working-variables.ensures
     c.before.rounds.ensures c.intermediate-hash.ensures
 
 pub compress-spec : {M : Type 1} → statement M

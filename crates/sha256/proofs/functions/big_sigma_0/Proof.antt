@@ -1,7 +1,7 @@
 -- `big_sigma_0` meets its contract, (4.4).
 use Rattle.std.proofs.Common.{ap₂, rules}
 use lib.Bits.{bit_xor}
-use Rattle.sha256.specs.Functions.{bigSigma0}
+use Rattle.sha256.specs.Functions.{big_sigma0}
 use Rattle.sha256.proofs.functions.big_sigma_0.Statement.{statement}
 use Rattle.sha256.proofs.functions.big_sigma_0.Tie as tie
 
@@ -15,7 +15,7 @@ rotr-requires-3 : tie.Need-rotr-requires-3
 rotr-requires-3 c κs = search rules
 
 returns : tie.Need-returns
-unfolding bigSigma0
+unfolding big_sigma0
 returns c = ap₂ bit_xor (ap₂ bit_xor c.before.before.rotr.ensures c.before.rotr2.ensures) c.rotr3.ensures
 
 pub big-sigma-0-spec : {M : Type 1} → statement M

@@ -2,9 +2,9 @@
 use Rattle.std.proofs.Common.{sym, ap, ◌∙◌, ap₂, arith, rules}
 use lib.Bits.{bit_xor}
 use Rattle.octets.proofs.Bits.{xor_assoc}
-use Rattle.sha256.specs.Functions.{bigSigma1}
+use Rattle.sha256.specs.Functions.{big_sigma1}
 use Rattle.sha256.specs.Words.{rotr}
-use Rattle.sha256.proofs.BitForms.{rotr-nested}
+use Rattle.sha256.proofs.BitForms.{rotr_nested}
 use Rattle.sha256.proofs.functions.big_sigma_1.Statement.{statement}
 use Rattle.sha256.proofs.functions.big_sigma_1.Tie as tie
 
@@ -18,10 +18,10 @@ rotr-requires-3 : tie.Need-rotr-requires-3
 rotr-requires-3 c κs = search rules
 
 returns : tie.Need-returns
-unfolding bigSigma1
+unfolding big_sigma1
 returns c =
     let x = c.before.before.before.args.x in
-    ap₂ bit_xor c.before.before.rotr.ensures (c.rotr3.ensures ∙ ap (λ v. rotr 11 (bit_xor x v)) c.before.rotr2.ensures ∙ rotr-nested 11 14 x (omega arith) (omega arith))
+    ap₂ bit_xor c.before.before.rotr.ensures (c.rotr3.ensures ∙ ap (λ v. rotr 11 (bit_xor x v)) c.before.rotr2.ensures ∙ rotr_nested 11 14 x (omega arith) (omega arith))
     ∙ sym (xor_assoc (rotr 6 x) (rotr 11 x) (rotr 25 x))
 
 pub big-sigma-1-spec : {M : Type 1} → statement M

@@ -1,7 +1,7 @@
 -- `finished` meets its contract: m's own blocks, then those of the end, of which the last is taken in by itself.
 use Rattle.std.proofs.Common.{arith, rules}
 use Rattle.sha256.proofs.PaddingLaws.{length-pad}
-use Rattle.sha256.proofs.HashLaws.{finished-is}
+use Rattle.sha256.proofs.HashLaws.{finished_is}
 use Rattle.sha256.proofs.hash.finished.Statement.{statement}
 use Rattle.sha256.proofs.hash.finished.Tie as tie
 
@@ -12,17 +12,17 @@ end-blocks-requires : tie.Need-end-blocks-requires
 end-blocks-requires c κs = search rules
 
 sub-last : tie.Need-overflow-sub-last
-sub-last c = omega (arith, length-pad c.before.before.before.before.args.m.now, c.end-blocks.ensures)
+sub-last c = omega (arith, length-pad c.before.before.before.before.args.m.now, c.end_blocks.ensures)
 
 processed-requires-2 : tie.Need-processed-requires-2
-processed-requires-2 c κs = omega (arith, length-pad c.before.before.before.before.args.m.now, c.end-blocks.ensures)
+processed-requires-2 c κs = omega (arith, length-pad c.before.before.before.before.args.m.now, c.end_blocks.ensures)
 
 after-block-requires : tie.Need-after-block-requires
-after-block-requires c κs = omega (arith, length-pad c.before.before.before.before.before.args.m.now, c.before.end-blocks.ensures)
+after-block-requires c κs = omega (arith, length-pad c.before.before.before.before.before.args.m.now, c.before.end_blocks.ensures)
 
 returns : tie.Need-returns
 returns c =
-    finished-is _ _ _ _ _ _ _ c.before.before.before.processed.ensures c.before.before.end-blocks.ensures c.before.processed2.ensures c.after_block.ensures
+    finished_is _ _ _ _ _ _ _ c.before.before.before.processed.ensures c.before.before.end_blocks.ensures c.before.processed2.ensures c.after_block.ensures
 
 pub finished-spec : {M : Type 1} → statement M
 finished-spec =

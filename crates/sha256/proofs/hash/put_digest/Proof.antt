@@ -2,7 +2,7 @@
 use Rattle.std.proofs.Common.{◌≡◌, ◌-◌, ◌*◌, ◌≤◌, length, take, refl, ap, ◌∙◌, arith, rules}
 use lib.Seq.{length-sets}
 use Rattle.octets.specs.BigEndian.{bytes_of}
-use Rattle.sha256.proofs.DigestLaws.{put-more, put_all}
+use Rattle.sha256.proofs.DigestLaws.{put_more, put_all}
 use Rattle.sha256.proofs.hash.put_digest.Statement.{statement}
 use Rattle.sha256.proofs.hash.put_digest.Tie as tie
 
@@ -36,7 +36,7 @@ loop-less c = search rules
 
 loop-again : tie.Need-loop-preserved invariant-loop decreases-loop
 loop-again c =
-    (omega arith, ap length c.before.before.put_word.ensures ∙ simp length-sets c.before.before.before.before.before.loop.invariant.1, put-more _ _ _ c.before.before.before.before.before.loop.i (search rules) (omega arith) c.before.before.before.before.before.loop.invariant.2 c.before.before.put_word.ensures)
+    (omega arith, ap length c.before.before.put_word.ensures ∙ simp length-sets c.before.before.before.before.before.loop.invariant.1, put_more _ _ _ c.before.before.before.before.before.loop.i (search rules) (omega arith) c.before.before.before.before.before.loop.invariant.2 c.before.before.put_word.ensures)
 
 same_length : tie.Need-same-length invariant-loop decreases-loop
 same_length c = search rules

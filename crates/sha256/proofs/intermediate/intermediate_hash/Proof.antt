@@ -1,6 +1,6 @@
 -- `intermediate_hash` meets its contract: the eight sums of step 4.
 use Rattle.std.proofs.Common.{rules}
-use Rattle.sha256.proofs.CompressionLaws.{sums-are}
+use Rattle.sha256.proofs.CompressionLaws.{sums_are}
 use Rattle.sha256.proofs.intermediate.intermediate_hash.Statement.{statement}
 use Rattle.sha256.proofs.intermediate.intermediate_hash.Tie as tie
 
@@ -78,7 +78,7 @@ wrapping-add-u32-requires-8 c κs = search rules
 
 returns : tie.Need-returns
 returns c =
-    sums-are _ _ _ _ _ _ _ _ _ _ c.before.before.before.before.before.before.before.wrapping-add-u32.ensures
+    sums_are _ _ _ _ _ _ _ _ _ _ c.before.before.before.before.before.before.before.wrapping-add-u32.ensures
     c.before.before.before.before.before.before.wrapping-add-u322.ensures
     c.before.before.before.before.before.wrapping-add-u323.ensures
     c.before.before.before.before.wrapping-add-u324.ensures c.before.before.before.wrapping-add-u325.ensures

@@ -41,7 +41,7 @@ loop-less c = search rules
 
 loop-again : tie.Need-loop-preserved invariant-loop decreases-loop
 loop-again c =
-    (omega arith, simp length-set c.before.before.loop.invariant.1, words_more _ _ _ _ _ c.before.loop-test.true c.before.before.loop.invariant.1 c.before.before.loop.invariant.2 c.word-at.ensures)
+    (omega arith, simp length-set c.before.before.loop.invariant.1, words_more _ _ _ _ _ c.before.loop-test.true c.before.before.loop.invariant.1 c.before.before.loop.invariant.2 c.word_at_lem.ensures)
 
 returns : tie.Need-returns invariant-loop decreases-loop
 returns c = words-all _ _ _ c.before.loop.t (omega arith) c.before.loop.invariant.1 c.before.loop.invariant.2

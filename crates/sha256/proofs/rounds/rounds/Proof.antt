@@ -1,8 +1,8 @@
 -- `rounds` meets its contract: four times sixteen rounds. The table of constants is that of section 4.2.2, entry by entry.
 use Rattle.std.proofs.Common.{refl}
 use Rattle.sha256.specs.Constants.{constants}
-use Rattle.sha256.specs.Hash.{roundsFrom, rounds}
-use Rattle.sha256.proofs.RoundLaws.{rounds-split}
+use Rattle.sha256.specs.Hash.{rounds_from, rounds}
+use Rattle.sha256.proofs.RoundLaws.{rounds_split}
 use Rattle.sha256.proofs.Runs.{more}
 use Rattle.sha256.proofs.rounds.rounds.Statement.{statement}
 use Rattle.sha256.proofs.rounds.rounds.Tie as tie
@@ -25,8 +25,8 @@ rounds-from-48-requires c κs = refl
 
 returns : tie.Need-returns
 unfolding rounds
-returns c = let run = roundsFrom c.before.before.before.before.args.w in
-    let split = rounds-split c.before.before.before.before.args.w in
+returns c = let run = rounds_from c.before.before.before.before.args.w in
+    let split = rounds_split c.before.before.before.before.args.w in
     more run split 0 48 16
     (more run split 0 32 16
     (more run split 0 16 16 c.before.before.before.rounds-from-0.ensures c.before.before.rounds-from-16.ensures)

@@ -1,8 +1,8 @@
 -- `rounds_from_32` meets its contract: sixteen rounds.
 use Rattle.std.proofs.Common.{lit<}
-use Rattle.sha256.specs.Hash.{roundsFrom}
-use Rattle.sha256.proofs.RoundLaws.{rounds-split}
-use Rattle.sha256.proofs.Runs.{eight-twos}
+use Rattle.sha256.specs.Hash.{rounds_from}
+use Rattle.sha256.proofs.RoundLaws.{rounds_split}
+use Rattle.sha256.proofs.Runs.{eight_twos}
 use Rattle.sha256.proofs.rounds.rounds_from_32.Statement.{statement}
 use Rattle.sha256.proofs.rounds.rounds_from_32.Tie as tie
 
@@ -32,8 +32,8 @@ two-rounds-requires-8 c κs = (c.before.before.before.before.before.before.befor
 
 returns : tie.Need-returns
 returns c =
-    eight-twos (roundsFrom c.before.before.before.before.before.before.before.before.args.w)
-    (rounds-split c.before.before.before.before.before.before.before.before.args.w) 32
+    eight_twos (rounds_from c.before.before.before.before.before.before.before.before.args.w)
+    (rounds_split c.before.before.before.before.before.before.before.before.args.w) 32
     c.before.before.before.before.before.before.before.two-rounds.ensures
     c.before.before.before.before.before.before.two-rounds2.ensures
     c.before.before.before.before.before.two-rounds3.ensures c.before.before.before.before.two-rounds4.ensures

@@ -1,8 +1,8 @@
 -- `extended_to_32` meets its contract: sixteen words more.
 use Rattle.std.proofs.Common.{lit<, lit≤}
 use Rattle.sha256.specs.Hash.{extended}
-use Rattle.sha256.proofs.Runs.{eight-twos}
-use Rattle.sha256.proofs.ScheduleLaws.{extended-split}
+use Rattle.sha256.proofs.Runs.{eight_twos}
+use Rattle.sha256.proofs.ScheduleLaws.{extended_split}
 use Rattle.sha256.proofs.schedule.extended_to_32.Statement.{statement}
 use Rattle.sha256.proofs.schedule.extended_to_32.Tie as tie
 
@@ -32,7 +32,7 @@ extended-twice-requires-8 c κs = (lit≤ tt, lit< tt)
 
 returns : tie.Need-returns
 returns c =
-    eight-twos (λ t n v. extended v t n) extended-split 16
+    eight_twos (λ t n v. extended v t n) extended_split 16
     c.before.before.before.before.before.before.before.extended-twice.ensures
     c.before.before.before.before.before.before.extended-twice2.ensures
     c.before.before.before.before.before.extended-twice3.ensures

@@ -1,6 +1,6 @@
 -- `working_variables` meets its contract: step 2.
 use Rattle.std.proofs.Common.{refl, rules}
-use Rattle.sha256.specs.Hash.{workingVariables}
+use Rattle.sha256.specs.Hash.{working_variables}
 use Rattle.sha256.proofs.variables.working_variables.Statement.{statement}
 use Rattle.sha256.proofs.variables.working_variables.Tie as tie
 
@@ -29,7 +29,7 @@ array-read-t26 : tie.Need-array-read-t26
 array-read-t26 c = search rules
 
 returns : tie.Need-returns
-unfolding workingVariables
+unfolding working_variables
 returns c = refl
 
 pub working-variables-spec : {M : Type 1} → statement M

@@ -4,8 +4,8 @@ use Prim.Native.Nat.{◌-◌}
 use native.Mathlib.Omega.{arith}
 use lib.ListN.{drop}
 use borrow.Author.Rules.{rules}
-use Rattle.model.proofs.Shapes.{tree-ok}
-use Rattle.symbol_hash.proofs.CommittedLaws.{slot_lt, fits-root, fits-above}
+use Rattle.model.proofs.Shapes.{tree_ok}
+use Rattle.symbol_hash.proofs.CommittedLaws.{slot_lt, fits_root_lem, fits-above}
 use Rattle.symbol_hash.proofs.committed.fits.Statement.{statement}
 use Rattle.symbol_hash.proofs.committed.fits.Tie as tie
 
@@ -29,7 +29,7 @@ returns : tie.Need-returns
 returns c =
     let a = c.before.before.before.before.before.before.before.args in
     c.equal-at.ensures
-    ∙ fits-root a.kind a.root.now _ a.symbol.now a.j a.m c.before.before.before.hash.ensures (drop a.up a.b.now) c.before.before.if1.true
+    ∙ fits_root_lem a.kind a.root.now _ a.symbol.now a.j a.m c.before.before.before.hash.ensures (drop a.up a.b.now) c.before.before.if1.true
 
 sub-data-count : tie.Need-overflow-sub-data-count
 sub-data-count c = search rules
@@ -40,7 +40,7 @@ data-count-requires c κs = search rules
 div-slot : tie.Need-nonzero-div-slot
 div-slot c =
     let a = c.before.before.before.before.before.before.args in
-    omega (arith, c.data-count.ensures, tree-ok.shape.some (a.j - 1))
+    omega (arith, c.data-count.ensures, tree_ok.shape.some (a.j - 1))
 
 slice-aggregate-equal-at-2 : tie.Need-slice-aggregate-equal-at-2
 slice-aggregate-equal-at-2 c = search rules

@@ -6,11 +6,11 @@ use native.Mathlib.Omega.{arith}
 use lib.Dec.{eqb}
 use borrow.Author.Rules.{rules}
 use borrow.Author.Tests.{eq-eqb, ne_eqb}
-use Rattle.octets.proofs.Choice.{not_yes, not-no}
-use Rattle.parity_table.specs.Shape.{depthFits}
-use Rattle.parity_table.proofs.Shape.{k-small}
-use Rattle.calls.specs.Lengths.{treeSized, blockSized, recordSized}
-use Rattle.calls.proofs.LengthLaws.{fit-no, fit-yes, fit-depth}
+use Rattle.octets.proofs.Choice.{not_yes, not_no}
+use Rattle.parity_table.specs.Shape.{depth_fits}
+use Rattle.parity_table.proofs.Shape.{k_small}
+use Rattle.calls.specs.Lengths.{tree_sized, block_sized, record_sized}
+use Rattle.calls.proofs.LengthLaws.{fit_no, fit_yes, fit_depth}
 use Rattle.volume_calls.proofs.reading.sizes_fit.Statement.{statement}
 use Rattle.volume_calls.proofs.reading.sizes_fit.Tie as tie
 
@@ -20,34 +20,34 @@ tree-fits-requires c κs = search rules
 returns : tie.Need-returns
 returns c =
     let g = c.before.before.args in
-    fit-no (depthFits g.depth) (treeSized g.depth g.tree g.marks) (recordSized g.record-len && blockSized g.depth g.block) (sym c.before.tree-fits.ensures ∙ not_yes _ c.if1.true)
+    fit_no (depth_fits g.depth) (tree_sized g.depth g.tree g.marks) (record_sized g.record-len && block_sized g.depth g.block) (sym c.before.tree-fits.ensures ∙ not_yes _ c.if1.true)
 
 returns-2 : tie.Need-returns-2
 returns-2 c =
     let g = c.before.before.before.args in
-    sym (ap (λ (x : Bool). x && blockSized g.depth g.block) (ne_eqb g.record-len 556 c.if2.true)) ∙ fit-yes (depthFits g.depth) (treeSized g.depth g.tree g.marks) (recordSized g.record-len && blockSized g.depth g.block) (sym c.before.before.tree-fits.ensures ∙ not-no _ c.before.if1.false)
+    sym (ap (λ (x : Bool). x && block_sized g.depth g.block) (ne_eqb g.record-len 556 c.if2.true)) ∙ fit_yes (depth_fits g.depth) (tree_sized g.depth g.tree g.marks) (record_sized g.record-len && block_sized g.depth g.block) (sym c.before.before.tree-fits.ensures ∙ not_no _ c.before.if1.false)
 
 sub-data-count : tie.Need-overflow-sub-data-count
 sub-data-count c =
     let g = c.before.before.before.args in
-    omega (arith, (fit-depth g.depth (treeSized g.depth g.tree g.marks) (sym c.before.before.tree-fits.ensures ∙ not-no _ c.before.if1.false)).0)
+    omega (arith, (fit_depth g.depth (tree_sized g.depth g.tree g.marks) (sym c.before.before.tree-fits.ensures ∙ not_no _ c.before.if1.false)).0)
 
 data-count-requires : tie.Need-data-count-requires
 data-count-requires c κs =
     let g = c.before.before.before.args in
-    let h = fit-depth g.depth (treeSized g.depth g.tree g.marks) (sym c.before.before.tree-fits.ensures ∙ not-no _ c.before.if1.false) in
+    let h = fit_depth g.depth (tree_sized g.depth g.tree g.marks) (sym c.before.before.tree-fits.ensures ∙ not_no _ c.before.if1.false) in
     omega (arith, h.0, h.1)
 
 mul-result : tie.Need-overflow-mul-result
 mul-result c =
     let g = c.before.before.before.before.args in
-    let h = fit-depth g.depth (treeSized g.depth g.tree g.marks) (sym c.before.before.before.tree-fits.ensures ∙ not-no _ c.before.before.if1.false) in
-    omega (arith, c.data-count.ensures, k-small (g.depth - 1) (omega (arith, h.0, h.1)))
+    let h = fit_depth g.depth (tree_sized g.depth g.tree g.marks) (sym c.before.before.before.tree-fits.ensures ∙ not_no _ c.before.before.if1.false) in
+    omega (arith, c.data-count.ensures, k_small (g.depth - 1) (omega (arith, h.0, h.1)))
 
 returns-3 : tie.Need-returns-3
 returns-3 c =
     let g = c.before.before.before.before.args in
-    ap (λ (q : ℕ). eqb g.block (256 * q)) c.data-count.ensures ∙ sym (ap (λ (x : Bool). x && blockSized g.depth g.block) (eq-eqb g.record-len 556 c.before.if2.false)) ∙ fit-yes (depthFits g.depth) (treeSized g.depth g.tree g.marks) (recordSized g.record-len && blockSized g.depth g.block) (sym c.before.before.before.tree-fits.ensures ∙ not-no _ c.before.before.if1.false)
+    ap (λ (q : ℕ). eqb g.block (256 * q)) c.data-count.ensures ∙ sym (ap (λ (x : Bool). x && block_sized g.depth g.block) (eq-eqb g.record-len 556 c.before.if2.false)) ∙ fit_yes (depth_fits g.depth) (tree_sized g.depth g.tree g.marks) (record_sized g.record-len && block_sized g.depth g.block) (sym c.before.before.before.tree-fits.ensures ∙ not_no _ c.before.before.if1.false)
 
 pub sizes-fit-spec : {M : Type 1} → statement M
 sizes-fit-spec =

@@ -5,7 +5,7 @@ use native.Mathlib.Omega.{arith}
 use borrow.Author.Rules.{rules}
 use Rattle.model.specs.Shape.{tree}
 use Rattle.model.specs.Symbols.{lowest}
-use Rattle.model.specs.Repair.{absentAt}
+use Rattle.model.specs.Repair.{absent_at}
 use Rattle.calls.specs.declared.Stop.TheVariants.{Absent}
 use Rattle.calls.specs.declared.Answer.TheVariants.{Stopped}
 use Rattle.volume_calls.proofs.ReadingLaws.{base-room, base-absent, base_there}
@@ -28,13 +28,13 @@ first-absent-requires c κs =
 returns : tie.Need-returns
 returns c =
     let g = c.before.before.before.before.args in
-    let e = c.before.first_absent.ensures ∙ ap (lowest (absentAt tree g.marks.now (g.depth - 1)) 0) c.before.before.data-count.ensures in
+    let e = c.before.first_absent.ensures ∙ ap (lowest (absent_at tree g.marks.now (g.depth - 1)) 0) c.before.before.data-count.ensures in
     ap (λ (x : ℕ). Stopped (Absent x)) e ∙ base-absent g.depth g.marks.now (omega (arith, e, c.before.before.data-count.ensures, c.if1.true))
 
 returns-2 : tie.Need-returns-2
 returns-2 c =
     let g = c.before.before.before.before.args in
-    let e = c.before.first_absent.ensures ∙ ap (lowest (absentAt tree g.marks.now (g.depth - 1)) 0) c.before.before.data-count.ensures in
+    let e = c.before.first_absent.ensures ∙ ap (lowest (absent_at tree g.marks.now (g.depth - 1)) 0) c.before.before.data-count.ensures in
     base_there g.depth g.marks.now (omega (arith, e, c.before.before.data-count.ensures, c.if1.false))
 
 pub test-base-spec : {M : Type 1} → statement M

@@ -3,9 +3,9 @@ use mathlib.Core.Path.{◌∙◌, sym}
 use Prim.Native.Nat.{ℕ, ◌<◌}
 use native.Mathlib.Omega.{arith}
 use borrow.Author.Rules.{rules}
-use Rattle.parity_table.specs.Shape.{maxDepth}
-use Rattle.calls.proofs.AdmissionLaws.{at-depth, deep-up-to, room_for}
-use Rattle.volume_calls.proofs.WritingLaws.{as-at-none}
+use Rattle.parity_table.specs.Shape.{max_depth}
+use Rattle.calls.proofs.AdmissionLaws.{at_depth, deep_up_to, room_for}
+use Rattle.volume_calls.proofs.WritingLaws.{as_at_none}
 use borrow.Fn.Kinds.{In}
 use borrow.Fn.PlainCycle.{Measures, is, falls, and}
 use Rattle.volume_calls.proofs.writing.write_deep.Reads as write-deep
@@ -55,7 +55,7 @@ write-deep-write-in-requires : (t : ℕ) → write-deep-lts.Need-write-in-requir
   write-deep-below t,
   write-deep.Post,
 ) (write-deep-at t) write-deep.Post
-write-deep-write-in-requires t c κs = room_for c.before.before.before.before.before.before.before.before.before.before.args.depth maxDepth (deep-up-to c.before.before.before.before.before.before.before.before.before.before.args.depth)
+write-deep-write-in-requires t c κs = room_for c.before.before.before.before.before.before.before.before.before.before.args.depth max_depth (deep_up_to c.before.before.before.before.before.before.before.before.before.before.args.depth)
 
 write-deep-stops-at-depth-requires : (t : ℕ) → write-deep-lts.Need-stops-at-depth-requires (
   write-in-reads.Asked,
@@ -76,7 +76,7 @@ write-deep-write-deep-requires : (t : ℕ) → write-deep-lts.Need-write-deep-re
   write-deep.Post,
 ) (write-deep-at t) write-deep.Post
 write-deep-write-deep-requires t c κs =
-    let k = at-depth c.before.before.before.before.before.before.before.before.before.before.before.before.before.before.before.before.before.before.before.before.before.before.before.before.args.depth _ (sym c.before.before.before.before.stops-at-depth.ensures ∙ c.before.before.before.if1.true) in
+    let k = at_depth c.before.before.before.before.before.before.before.before.before.before.before.before.before.before.before.before.before.before.before.before.before.before.before.before.args.depth _ (sym c.before.before.before.before.stops-at-depth.ensures ∙ c.before.before.before.if1.true) in
     (omega (arith, c.before.before.before.before.before.before.before.before.before.before.before.before.before.before.before.before.before.before.before.before.before.before.before.before.requires.0, k.0), tt)
 
 write-deep-same-length : (t : ℕ) → write-deep-lts.Need-same-length (
@@ -119,8 +119,8 @@ write-deep-returns : (t : ℕ) → write-deep-lts.Need-returns (
 ) (write-deep-at t) write-deep.Post
 write-deep-returns t c =
     let a = c.before.before.before.before.before.before.before.before.before.before.before.before.before.before.before.before.before.before.before.before.before.before.before.before.before.before.before.before.before.before.before.args in
-    let k = at-depth a.depth _ (sym c.before.before.before.before.before.before.before.before.before.before.before.stops-at-depth.ensures ∙ c.before.before.before.before.before.before.before.before.before.before.if1.true) in
-    c.before.before.before.before.before.before.write-deep.ensures ∙ as-at-none a.depth a.kind a.table.now a.block.now a.tree.now a.marks.now a.root-record.now _ _ _ _ c.before.before.before.before.before.before.before.before.before.before.before.before.before.before.before.before.before.before.before.before.write-in.ensures k.1
+    let k = at_depth a.depth _ (sym c.before.before.before.before.before.before.before.before.before.before.before.stops-at-depth.ensures ∙ c.before.before.before.before.before.before.before.before.before.before.if1.true) in
+    c.before.before.before.before.before.before.write-deep.ensures ∙ as_at_none a.depth a.kind a.table.now a.block.now a.tree.now a.marks.now a.root_record.now _ _ _ _ c.before.before.before.before.before.before.before.before.before.before.before.before.before.before.before.before.before.before.before.before.write-in.ensures k.1
 
 write-deep-same-length-4 : (t : ℕ) → write-deep-lts.Need-same-length-4 (
   write-in-reads.Asked,

@@ -2,12 +2,12 @@
 use mathlib.Core.Path.{sym, ◌∙◌}
 use lib.ListN.{length}
 use borrow.Author.Rules.{rules}
-use Rattle.parity_table.specs.Shape.{depthFits}
+use Rattle.parity_table.specs.Shape.{depth_fits}
 use Rattle.octets.proofs.Choice.{and_yes}
 use Rattle.calls.specs.declared.Answer.TheVariants.{Done}
 use Rattle.calls.proofs.AdmissionLaws.{admitted-sized, ready}
 use Rattle.calls.proofs.RecordLaws.{table-short}
-use Rattle.volume_calls.specs.Writing.{writeSized}
+use Rattle.volume_calls.specs.Writing.{write_sized}
 use Rattle.volume_calls.proofs.WritingLaws.{by_tests, sizes}
 use Rattle.volume_calls.proofs.writing.write_in.Statement.{statement}
 use Rattle.volume_calls.proofs.writing.write_in.Tie as tie
@@ -32,8 +32,8 @@ returns c =
     let a = c.before.before.before.before.before.before.before in
     let z = a.before.before.before in
     let g = z.before.before.before.before.before.before.before.before.args in
-    by_tests g.depth g.kind g.table.now g.block.now g.tree.now g.marks.now g.root-record.now _
-    (sym c.before.s.given.1 ∙ a.admit.ensures.0 ∙ admitted-sized g.depth _ (writeSized g.depth (length g.block.now) (length g.tree.now) (length g.marks.now) (length g.root-record.now)) g.table.now z.sizes-fit.ensures)
+    by_tests g.depth g.kind g.table.now g.block.now g.tree.now g.marks.now g.root_record.now _
+    (sym c.before.s.given.1 ∙ a.admit.ensures.0 ∙ admitted-sized g.depth _ (write_sized g.depth (length g.block.now) (length g.tree.now) (length g.marks.now) (length g.root_record.now)) g.table.now z.sizes-fit.ensures)
 
 enum_told : tie.Need-enum-told
 enum_told c = search rules
@@ -58,15 +58,15 @@ write-with-requires c κs =
     let z = a.before.before.before in
     let g = z.before.before.before.before.before.before.before.before.args in
     let k = ready g.depth z.sizes-fit.result g.table.now (sym c.before.before.before.before.before.enum_told.given.1 ∙ a.admit.ensures.0) _ _ _ _ z.before.before.before.before.before.before.before.before.requires a.admit.ensures.1 a.admit.ensures.2 in
-    let (b, t, m, r) = sizes g.depth (length g.block.now) (length g.tree.now) (length g.marks.now) (length g.root-record.now) (and_yes (depthFits g.depth) (writeSized g.depth (length g.block.now) (length g.tree.now) (length g.marks.now) (length g.root-record.now)) (sym z.sizes-fit.ensures ∙ k.admits.lengths)).1 in
+    let (b, t, m, r) = sizes g.depth (length g.block.now) (length g.tree.now) (length g.marks.now) (length g.root_record.now) (and_yes (depth_fits g.depth) (write_sized g.depth (length g.block.now) (length g.tree.now) (length g.marks.now) (length g.root_record.now)) (sym z.sizes-fit.ensures ∙ k.admits.lengths)).1 in
     record {
       indexed = k.indexed;
-      words-there = k.words-there;
+      words_there = k.words_there;
       table-short = table-short (length g.table.now) k.admits.taken.length-fits;
       block-fits = b;
       tree-full = t;
       marks-full = m;
-      record-full = r;
+      record_full = r;
     }
 
 same-length-3 : tie.Need-same-length-3
@@ -90,8 +90,8 @@ returns-2 c =
     let z = a.before.before.before in
     let g = z.before.before.before.before.before.before.before.before.args in
     c.before.before.before.before.before.before.write-with.ensures
-    ∙ by_tests g.depth g.kind g.table.now g.block.now g.tree.now g.marks.now g.root-record.now Done
-    (sym c.before.before.before.before.before.before.before.before.before.before.before.before.enum_told.given.1 ∙ a.admit.ensures.0 ∙ admitted-sized g.depth _ (writeSized g.depth (length g.block.now) (length g.tree.now) (length g.marks.now) (length g.root-record.now)) g.table.now z.sizes-fit.ensures)
+    ∙ by_tests g.depth g.kind g.table.now g.block.now g.tree.now g.marks.now g.root_record.now Done
+    (sym c.before.before.before.before.before.before.before.before.before.before.before.before.enum_told.given.1 ∙ a.admit.ensures.0 ∙ admitted-sized g.depth _ (write_sized g.depth (length g.block.now) (length g.tree.now) (length g.marks.now) (length g.root_record.now)) g.table.now z.sizes-fit.ensures)
 
 pub write-in-spec : {M : Type 1} → statement M
 write-in-spec =

@@ -1,7 +1,7 @@
 -- `write_tree` meets its contract: small arrays serve a depth that is not deep.
 use borrow.Author.Rules.{rules}
 use Rattle.parity_table.specs.Shape.{shallow}
-use Rattle.calls.proofs.AdmissionLaws.{room_for, shallow-up-to}
+use Rattle.calls.proofs.AdmissionLaws.{room_for, shallow_up_to}
 use Rattle.volume_calls.proofs.writing.write_tree.Statement.{statement}
 use Rattle.volume_calls.proofs.writing.write_tree.Tie as tie
 
@@ -30,7 +30,7 @@ slice-aggregate-write-in-2 : tie.Need-slice-aggregate-write-in-2
 slice-aggregate-write-in-2 c = search rules
 
 write-in-requires : tie.Need-write-in-requires
-write-in-requires c κs = room_for c.before.before.before.before.before.before.before.before.before.before.before.before.args.depth shallow (shallow-up-to c.before.before.before.before.before.before.before.before.before.before.before.before.args.depth c.before.before.before.before.before.before.is-deep.ensures c.before.before.before.before.before.if1.false)
+write-in-requires c κs = room_for c.before.before.before.before.before.before.before.before.before.before.before.before.args.depth shallow (shallow_up_to c.before.before.before.before.before.before.before.before.before.before.before.before.args.depth c.before.before.before.before.before.before.is-deep.ensures c.before.before.before.before.before.if1.false)
 
 same-length-4 : tie.Need-same-length-4
 same-length-4 c = search rules

@@ -5,9 +5,9 @@ use native.Mathlib.Omega.{arith}
 use lib.ListN.{length}
 use borrow.Author.Rules.{rules}
 use Rattle.parity_table.proofs.Accepts.{accepted-depth}
-use Rattle.parity_table.proofs.Shape.{k-small}
-use Rattle.root_record.specs.Records.{recordOf}
-use Rattle.volume_calls.proofs.WritingLaws.{root-put, written}
+use Rattle.parity_table.proofs.Shape.{k_small}
+use Rattle.root_record.specs.Records.{record_of}
+use Rattle.volume_calls.proofs.WritingLaws.{root_put, written}
 use Rattle.volume_calls.proofs.writing.write_with.Statement.{statement}
 use Rattle.volume_calls.proofs.writing.write_with.Tie as tie
 
@@ -28,7 +28,7 @@ put-requires c κs =
     let s = c.before.before.before.before.before.before.before.before.before.before.before.before.before.before.before.before.before.before in
     let k = s.requires in
     let (some, few) = accepted-depth s.args.depth s.args.words.now k.indexed.accepted in
-    (omega arith, omega (arith, k.block-fits, k-small (s.args.depth - 1) (omega arith)), k.table-short, search (rules, k.record-full))
+    (omega arith, omega (arith, k.block-fits, k_small (s.args.depth - 1) (omega arith)), k.table-short, search (rules, k.record_full))
 
 same_length : tie.Need-same-length
 same_length c = search rules
@@ -44,9 +44,9 @@ returns c =
     let w = c.before.before.before.before.before.before.before.before.before.before in
     let s = w.before.before.before.before.before.before.before.before.before.before.before in
     let a = s.args in
-    written a.depth a.kind a.table.now a.block.now a.tree.now a.marks.now a.root-record.now _ _ _ _ _ s.requires.words-there
+    written a.depth a.kind a.table.now a.block.now a.tree.now a.marks.now a.root_record.now _ _ _ _ _ s.requires.words_there
     w.write.ensures.0 w.write.ensures.1 w.write.ensures.2
-    (c.before.before.put.ensures ∙ ap (recordOf a.kind a.depth (length a.block.now) a.table.now) (root-put a.root-record.now _ s.requires.record-full))
+    (c.before.before.put.ensures ∙ ap (record_of a.kind a.depth (length a.block.now) a.table.now) (root_put a.root_record.now _ s.requires.record_full))
 
 pub write-with-spec : {M : Type 1} → statement M
 write-with-spec =
