@@ -401,7 +401,7 @@ pub record Refused (d i : ℕ) (s : Next) (ws : List ℕ) (r : ℕ) : Type 0 whe
   pub place : r ≡ steps + i
   pub inside : steps ≤ length ws
   pub more : List ℕ
-  pub goes_on_lem : run d i s (take steps ws ++ more) ≡ Whole
+  pub goes_on : run d i s (take steps ws ++ more) ≡ Whole
   pub stops : steps < length ws → (rest : List ℕ) → run d i s (take (suc steps) ws ++ rest) ≡ Wrong r
 
 at_end_lem : (i r : ℕ) (s : Next) → at_end i s ≡ Wrong r → r ≡ i
@@ -420,7 +420,7 @@ refused d i s [] r g q =
       place = at_end_lem i r s q ∙ omega arith;
       inside = omega arith;
       more = (finishes d s g i).0;
-      goes_on_lem = (finishes d s g i).1;
+      goes_on = (finishes d s g i).1;
       stops = λ h. absurd (omega arith);
     }
 refused d i s (w ∷ ws) r g q =
@@ -432,7 +432,7 @@ refused d i s (w ∷ ws) r g q =
       place = omega (arith, p.place);
       inside = omega (arith, p.inside);
       more = p.more;
-      goes_on_lem = pick_yes (fits i s w) _ _ t ∙ p.goes_on;
+      goes_on = pick_yes (fits i s w) _ _ t ∙ p.goes_on;
       stops = λ h rest. pick_yes (fits i s w) _ _ t ∙ p.stops (omega arith) rest;
     })
     (λ t.
@@ -443,7 +443,7 @@ refused d i s (w ∷ ws) r g q =
       place = omega arith;
       inside = omega arith;
       more = (finishes d s g i).0;
-      goes_on_lem = (finishes d s g i).1;
+      goes_on = (finishes d s g i).1;
       stops = λ h rest. pick_no (fits i s w) _ _ t ∙ e;
     })
 
