@@ -15,7 +15,7 @@ pub use numbering::numbers_of;
 pub use table::{answer_of, check_words};
 
 // Why a call stopped: 01, "What stops a call", and 02. A stop has at most two values.
-#[derive(Drop)]
+#[derive(Clone, Copy)]
 pub enum Stop {
     // the depth is not 1 to the largest
     Depth,
@@ -47,7 +47,7 @@ pub enum Stop {
 }
 
 // What a call answers.
-#[derive(Drop)]
+#[derive(Clone, Copy)]
 pub enum Answer {
     // done, or accepted
     Done,
@@ -55,7 +55,7 @@ pub enum Answer {
 }
 
 // The number of an answer and the values that go with it, 0 where there is none.
-#[derive(Drop)]
+#[derive(Clone, Copy)]
 pub struct Numbers {
     pub number: usize,
     pub first: usize,

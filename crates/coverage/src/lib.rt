@@ -10,7 +10,7 @@ ghost use Rattle.coverage.specs.Coverage.{coverage_of};
 use parity_table::{END, EQUATION, LAYER, MAX_DATA, data_count};
 
 // What is found of a table.
-#[derive(Drop)]
+#[derive(Clone, Copy)]
 pub enum Coverage {
     Covered,
     // the first layer with a data symbol in fewer than two of its equations, and the lowest such symbol
@@ -18,7 +18,7 @@ pub enum Coverage {
 }
 
 // Where a layer's words end, and its lowest data symbol in fewer than two of its equations; how many it has where there is none.
-#[derive(Drop)]
+#[derive(Clone, Copy)]
 pub struct Counted {
     pub end: usize,
     pub lowest: usize,

@@ -8,7 +8,7 @@ pub use cases::{holds, take};
 pub use committed::is_gap;
 
 // What a turn at an equation did.
-#[derive(Drop)]
+#[derive(Clone, Copy)]
 pub enum Turn {
     // it holds
     Used,

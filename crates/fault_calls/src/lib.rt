@@ -10,7 +10,7 @@ use repair::Report;
 pub use repairing::repair_tree;
 
 // What a repair answers.
-#[derive(Drop)]
+#[derive(Clone, Copy)]
 pub enum Outcome {
     // it came to an end: symbols stored, and the end
     Ended(Report),
@@ -20,7 +20,7 @@ pub enum Outcome {
 }
 
 // The number of an end, the symbols stored, and what goes with the end: a proof's length, a layer, layer and number of twins, or 0.
-#[derive(Drop)]
+#[derive(Clone, Copy)]
 pub struct Ending {
     pub end: usize,
     pub stored: usize,

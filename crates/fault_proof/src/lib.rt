@@ -8,7 +8,7 @@ mod way; // a symbol and its path
 pub use checker::{check, judge};
 
 // What a proof is found to be.
-#[derive(Drop)]
+#[derive(Clone, Copy)]
 pub enum Verdict {
     // a fault is shown
     Accepted,
@@ -23,7 +23,7 @@ pub enum Verdict {
 }
 
 // What the ways of a proof come to, one after another.
-#[derive(Drop)]
+#[derive(Clone, Copy)]
 pub enum Ways {
     // each leads to the root
     Lead,

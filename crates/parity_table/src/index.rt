@@ -6,7 +6,7 @@ ghost use Rattle.parity_table.specs.Parse.{members_of, index_of, over, number_in
 use crate::{END, EQUATION, LAYER, data_count};
 
 // Where the members of an equation stand.
-#[derive(Drop)]
+#[derive(Clone, Copy)]
 pub struct Span {
     pub at: usize,
     pub size: usize,

@@ -22,7 +22,7 @@ pub const SHALLOW_DATA: usize = 4 << (SHALLOW - 1);
 pub const SHALLOW_EQUATIONS: usize = 3 * ((4 << SHALLOW) - 4);
 
 // What a reader of a table, or a writer of one, answers.
-#[derive(Drop)]
+#[derive(Clone, Copy)]
 pub enum Answer {
     // the depth is not 1 to the largest
     Depth,

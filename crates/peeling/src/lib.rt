@@ -9,7 +9,7 @@ pub use search::prepare;
 pub use sweep::sweep_layer;
 
 // How the peeling of a layer ended.
-#[derive(Drop)]
+#[derive(Clone, Copy)]
 pub enum Outcome {
     // no equation can be taken
     Peeled,
@@ -24,7 +24,7 @@ pub enum Outcome {
 }
 
 // The outcome, and the symbols stored so far.
-#[derive(Drop)]
+#[derive(Clone, Copy)]
 pub struct Run {
     pub stored: usize,
     pub outcome: Outcome,

@@ -14,14 +14,14 @@ use peeling::{Outcome, peel_layer, prepare, sweep_layer};
 use symbol_hash::Kind;
 
 // Whether the repair goes on after a layer.
-#[derive(Drop)]
+#[derive(Clone, Copy)]
 pub enum Passage {
     On,
     Stop(End),
 }
 
 // How a layer was left, and the symbols stored so far.
-#[derive(Drop)]
+#[derive(Clone, Copy)]
 pub struct Passed {
     pub stored: usize,
     pub passage: Passage,

@@ -11,7 +11,7 @@ use layer::{Passage, repair_layer};
 use symbol_hash::Kind;
 
 // "The ends are: whole, fault, unavailable, twins."
-#[derive(Drop)]
+#[derive(Clone, Copy)]
 pub enum End {
     Whole,
     // the proof's layer, equation, withheld member and length
@@ -31,7 +31,7 @@ pub enum End {
 }
 
 // What a repair reports: the number of symbols stored, and its end.
-#[derive(Drop)]
+#[derive(Clone, Copy)]
 pub struct Report {
     pub stored: usize,
     pub end: End,

@@ -8,7 +8,7 @@ pub use checker::check;
 pub use sampler::{first_absent, take};
 
 // What the search for a needed symbol that is absent finds.
-#[derive(Drop)]
+#[derive(Clone, Copy)]
 pub enum Found {
     // the lowest index in the sample of such a symbol
     At(usize),

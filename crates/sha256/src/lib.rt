@@ -17,7 +17,7 @@ ghost use Rattle.sha256.specs.Hash.{sha256};
 ghost use Rattle.sha256.specs.Call.{longest, answer, after};
 
 // What the hasher answers.
-#[derive(Drop)]
+#[derive(Clone, Copy)]
 pub enum Answer {
     // the digest is written
     Done,

@@ -3,7 +3,7 @@ ghost use Rattle.std.specs.Prelude.{◌≡◌};
 ghost use Rattle.sha256.specs.Initial.{initial};
 
 // A hash value: its eight words.
-#[derive(Drop)]
+#[derive(Clone, Copy)]
 pub struct State {
     pub h: [u32; 8],
 }

@@ -8,7 +8,7 @@ pub use committed::fits;
 use parity_table::LAYER as KIND_01;
 
 // How a volume's symbols are hashed.
-#[derive(Drop)]
+#[derive(Clone, Copy)]
 pub enum Kind {
     // SHA-256 of the symbol's bytes
     Plain,
@@ -17,7 +17,7 @@ pub enum Kind {
 }
 
 // What the check of symbols on the way up to the root finds.
-#[derive(Drop)]
+#[derive(Clone, Copy)]
 pub enum Way {
     // every hash leads to the root
     Leads,

@@ -7,13 +7,13 @@ ghost use Rattle.table_reader.specs.Steps.{word_at, word_is, MembersRead, Equati
 use parity_table::{Answer, END, EQUATION, LAYER, data_count, depth_fits};
 
 // A place in the list of words.
-#[derive(Drop)]
+#[derive(Clone, Copy)]
 pub struct Cursor {
     pub at: usize,
 }
 
 // What reading from a place finds.
-#[derive(Drop)]
+#[derive(Clone, Copy)]
 pub enum Step {
     // the words fit, up to this place
     To(Cursor),
@@ -22,7 +22,7 @@ pub enum Step {
 }
 
 // What stands at a place of a list.
-#[derive(Drop)]
+#[derive(Clone, Copy)]
 pub enum Word {
     Is(u32),
     // the list has ended
@@ -30,7 +30,7 @@ pub enum Word {
 }
 
 // A table's list of words together with the place of the next one.
-#[derive(Drop)]
+#[derive(Clone, Copy)]
 pub struct TableReader<'a> {
     pub words: &'a [u32],
     pub at: usize,
