@@ -1,0 +1,41 @@
+-- `bytes_from` meets its contract. The loop keeps `Putting`: what is left is the bytes of the words from i on.
+use mathlib.Core.Path.{◌∙◌}
+use Prim.Native.Nat.{◌+◌, ◌-◌, ◌*◌}
+use native.Mathlib.Omega.{arith}
+use lib.ListN.{get_or, drop}
+use Rattle.table_bytes.proofs.ByteForm.{bytes_next, bytes-none}
+use Rattle.octets.proofs.Writes.{putting_start, putting_step, putting_room, putting_end, sets-whole}
+use Rattle.octets.specs.BigEndian.{be, bytes_of}
+use Rattle.octets.proofs.Bytes.{length-be, length-bytes_of}
+use Rattle.table_bytes.proofs.bytes_from.Goals as goal
+
+pub loop-i-init : goal.loop-i-init
+loop-i-init c = (omega arith, putting_start c.args.b.now 0 (bytes_of c.args.ws.now))
+
+pub put_word-requires : goal.put_word-requires
+put_word-requires c =
+    let a = c.args in
+    let l = c.loop-i in
+    omega
+    (arith, putting_room l.invariant.1 (be 4 (get_or a.ws.now l.i 0)) (bytes_of (drop (l.i + 1) a.ws.now)) (bytes_next a.ws.now l.i (omega arith)) (omega (arith, length-bytes_of a.ws.now)), length-be 4 (get_or a.ws.now l.i 0))
+
+pub loop-i-preserved : goal.loop-i-preserved
+loop-i-preserved c =
+    let a = c.args in
+    let l = c.loop-i in
+    let put_word = c.put_word in (
+      omega arith,
+      putting_step l.invariant.1 (be 4 (get_or a.ws.now l.i 0)) (bytes_of (drop (l.i + 1) a.ws.now))
+          (bytes_next a.ws.now l.i (omega arith)) put_word.new.0 ((l.i + 1) * 4) put_word.ensures
+          (omega (arith, length-be 4 (get_or a.ws.now l.i 0))),
+    )
+
+pub shape_of-b : goal.shape_of-b
+shape_of-b c = c.loop-i.invariant.1.long
+
+pub returns : goal.returns
+returns c =
+    let a = c.args in
+    let l = c.loop-i in
+    (putting_end l.invariant.1 (bytes-none a.ws.now l.i (omega arith))).1
+    ∙ sets-whole (bytes_of a.ws.now) a.b.now (omega (arith, length-bytes_of a.ws.now))
