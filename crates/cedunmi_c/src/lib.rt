@@ -1,4 +1,4 @@
-// The C interface, declared in include/cedunmi.h: numbers and byte slices in, one number out.
+// The C interface, declared in include/cedunmi.h: numbers and byte slices in, one number out. `cedunmi_exports` gives these calls to C.
 ghost use Rattle.std.specs.Prelude.{◌≡◌, true, ◌+◌, ◌*◌, ◌^◌, ◌<◌, length};
 ghost use Rattle.octets.specs.BigEndian.{bytes_of};
 ghost use Rattle.sha256.specs.Call.{answer, after};
@@ -78,8 +78,7 @@ fn hash_answer(a: Hashed) -> Answer
 }
 
 // The SHA-256 of a message of at most 1,048,576 bytes into a digest of 32. 0: done; 2: a length is wrong, and nothing changed.
-#[unsafe(no_mangle)]
-pub extern "C" fn cmt_sha256(message: &[u8], digest: &mut [u8]) -> u64
+pub fn cmt_sha256(message: &[u8], digest: &mut [u8]) -> u64
     ensures { (result ≡ call_result (hash_answer (answer message.now digest.old)))
         × (digest.new ≡ after message.now digest.old) }
 {
@@ -88,16 +87,14 @@ pub extern "C" fn cmt_sha256(message: &[u8], digest: &mut [u8]) -> u64
 
 // Whether a call takes these bytes as a parity table of this depth. 1: the depth; 2: the length; 3: the first wrong word, or the number of words;
 // 10: the first layer with a data symbol in fewer than two of its equations, and the lowest such symbol.
-#[unsafe(no_mangle)]
-pub extern "C" fn cmt_table_check(depth: u64, table: &[u8]) -> u64
+pub fn cmt_table_check(depth: u64, table: &[u8]) -> u64
     ensures { result ≡ call_result (admitted depth true table.now) }
 {
     call_result(calls::check_table(depth as usize, table))
 }
 
 // The house table of this depth into exactly as many bytes as it has. 1: the depth; 2: the length; and nothing changed.
-#[unsafe(no_mangle)]
-pub extern "C" fn cmt_house_table(depth: u64, table: &mut [u8]) -> u64
+pub fn cmt_house_table(depth: u64, table: &mut [u8]) -> u64
     ensures { (result ≡ call_result (read_answer (house_answer depth (length table.old) (length (house_words depth) * 4))))
         × (table.new
         ≡ house_out (house_answer depth (length table.old) (length (house_words depth) * 4)) (bytes_of (house_words depth))
@@ -108,8 +105,7 @@ pub extern "C" fn cmt_house_table(depth: u64, table: &mut [u8]) -> u64
 
 // Writes the tree of a block, its marks and its record, as a volume of kind 0, whose symbols are hashed with their places, or 1. 1: the depth; 2: a
 // length; 11: another kind; 3: the table's first wrong word; 10: its first uncovered layer and symbol.
-#[unsafe(no_mangle)]
-pub extern "C" fn cmt_tree_write(
+pub fn cmt_tree_write(
     depth: u64,
     kind: u64,
     table: &[u8],
@@ -134,8 +130,7 @@ pub extern "C" fn cmt_tree_write(
 
 // Copies the block out of a tree, as many bytes as the record says; the rest of the buffer stays. 1: the depth; 2: a length; 11: the record; 4: the
 // lowest bad mark; 9: the first absent data symbol of the base.
-#[unsafe(no_mangle)]
-pub extern "C" fn cmt_block_read(
+pub fn cmt_block_read(
     depth: u64,
     root_record: &[u8],
     tree: &[u8],
@@ -149,14 +144,7 @@ pub extern "C" fn cmt_block_read(
 }
 
 // Takes a sample of a base symbol. 1: the depth; 2: a length; 4: the lowest bad mark; 5: the number; 9: the first absent symbol of the sample.
-#[unsafe(no_mangle)]
-pub extern "C" fn cmt_sample_take(
-    depth: u64,
-    number: u64,
-    tree: &[u8],
-    marks: &[u8],
-    sample: &mut [u8],
-) -> u64
+pub fn cmt_sample_take(depth: u64, number: u64, tree: &[u8], marks: &[u8], sample: &mut [u8]) -> u64
     ensures { taking.leaves result sample.new
         ≡ sample_in_c (sample_taken depth number tree.now marks.now sample.old) }
 {
@@ -164,13 +152,7 @@ pub extern "C" fn cmt_sample_take(
 }
 
 // Checks a sample of a base symbol against the record. 1: the depth; 2: a length; 11: the record; 5: the number; 7: the layer at which it breaks.
-#[unsafe(no_mangle)]
-pub extern "C" fn cmt_sample_check(
-    depth: u64,
-    number: u64,
-    root_record: &[u8],
-    sample: &[u8],
-) -> u64
+pub fn cmt_sample_check(depth: u64, number: u64, root_record: &[u8], sample: &[u8]) -> u64
     ensures { result ≡ call_result (sample_checked depth number root_record.now sample.now) }
 {
     call_result(sample_calls::check(depth as usize, number as usize, root_record, sample))
@@ -178,8 +160,7 @@ pub extern "C" fn cmt_sample_check(
 
 // Checks a fault proof against a record and a table. 0: a fault is shown; 1: the depth; 2: a length; 11: the record; 3: the table's first wrong
 // word; 10: its first uncovered layer and symbol; 12: it is another table than the record's; 6: the head; 7: the layer and the position at which it breaks; 8: the withheld hash fits.
-#[unsafe(no_mangle)]
-pub extern "C" fn cmt_proof_check(depth: u64, root_record: &[u8], table: &[u8], proof: &[u8]) -> u64
+pub fn cmt_proof_check(depth: u64, root_record: &[u8], table: &[u8], proof: &[u8]) -> u64
     ensures { result ≡ call_result (proof_checked depth root_record.now table.now proof.now) }
 {
     call_result(fault_calls::check(depth as usize, root_record, table, proof))
@@ -188,8 +169,7 @@ pub extern "C" fn cmt_proof_check(depth: u64, root_record: &[u8], table: &[u8], 
 // Repairs a tree by its record and a table; the output is for a fault proof or twins. 1: the depth; 2: a length; 11: the record; 3: the table's
 // first wrong word; 10: its first uncovered layer and symbol; 12: it is another table than the record's; 4: the lowest bad mark. A repair that
 // ended: 0, its end, the symbols stored, and the proof's length, the incomplete layer, or, of a kind 0 record, layer and number of twins.
-#[unsafe(no_mangle)]
-pub extern "C" fn cmt_repair(
+pub fn cmt_repair(
     depth: u64,
     root_record: &[u8],
     table: &[u8],
@@ -207,8 +187,7 @@ pub extern "C" fn cmt_repair(
 // Codes a whole volume anew, by the same table and as the other kind, into buffers of its own; the source stays. 1: the depth; 2: a length; 11: the
 // record; 3: the table's first wrong word; 10: its first uncovered layer and symbol; 12: it is another table than the record's; 4: the lowest bad
 // mark; 14: a repair would store symbols, or end otherwise than whole.
-#[unsafe(no_mangle)]
-pub extern "C" fn cmt_recode(
+pub fn cmt_recode(
     depth: u64,
     root_record: &[u8],
     table: &[u8],

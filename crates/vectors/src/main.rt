@@ -4,7 +4,7 @@
 // repeated `times` times, as often as they fit into 1,048,576 bytes. The program stops at the end of its input, or at a short frame.
 ghost use Rattle.std.specs.Prelude.{◌≤◌, length};
 
-use libc::{STDIN_FILENO, STDOUT_FILENO};
+use std::io::Read;
 
 // Room for the longest message that can be hashed.
 fn message_space() -> [u8; 1048576] {
@@ -12,12 +12,12 @@ fn message_space() -> [u8; 1048576] {
 }
 
 // Writes the SHA-256 of the message to standard output, as 64 hexadecimal digits.
-fn print_digest(message: &[u8]) {
+fn print_digest(rt: &impl Print, message: &[u8]) {
     let mut digest = [0u8; 32];
     sha256::digest(message, &mut digest);
     let mut digits = [0u8; 64];
     octets::put_hex(&digest, &mut digits);
-    io::write_all(STDOUT_FILENO, &digits);
+    let _ = rt.write_all(&digits);
 }
 
 // Fills the message with the piece, again and again; answers how many bytes that makes.
@@ -36,39 +36,45 @@ fn repeat(piece: &[u8], times: u32, message: &mut [u8]) -> usize
 }
 
 // Reads the frame's bytes and prints the message's line; false where they are not all there.
-fn hash_rest(times: u32, size: usize, piece: &mut [u8], message: &mut [u8]) -> bool {
+fn hash_rest(
+    rt: &(impl Input + Print),
+    times: u32,
+    size: usize,
+    piece: &mut [u8],
+    message: &mut [u8],
+) -> bool {
     if size > piece.len() {
         return false;
     }
-    if io::read_full(STDIN_FILENO, &mut piece[..size]) != size {
+    if rt.reader().read_exact(&mut piece[..size]).is_err() {
         return false;
     }
     let n = repeat(&piece[..size], times, message);
-    print_digest(&message[..n]);
-    io::write_all(STDOUT_FILENO, b"\n")
+    print_digest(rt, &message[..n]);
+    rt.write_all(b"\n").is_ok()
 }
 
 // Reads a frame and prints its line; false where there is none.
-fn hash_frame(piece: &mut [u8], message: &mut [u8]) -> bool {
+fn hash_frame(rt: &(impl Input + Print), piece: &mut [u8], message: &mut [u8]) -> bool {
     let mut head = [0u8; 8];
-    if io::read_full(STDIN_FILENO, &mut head) != 8 {
+    if rt.reader().read_exact(&mut head).is_err() {
         return false;
     }
     let times = octets::word_at(&head, 0);
     let size = octets::word_at(&head, 4);
-    hash_rest(times, size as usize, piece, message)
+    hash_rest(rt, times, size as usize, piece, message)
 }
 
 // A proved loop has to end, and nothing says that the input does: the turns are counted down, from a number that no run uses up.
-fn hash_all(piece: &mut [u8], message: &mut [u8]) {
+fn hash_all(rt: &(impl Input + Print), piece: &mut [u8], message: &mut [u8]) {
     let mut turns = u64::MAX;
-    while turns > 0 && hash_frame(piece, message) {
+    while turns > 0 && hash_frame(rt, piece, message) {
         turns -= 1;
     }
 }
 
-fn main() {
-    let mut piece = io::buffer();
+fn main(rt: HostRuntime) {
+    let mut piece = [0u8; 4096];
     let mut message = message_space();
-    hash_all(&mut piece, &mut message);
+    hash_all(&rt, &mut piece, &mut message);
 }
