@@ -1,5 +1,7 @@
 // Codes the block of 1,024 bytes on standard input at depth 1 with the house table, and lists its symbols: a header (word, depth,
 // symbols), then each symbol's number in decimal and its first byte as two upper-case hexadecimal digits. Any other input lists nothing.
+#![tactic(auto)]
+
 ghost use Rattle.io.specs.Counts.{IsPrefixLen};
 
 mod text;

@@ -2,6 +2,8 @@
 //
 // A message comes as a frame: two big-endian words, times and size, then `size` bytes, at most 4,096; the message is those bytes
 // repeated `times` times, as often as they fit into 1,048,576 bytes. The program stops at the end of its input, or at a short frame.
+#![tactic(auto)]
+
 ghost use Rattle.std.specs.Prelude.{◌≤◌, length};
 
 use std::io::Read;
