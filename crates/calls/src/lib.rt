@@ -1,4 +1,6 @@
 // What a call answers, and the tests that calls share.
+#![tactic(auto)]
+
 mod admission; // 1, 2: depth, lengths; then the tests of a record and a table
 mod base; // 5: the number of a base symbol
 mod lengths; // 2: the lengths of a tree and its marks

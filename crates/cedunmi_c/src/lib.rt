@@ -1,4 +1,6 @@
 // The C interface, declared in include/cedunmi.h: numbers and byte slices in, one number out. `cedunmi_exports` gives these calls to C.
+#![tactic(auto)]
+
 ghost use Rattle.std.specs.Prelude.{◌≡◌, true, ◌+◌, ◌*◌, ◌^◌, ◌<◌, length};
 ghost use Rattle.octets.specs.BigEndian.{bytes_of};
 ghost use Rattle.sha256.specs.Call.{answer, after};

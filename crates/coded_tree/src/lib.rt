@@ -1,4 +1,6 @@
 // The tree writer and reading back: the cores, for a table and buffers that are known to be right.
+#![tactic(auto)]
+
 mod hashes; // the hashes of a layer in the layer above, and the root
 mod marks; // the first symbol that is absent
 mod parity; // the parity symbols of a layer

@@ -1,4 +1,6 @@
 // Whether every data symbol of a table is a member of at least two equations of its layer: one pass over words that the reader has accepted.
+#![tactic(auto)]
+
 ghost use Rattle.std.specs.Prelude.{◌≡◌, true, ◌-◌, ◌^◌, ◌≤◌, ◌<◌, length, take, drop, replicate};
 ghost use Rattle.parity_table.specs.Parse.{table_of};
 ghost use Rattle.parity_table.specs.Reader.{read_of};

@@ -1,4 +1,6 @@
 // One turn of step (b) of repair: an equation of a layer, with at most one absent member, is taken.
+#![tactic(auto)]
+
 mod absent; // its absent members
 mod cases; // the cases of a turn
 mod committed; // the committed hash of a symbol, where the tree buffer has it, and gaps

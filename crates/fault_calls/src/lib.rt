@@ -1,4 +1,6 @@
 // Checking a fault proof, and repairing a tree: every numbered test in its order, then the core. Neither has a `requires`.
+#![tactic(auto)]
+
 mod checking;
 mod numbering; // how a repair ended, as numbers
 mod repairing;

@@ -1,4 +1,6 @@
 // The fault-proof checker's core, for a table and a root that are known to be right: tests 6, 2, 7, 8.
+#![tactic(auto)]
+
 mod checker; // the whole check
 mod given; // the given members' exclusive-or
 mod head; // the withheld member, which the head names

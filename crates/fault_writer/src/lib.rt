@@ -1,4 +1,6 @@
 // Writing a fault proof into the output buffer of a repair, for an equation and buffers that are known to be right.
+#![tactic(auto)]
+
 mod proof; // the whole proof
 mod way; // a symbol with its path
 

@@ -1,4 +1,6 @@
 // The head of a fault proof and of a root record: three big-endian words, each of a kind, with a value.
+#![tactic(auto)]
+
 ghost use Rattle.std.specs.Prelude.{◌≡◌, ◌&&◌, ◌+◌, ◌*◌, ◌^◌, ◌≤◌, ◌<◌, length, ltb, eqb};
 ghost use Rattle.parity_table.specs.Parse.{over};
 ghost use Rattle.heads.specs.Heads.{head, kind_at, value_at};

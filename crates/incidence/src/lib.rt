@@ -1,4 +1,6 @@
 // For each symbol of a layer, the equations that it stands in: lists threaded through the slots of the equations' members.
+#![tactic(auto)]
+
 ghost use Rattle.std.specs.Prelude.{◌+◌, length};
 ghost use Rattle.incidence.specs.Incidence.{Threadable, Threaded};
 

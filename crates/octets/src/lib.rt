@@ -1,4 +1,6 @@
 // Work on byte slices: 32-bit words in them, the highest byte first; copies; their hexadecimal form.
+#![tactic(auto)]
+
 pub mod hex;
 mod lists;
 

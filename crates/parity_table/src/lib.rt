@@ -1,5 +1,7 @@
 // The parity table of a coded Merkle tree, a list of 32-bit words: its numbers, what a reader of it answers, and where its equations
 // stand (`index`).
+#![tactic(auto)]
+
 pub mod index;
 
 ghost use Rattle.std.specs.Prelude.{◌≡◌, ◌<◌};

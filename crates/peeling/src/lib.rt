@@ -1,5 +1,7 @@
 // Steps (a) and (b) of repair, for one layer: a sweep over its symbols, and peeling by its equations. The layer is any that hangs under a
 // tree's layers, or under the root; its equations are those that stand one after the other in an index of words.
+#![tactic(auto)]
+
 mod peel; // (b): turn after turn
 mod search; // the next equation to take
 mod sweep; // (a): bad copies become absent

@@ -1,4 +1,6 @@
 // The repairer's core: 01, "Repair", layer by layer from the top, for a table and buffers that are known to be right.
+#![tactic(auto)]
+
 mod layer; // one layer: (a), (b), (c)
 
 ghost use Rattle.std.specs.Prelude.{◌-◌, ◌≤◌};

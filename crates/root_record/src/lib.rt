@@ -1,4 +1,6 @@
 // The root record: what a manual prints of a volume, its kind and depth, its length, its table by word count and hash, and the root.
+#![tactic(auto)]
+
 ghost use Rattle.std.specs.Prelude.{◌≡◌, ◌/◌, ◌^◌, ◌≤◌, ◌<◌, length};
 ghost use Rattle.parity_table.specs.Shape.{max_depth};
 ghost use Rattle.sha256.specs.Call.{longest};

@@ -1,4 +1,6 @@
 // Taking a sample, and checking one: every numbered test in its order, then the core. Neither has a `requires`.
+#![tactic(auto)]
+
 mod checking;
 mod taking;
 

@@ -1,4 +1,6 @@
 // SHA-256, as FIPS 180-4 has it, of a message of 0 to 1,048,576 bytes. The modules stand in the order of the standard's sections.
+#![tactic(auto)]
+
 mod functions; // 4.1.2: the six functions
 mod constants; // 4.2.2: the sixty-four constants
 mod padding; // 5.1.1: padding the message

@@ -1,4 +1,6 @@
 // The hash of a symbol at its layer and number, by the kind of its volume, and whether it is the committed one.
+#![tactic(auto)]
+
 mod committed; // where the committed hash stands
 
 ghost use Rattle.std.specs.Prelude.{◌≡◌, length};

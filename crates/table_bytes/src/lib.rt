@@ -1,4 +1,6 @@
 // A table as bytes, four to a word, the highest first: the form in which it comes from C.
+#![tactic(auto)]
+
 ghost use Rattle.std.specs.Prelude.{◌≡◌, ◌*◌, min, length};
 ghost use Rattle.octets.specs.BigEndian.{bytes_of};
 ghost use Rattle.parity_table.specs.Parse.{over};

@@ -1,4 +1,6 @@
 // The table reader: word by word from the front, to the first wrong one.
+#![tactic(auto)]
+
 ghost use Rattle.std.specs.Prelude.{◌≡◌, ◌+◌, ◌*◌, ◌<◌, ◌≤◌, ◌^◌, eqb};
 ghost use Rattle.parity_table.specs.Shape.{max_depth};
 ghost use Rattle.parity_table.specs.Reader.{member_fits, layered, run, read_of};

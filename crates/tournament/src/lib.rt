@@ -1,4 +1,6 @@
 // The least of n numbers, kept while they change one at a time: a tournament, each node of which is the lesser of the two below it.
+#![tactic(auto)]
+
 ghost use Rattle.std.specs.Prelude.{◌/◌, ◌≤◌, ◌<◌, length};
 ghost use Rattle.tournament.specs.Tournament.{entries, Tournament, Entered, Least};
 

@@ -1,5 +1,7 @@
 // Writing a tree, and reading its block back: every numbered test in its order, then the core. No call has a `requires`;
 // `write_with`, the core that the recoder shares, has one.
+#![tactic(auto)]
+
 mod reading;
 mod writing;
 
