@@ -1,6 +1,5 @@
 -- `copy_at` meets its contract. The loop keeps: the first i bytes are copied.
 use mathlib.Core.Path.{◌≡◌, refl, ap, ◌∙◌}
-use Prim.Native.Nat.{◌-◌}
 use native.Mathlib.Omega.{arith}
 use lib.ListN.{length, length-set}
 use lib.Seq.{paste}

@@ -1,6 +1,6 @@
 -- `copy_at` meets its contract. The loop keeps: the first i bytes are copied.
 use mathlib.Core.Path.{◌≡◌}
-use Prim.Native.Nat.{◌-◌, ◌≤◌}
+use Prim.Native.Nat.{◌≤◌}
 use lib.ListN.{length}
 use lib.Seq.{paste}
 use Rattle.octets.proofs.copy_at.Given as goal

@@ -1,5 +1,4 @@
 -- `depth_fits` meets its contract: two tests.
-use Prim.Native.Nat.{◌-◌}
 use Rattle.parity_table.proofs.Shape.{depth_low, depth_mid}
 use Rattle.parity_table.proofs.depth_fits.Goals as goal
 

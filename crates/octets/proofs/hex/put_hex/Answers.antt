@@ -1,6 +1,5 @@
 -- `put_hex` meets its contract. The loop keeps: the first i bytes are written.
 use mathlib.Core.Path.{refl}
-use Prim.Native.Nat.{◌-◌}
 use native.Mathlib.Omega.{arith}
 use lib.ListN.{length-set}
 use Rattle.octets.specs.Hex.{hex_of, lower}

@@ -1,6 +1,6 @@
 -- `put_hex` meets its contract. The loop keeps: the first i bytes are written.
 use mathlib.Core.Path.{◌≡◌}
-use Prim.Native.Nat.{◌-◌, ◌*◌, ◌≤◌}
+use Prim.Native.Nat.{◌*◌, ◌≤◌}
 use lib.ListN.{length, take}
 use Rattle.octets.specs.Hex.{hex_of, lower}
 use Rattle.octets.proofs.hex.put_hex.Given as goal

@@ -1,6 +1,5 @@
 -- `equal_at` meets its contract. The loop keeps: the lists are the same just when they are from byte i on.
 use mathlib.Core.Path.{refl, sym, ◌∙◌}
-use Prim.Native.Nat.{◌-◌}
 use native.Mathlib.Omega.{arith}
 use lib.ListN.{length, take, drop}
 use Rattle.octets.proofs.ListLaws.{length_part, get_d_part, same_step, same_stop, same_end}

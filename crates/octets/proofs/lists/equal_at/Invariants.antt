@@ -1,6 +1,6 @@
 -- `equal_at` meets its contract. The loop keeps: the lists are the same just when they are from byte i on.
 use mathlib.Core.Path.{◌≡◌}
-use Prim.Native.Nat.{◌-◌, ◌≤◌}
+use Prim.Native.Nat.{◌≤◌}
 use lib.ListN.{length, take, drop}
 use Rattle.octets.specs.ByteLists.{same}
 use Rattle.octets.proofs.lists.equal_at.Given as goal

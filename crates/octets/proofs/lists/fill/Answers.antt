@@ -1,6 +1,5 @@
 -- `fill` meets its contract. The loop keeps: the first i bytes are filled.
 use mathlib.Core.Path.{◌≡◌, refl, sym, ap, ◌∙◌}
-use Prim.Native.Nat.{◌-◌}
 use native.Mathlib.Omega.{arith}
 use lib.ListN.{length, replicate, length-set}
 use lib.Seq.{take_all}

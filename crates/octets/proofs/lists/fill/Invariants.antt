@@ -1,6 +1,6 @@
 -- `fill` meets its contract. The loop keeps: the first i bytes are filled.
 use mathlib.Core.Path.{◌≡◌}
-use Prim.Native.Nat.{◌-◌, ◌≤◌}
+use Prim.Native.Nat.{◌≤◌}
 use lib.ListN.{length, take, replicate}
 use Rattle.octets.proofs.lists.fill.Given as goal
 

@@ -1,6 +1,6 @@
 -- `fill_words` meets its contract. The loop keeps: the first i words are filled.
 use mathlib.Core.Path.{◌≡◌}
-use Prim.Native.Nat.{◌-◌, ◌≤◌}
+use Prim.Native.Nat.{◌≤◌}
 use lib.ListN.{length, take, replicate}
 use Rattle.octets.proofs.lists.fill_words.Given as goal
 

@@ -1,6 +1,5 @@
 -- `is_zero` meets its contract. The loop keeps: the first i bytes are zeros just when the greatest of them is zero.
 use mathlib.Core.Path.{refl}
-use Prim.Native.Nat.{◌-◌}
 use native.Mathlib.Omega.{arith}
 use Rattle.octets.specs.ByteLists.{same}
 use Rattle.octets.proofs.ListLaws.{zero_turn, zero_end}

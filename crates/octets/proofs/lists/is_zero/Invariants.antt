@@ -1,6 +1,6 @@
 -- `is_zero` meets its contract. The loop keeps: the first i bytes are zeros just when the greatest of them is zero.
 use mathlib.Core.Path.{◌≡◌}
-use Prim.Native.Nat.{◌-◌, ◌≤◌}
+use Prim.Native.Nat.{◌≤◌}
 use lib.Dec.{eqb}
 use lib.ListN.{length, take, replicate}
 use Rattle.octets.specs.ByteLists.{same}

@@ -1,6 +1,5 @@
 -- `xor_at` meets its contract. The loop keeps: the first i bytes are taken together.
 use mathlib.Core.Path.{refl, sym}
-use Prim.Native.Nat.{◌-◌}
 use native.Mathlib.Omega.{arith}
 use lib.ListN.{length, take, drop, length-set}
 use Rattle.octets.proofs.ListLaws.{length_part, get_d_part, xor_start, xor_turn, xor_end}

@@ -1,6 +1,6 @@
 -- `xor_at` meets its contract. The loop keeps: the first i bytes are taken together.
 use mathlib.Core.Path.{◌≡◌}
-use Prim.Native.Nat.{◌-◌, ◌≤◌}
+use Prim.Native.Nat.{◌≤◌}
 use lib.ListN.{length, take, drop}
 use Rattle.octets.proofs.ListLaws.{XorSo}
 use Rattle.octets.proofs.lists.xor_at.Given as goal

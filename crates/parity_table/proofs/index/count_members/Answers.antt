@@ -1,6 +1,6 @@
 -- `count_members` meets its contract. The loop keeps: the members counted and those from here are all.
 use mathlib.Core.Path.{ap}
-use Prim.Native.Nat.{ℕ, ◌+◌, ◌-◌}
+use Prim.Native.Nat.{ℕ, ◌+◌}
 use native.Mathlib.Omega.{arith}
 use Rattle.parity_table.proofs.Starts.{left, members_go, members_stop, members-over}
 use native.Mathlib.Nat.{add-zero, add_assoc}

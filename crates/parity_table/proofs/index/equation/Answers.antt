@@ -1,6 +1,6 @@
 -- `equation` meets its contract: the index's entry, and the members from there.
 use mathlib.Core.Path.{ap}
-use Prim.Native.Nat.{ℕ, ◌-◌}
+use Prim.Native.Nat.{ℕ}
 use native.Mathlib.Omega.{arith}
 use lib.ListN.{get_or}
 use Rattle.parity_table.proofs.Accepts.{layer-known, start_known, start_inside, located}

@@ -1,5 +1,5 @@
 -- `fill` meets its contract. The loop keeps `Filling`: the starts found in the words passed are written.
-use Prim.Native.Nat.{ℕ, ◌-◌}
+use Prim.Native.Nat.{ℕ}
 use native.Mathlib.Omega.{arith}
 use lib.ListN.{get_or}
 use Rattle.parity_table.proofs.Starts.{filling_start, filling_skip, filling_room, filling_put, filling_end, opens_yes, opens_low, opens_high}
