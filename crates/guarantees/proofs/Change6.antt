@@ -3,15 +3,14 @@ use mathlib.Core.Path.{◌≡◌, refl, sym, ap, ◌∙◌, subst}
 use mathlib.Core.Logic.{◌↔◌}
 use mathlib.Core.Bool.{Bool, true, false, ◌&&◌}
 use mathlib.Core.List.{List}
-use Prim.Native.Nat.{ℕ, zero, suc, ◌-◌, ◌*◌, ◌%◌, ◌≤◌, ◌<◌}
+use Prim.Native.Nat.{ℕ, ◌-◌, ◌*◌, ◌%◌, ◌≤◌, ◌<◌}
 use native.Mathlib.Omega.{arith}
 use native.Mathlib.Decide.{dec_lt}
 use lib.ListN.{length}
-use lib.Dec.{leb, eqb}
-use borrow.Author.Tests.{eqb-true, le-leb, leb-false, leb-true, lt-leb}
+use lib.Dec.{eqb}
+use borrow.Author.Tests.{le-leb, lt-leb}
 use Rattle.octets.specs.BigEndian.{bytes_of}
 use Rattle.octets.specs.Choice.{pick}
-use Rattle.octets.proofs.Choice.{by_test}
 use Rattle.parity_table.specs.Shape.{depth_fits}
 use Rattle.parity_table.specs.Table.{table_words}
 use Rattle.parity_table.specs.Reader.{read_of}
@@ -40,13 +39,14 @@ use Rattle.guarantees.specs.Answers.{test, holds, unless, JustWhen}
 use Rattle.guarantees.specs.Refusals.{DepthRight, TableLength}
 use Rattle.guarantees.specs.Cases.{EveryCall}
 use Rattle.guarantees.specs.Before.{now, short, begun, calls_by, before}
-use Rattle.guarantees.specs.Change6.{DepthNine, Accepted, AsBefore, LengthAsBefore, LongerTable, Change6}
+use Rattle.guarantees.specs.Change6.{DepthNine, Accepted, LongerTable, Change6}
 use Rattle.guarantees.proofs.Answers.{never, done_never, left}
 use Rattle.guarantees.proofs.Layouts.{tree-symbols}
 use Rattle.guarantees.proofs.Tables.{right-formed, formed-right}
 use Rattle.guarantees.proofs.Refusals.{depth-fits, words-cases, refusals}
 use Rattle.guarantees.proofs.Cases.{at_test, stops, has, longest as longest-proof}
 use Rattle.guarantees.proofs.Change1.{change_1}
+use Rattle.guarantees.proofs.AsBefore.{as_before}
 
 -- ---- depth 9
 
@@ -105,64 +105,6 @@ accepts d r =
 two_numbers : now ≡ calls_by 9 220792
 unfolding depth_fits length_fits read_of test_depth house_answer tree_written tree_written_by block_read sample_taken sample_checked proof_checked repair_tested repaired recoded
 two_numbers = refl
-
--- such a length is right now just where it was
-length-same : (table : List ℕ) → (TableLength table → length table ≤ 16384)
-    → (leb (length table) 220792 && eqb (length table % 4) 0) ≡ (leb (length table) 16384 && eqb (length table % 4) 0)
-length-same table h =
-    by_test (leb (length table) 16384)
-    (λ t. let l = leb-true (length table) 16384 t in rw (t, le-leb (length table) 220792 (omega arith)))
-    (λ t.
-    by_test (eqb (length table % 4) 0)
-    (λ q.
-    by_test (leb (length table) 220792)
-    (λ w.
-    absurd
-    (omega
-    (arith, h (record { not_over = leb-true (length table) 220792 w; in_words = eqb-true (length table % 4) 0 q }), leb-false (length table) 16384 t)))
-    (λ w. rw (t, w)))
-    (λ q. rw q (alike (leb (length table) 220792) (leb (length table) 16384))))
-  where
-    alike : (a b : Bool) → (a && false) ≡ (b && false)
-    alike true true = refl
-    alike true false = refl
-    alike false true = refl
-    alike false false = refl
-
-as_before : (d : ℕ) → d ≤ 5 → AsBefore d
-unfolding depth_fits length_fits read_of test_depth house_answer tree_written tree_written_by block_read sample_taken sample_checked proof_checked repair_tested repaired recoded pick
-as_before zero h =
-    record {
-      table-words = λ ws. refl;
-      table-bytes = λ table l. refl;
-      house = λ n m. refl;
-      tree_writer = λ kind table b t m r l. refl;
-      tree_writer_by = λ number table b t m r l. refl;
-      block_reader = λ r t m b. refl;
-      sampler = λ i t m s. refl;
-      sample-checker = λ i r s. refl;
-      proof-checker = λ r table b l. refl;
-      repairer = λ r table t m o l. refl;
-      recoder = λ r table t m t' m' r' l. refl;
-    }
-as_before (suc d) h =
-    let five = le-leb (suc d) 5 h in
-    let nine = le-leb (suc d) 9 (omega arith) in
-    let same : (table : List ℕ) → LengthAsBefore (suc d) table
-    → (leb (length table) 220792 && eqb (length table % 4) 0) ≡ (leb (length table) 16384 && eqb (length table % 4) 0) = λ table l. length-same table (l (omega arith)) in
-    record {
-      table-words = λ ws. rw (five, nine);
-      table-bytes = λ table l. rw (five, nine, same table l);
-      house = λ n m. rw (five, nine);
-      tree_writer = λ kind table b t m r l. rw (five, nine, same table l);
-      tree_writer_by = λ number table b t m r l. rw (five, nine, same table l);
-      block_reader = λ r t m b. rw (five, nine);
-      sampler = λ i t m s. rw (five, nine);
-      sample-checker = λ i r s. rw (five, nine);
-      proof-checker = λ r table b l. rw (five, nine, same table l);
-      repairer = λ r table t m o l. rw (five, nine, same table l);
-      recoder = λ r table t m t' m' r' l. rw (five, nine, same table l);
-    }
 
 deeper_before : (d : ℕ) → 5 < d → EveryCall before d (λ number. number ≡ 1)
 unfolding pick

@@ -25,6 +25,7 @@ pub mod Change1
 pub mod Pages
 pub mod Change4
 pub mod Change5
+pub mod AsBefore
 pub mod Change6
 pub mod Recoding
 pub mod Change7

@@ -86,7 +86,7 @@ use Rattle.guarantees.proofs.Tables.{first-wrong, wrong_first, right-formed, for
 -- ---- depth and table
 
 pub depth-right : (d : ℕ) → depth_fits d ≡ true → DepthRight d
-depth-right d f = depth_is d f
+depth-right d f = let (p, q) = depth_is d f in (p, omega arith)
 
 pub depth-fits : (d : ℕ) → DepthRight d → depth_fits d ≡ true
 unfolding depth_fits
