@@ -1,5 +1,5 @@
 -- `processed` meets its contract. The loop keeps: the first i blocks are taken in.
-use Rattle.std.proofs.Common.{◌≡◌, ◌-◌, refl, ap, ◌∙◌, arith}
+use Rattle.std.proofs.Common.{◌≡◌, refl, ap, ◌∙◌, arith}
 use Rattle.sha256.specs.Hash.{processed}
 use Rattle.sha256.proofs.HashLaws.{processed-more}
 use Rattle.sha256.proofs.hash.processed.Goals as goal

@@ -1,5 +1,5 @@
 -- `put_digest` meets its contract. The loop keeps: the first i words are written.
-use Rattle.std.proofs.Common.{◌-◌, length, refl, ap, ◌∙◌, arith, rules}
+use Rattle.std.proofs.Common.{length, refl, ap, ◌∙◌, arith, rules}
 use lib.Seq.{length-sets}
 use Rattle.octets.specs.BigEndian.{bytes_of}
 use Rattle.sha256.proofs.DigestLaws.{put_more, put_all}

@@ -11,7 +11,7 @@ copy_at-requires c =
 
 pub bounds-end-m : goal.bounds-end-m
 bounds-end-m c =
-    let l : length c.copy_at.new.1.0 ≡ 128 = c.copy_at.auto.d ∙ buffer_length _ c.requires.1 in
+    let l : length c.copy_at.new.d ≡ 128 = c.copy_at.auto.d ∙ buffer_length _ c.requires.1 in
     search rules
 
 pub overflow_mul-end_blocks : goal.overflow_mul-end_blocks
@@ -23,13 +23,13 @@ overflow_sub-end_blocks c = omega (arith, length-pad c.args.m.now, c.end_blocks.
 pub put_word-requires : goal.put_word-requires
 put_word-requires c =
     let m = c.args.m.now in
-    let e = set c.copy_at.new.1.0 (length m - length m / 64 * 64) 0x80 in
+    let e = set c.copy_at.new.d (length m - length m / 64 * 64) 0x80 in
     let l : length e ≡ 128 = simp length-set (c.copy_at.auto.d ∙ buffer_length _ c.requires.1) in
     in_buffer e _ l (omega (arith, length-pad m, c.end_blocks.ensures))
 
 pub shape_of-end : goal.shape_of-end
 shape_of-end c = let m = c.args.m.now in
-    c.put_word.auto.s ∙ length-set c.copy_at.new.1.0 (length m - length m / 64 * 64) 0x80 ∙ c.copy_at.auto.d
+    c.put_word.auto.s ∙ length-set c.copy_at.new.d (length m - length m / 64 * 64) 0x80 ∙ c.copy_at.auto.d
 
 pub returns : goal.returns
 returns c =

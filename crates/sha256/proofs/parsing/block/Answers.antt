@@ -1,5 +1,5 @@
 -- `block` meets its contract. The loop keeps: the first t words are the block's.
-use Rattle.std.proofs.Common.{◌-◌, refl, arith, length-set}
+use Rattle.std.proofs.Common.{refl, arith, length-set}
 use Rattle.octets.specs.BigEndian.{words}
 use Rattle.sha256.proofs.ParsingLaws.{words_more, words-all}
 use Rattle.sha256.proofs.parsing.block.Goals as goal

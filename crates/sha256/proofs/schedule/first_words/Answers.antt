@@ -1,5 +1,5 @@
 -- `first_words` meets its contract. The loop keeps: the first t words are the block's.
-use Rattle.std.proofs.Common.{◌≡◌, ◌-◌, refl, ◌∙◌, arith, length-set, take_all, rules}
+use Rattle.std.proofs.Common.{◌≡◌, refl, ◌∙◌, arith, length-set, take_all, rules}
 use Rattle.sha256.proofs.ScheduleLaws.{copied_more}
 use Rattle.sha256.proofs.schedule.first_words.Goals as goal
 
@@ -8,7 +8,7 @@ loop-t-init c = (omega arith, refl, refl)
 
 pub loop-t-preserved : goal.loop-t-preserved
 loop-t-preserved c =
-    (omega arith, simp length-set c.loop-t.invariant.1, copied_more c.args.t1 _ c.loop-t.t _ (omega arith) (omega arith) c.loop-t.invariant.2 refl)
+    (omega arith, simp length-set c.loop-t.invariant.1, copied_more c.args.m _ c.loop-t.t _ (omega arith) (omega arith) c.loop-t.invariant.2 refl)
 
 pub returns : goal.returns
 returns c = let e : c.loop-t.t ≡ 16 = omega arith in rw e at c.loop-t.invariant.2 ∙ take_all 16 _ (search rules)
