@@ -1,6 +1,6 @@
 -- `bytes_from` meets its contract. The loop keeps `Putting`: what is left is the bytes of the words from i on.
 use mathlib.Core.Path.{◌∙◌}
-use Prim.Native.Nat.{◌+◌, ◌-◌, ◌*◌}
+use Prim.Native.Nat.{◌+◌, ◌*◌}
 use native.Mathlib.Omega.{arith}
 use lib.ListN.{get_or, drop}
 use Rattle.table_bytes.proofs.ByteForm.{bytes_next, bytes-none}
@@ -26,7 +26,7 @@ loop-i-preserved c =
     let put_word = c.put_word in (
       omega arith,
       putting_step l.invariant.1 (be 4 (get_or a.ws.now l.i 0)) (bytes_of (drop (l.i + 1) a.ws.now))
-          (bytes_next a.ws.now l.i (omega arith)) put_word.new.0 ((l.i + 1) * 4) put_word.ensures
+          (bytes_next a.ws.now l.i (omega arith)) put_word.new.s ((l.i + 1) * 4) put_word.ensures
           (omega (arith, length-be 4 (get_or a.ws.now l.i 0))),
     )
 

@@ -1,5 +1,4 @@
 -- `length_fits` meets its contract: two tests.
-use Prim.Native.Nat.{◌-◌}
 use Rattle.table_bytes.proofs.ByteForm.{length_long, length-short}
 use Rattle.table_bytes.proofs.length_fits.Goals as goal
 

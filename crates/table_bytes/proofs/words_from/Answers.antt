@@ -1,7 +1,7 @@
 -- `words_from` meets its contract. The loop keeps: the first i words are written.
 use mathlib.Core.Path.{refl, sym, ap, ◌∙◌}
 use mathlib.Core.List.{List}
-use Prim.Native.Nat.{ℕ, ◌-◌, ◌*◌}
+use Prim.Native.Nat.{ℕ, ◌*◌}
 use native.Mathlib.Omega.{arith}
 use lib.ListN.{length, set, length-set}
 use Rattle.table_bytes.proofs.ByteForm.{front_length, words_start, words-next, words-all}

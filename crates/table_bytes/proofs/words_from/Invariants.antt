@@ -1,7 +1,7 @@
 -- `words_from` meets its contract. The loop keeps: the first i words are written.
 use mathlib.Core.Path.{◌≡◌}
 use mathlib.Core.List.{◌++◌}
-use Prim.Native.Nat.{◌+◌, ◌-◌, ◌/◌, ◌≤◌, min}
+use Prim.Native.Nat.{◌-◌, ◌/◌, ◌≤◌, min}
 use lib.ListN.{length, drop}
 use Rattle.octets.specs.BigEndian.{words}
 use Rattle.table_bytes.proofs.words_from.Given as goal
