@@ -1,4 +1,6 @@
 -- `head_right` meets its contract: the words of the head, one after the other.
+use mathlib.Core.Path.{ap}
+use mathlib.Core.Bool.{not}
 use Prim.Native.Nat.{◌-◌}
 use native.Mathlib.Omega.{arith}
 use Rattle.parity_table.proofs.Shape.{k_small}
@@ -26,9 +28,9 @@ overflow_add-data_count c =
 pub returns-then-not-names : goal.returns-then-not-names
 returns-then-not-names c =
     let a = c.args in
-    right-size a.depth a.root_record.now c.data_count.result c.data_count.ensures c.names.result c.names.ensures c.if-not-names.true-raw
+    right-size a.depth a.root_record.now c.data_count.result c.data_count.ensures c.names.result c.names.ensures (ap not c.if-not-names.true)
 
 pub returns : goal.returns
 returns c =
     let a = c.args in
-    right-last a.depth a.root_record.now c.data_count.result c.data_count.ensures c.names.result c.names.ensures c.kind_at.result c.value_at.result c.kind_at-2.result c.kind_at.ensures c.if-kind_at-gt1.false c.value_at.ensures c.if-value_at-depth.false c.if-not-names.false-raw c.kind_at-2.ensures
+    right-last a.depth a.root_record.now c.data_count.result c.data_count.ensures c.names.result c.names.ensures c.kind_at.result c.value_at.result c.kind_at-2.result c.kind_at.ensures c.if-kind_at-gt1.false c.value_at.ensures c.if-value_at-depth.false (ap not c.if-not-names.false) c.kind_at-2.ensures
