@@ -1,6 +1,6 @@
 -- `is_word` meets its contract: a difference is compared, so that no sum can wrap.
 use mathlib.Core.Path.{sym}
-use Prim.Native.Nat.{◌+◌, ◌-◌}
+use Prim.Native.Nat.{◌+◌}
 use native.Mathlib.Omega.{arith}
 use borrow.Author.Tests.{ne_eqb}
 use Rattle.table_reader.proofs.Steps.{minus_test}

@@ -1,22 +1,20 @@
 -- `layer` meets its contract: the opener, then the equations.
 use mathlib.Core.Path.{sym, ◌∙◌}
-use Prim.Native.Nat.{◌-◌}
 use native.Mathlib.Omega.{arith}
 use Rattle.table_reader.proofs.Steps.{word-inside, goes-layer, stops_layer}
 use Rattle.parity_table.specs.Table.{layer_word}
-use Rattle.octets.proofs.Choice.{not_yes, not_no}
 use Rattle.parity_table.proofs.Shape.{k_small}
 use Rattle.table_reader.proofs.layer.Goals as goal
 
 pub returns-then-not-word_is : goal.returns-then-not-word_is
 returns-then-not-word_is c =
     let a = c.args in
-    λ d. stops_layer d a.c.at a.j a.ws.now (sym c.word_is.ensures ∙ not_yes _ c.if-not-word_is.true-raw)
+    λ d. stops_layer d a.c.at a.j a.ws.now (sym c.word_is.ensures ∙ c.if-not-word_is.true)
 
 pub overflow_add-at : goal.overflow_add-at
 overflow_add-at c =
     let a = c.args in
-    omega (arith, word-inside a.ws.now a.c.at (layer_word a.j) (sym c.word_is.ensures ∙ not_no _ c.if-not-word_is.false-raw))
+    omega (arith, word-inside a.ws.now a.c.at (layer_word a.j) (sym c.word_is.ensures ∙ c.if-not-word_is.false))
 
 pub equations-requires : goal.equations-requires
 equations-requires c =
@@ -26,5 +24,5 @@ pub returns : goal.returns
 returns c =
     let a = c.args in
     λ d.
-    goes-layer d a.c.at a.j a.ws.now (sym c.word_is.ensures ∙ not_no _ c.if-not-word_is.false-raw)
+    goes-layer d a.c.at a.j a.ws.now (sym c.word_is.ensures ∙ c.if-not-word_is.false)
     ∙ c.equations.ensures d a.j (sym c.data_count.ensures)

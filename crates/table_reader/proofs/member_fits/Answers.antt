@@ -1,5 +1,4 @@
 -- `member_fits` meets its contract: one case for each test.
-use Prim.Native.Nat.{◌-◌}
 use native.Mathlib.Omega.{arith}
 use Rattle.table_reader.proofs.Steps.{member-low, member_mid, member_is, member-over}
 use Rattle.table_reader.proofs.member_fits.Goals as goal

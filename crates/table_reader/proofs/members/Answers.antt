@@ -1,9 +1,8 @@
 -- `members` meets its contract. The loop keeps: the reader's answer from here is its answer from the first member.
 use mathlib.Core.Path.{refl, sym, ap, ◌∙◌}
-use Prim.Native.Nat.{ℕ, ◌+◌, ◌-◌}
+use Prim.Native.Nat.{ℕ, ◌+◌}
 use native.Mathlib.Omega.{arith}
 use lib.ListN.{get_or, drop}
-use Rattle.octets.proofs.Choice.{not_yes, not_no}
 use Rattle.table_reader.proofs.Steps.{word-found, word-missing, member-more, member-wrong, member-short, member-last, member-next}
 use Rattle.parity_table.specs.Reader.{Member, member_fits, run}
 use Rattle.table_reader.proofs.members.Goals as goal
@@ -27,7 +26,7 @@ returns-then-not-member_fits c =
     let l = c.loop-w in
     let a = c.args in
     let found = word-found a.ws.now l.at c.in-Is.w (sym c.next_word.ensures ∙ c.in-Is.is) in
-    let fits = ap (member_fits a.last l.count l.low) found.1 ∙ sym c.member_fits.ensures ∙ not_yes _ c.if-not-member_fits.true-raw in
+    let fits = ap (member_fits a.last l.count l.low) found.1 ∙ sym c.member_fits.ensures ∙ c.if-not-member_fits.true in
     λ d j e q.
     l.invariant.1 d j e q
     ∙ member-wrong d l.at j e l.count l.low a.ws.now found.0
@@ -44,7 +43,7 @@ returns-then-x-last c =
     let l = c.loop-w in
     let a = c.args in
     let found = word-found a.ws.now l.at c.in-Is.w (sym c.next_word.ensures ∙ c.in-Is.is) in
-    let fits = ap (member_fits a.last l.count l.low) found.1 ∙ sym c.member_fits.ensures ∙ not_no _ c.if-not-member_fits.false-raw in
+    let fits = ap (member_fits a.last l.count l.low) found.1 ∙ sym c.member_fits.ensures ∙ c.if-not-member_fits.false in
     λ d j e q.
     l.invariant.1 d j e q
     ∙ member-last d l.at j e l.count l.low a.ws.now found.0
@@ -61,7 +60,7 @@ loop-w-preserved c =
     let l = c.loop-w in
     let a = c.args in
     let found = word-found a.ws.now l.at c.in-Is.w (sym c.next_word.ensures ∙ c.in-Is.is) in
-    let fits = ap (member_fits a.last l.count l.low) found.1 ∙ sym c.member_fits.ensures ∙ not_no _ c.if-not-member_fits.false-raw in
+    let fits = ap (member_fits a.last l.count l.low) found.1 ∙ sym c.member_fits.ensures ∙ c.if-not-member_fits.false in
     let b = member-more a.last l.count l.low (get_or a.ws.now l.at 0) fits (λ z. c.if-x-last.false (sym found.1 ∙ z)) in (
       omega (arith, b.1),
       λ d j e q.

@@ -2,19 +2,18 @@
 use mathlib.Core.Path.{sym, ◌∙◌}
 use Rattle.parity_table.proofs.Shape.{depth_is}
 use Rattle.parity_table.proofs.Accepts.{read-depth, read-run}
-use Rattle.octets.proofs.Choice.{not_yes, not_no}
 use Rattle.table_reader.proofs.read.Goals as goal
 
 pub returns-then-not-depth_fits : goal.returns-then-not-depth_fits
 returns-then-not-depth_fits c =
     let a = c.args in
-    read-depth a.depth a.ws.now (sym c.depth_fits.ensures ∙ not_yes _ c.if-not-depth_fits.true-raw)
+    read-depth a.depth a.ws.now (sym c.depth_fits.ensures ∙ c.if-not-depth_fits.true)
 
 pub whole-requires : goal.whole-requires
-whole-requires c = (depth_is c.args.depth (sym c.depth_fits.ensures ∙ not_no _ c.if-not-depth_fits.false-raw)).1
+whole-requires c = (depth_is c.args.depth (sym c.depth_fits.ensures ∙ c.if-not-depth_fits.false)).1
 
 pub returns : goal.returns
 returns c =
     let a = c.args in
     c.whole.ensures
-    ∙ read-run a.depth a.ws.now (sym c.depth_fits.ensures ∙ not_no _ c.if-not-depth_fits.false-raw)
+    ∙ read-run a.depth a.ws.now (sym c.depth_fits.ensures ∙ c.if-not-depth_fits.false)

@@ -1,6 +1,5 @@
 -- `word_at` meets its contract: a test of the place.
 use mathlib.Core.Path.{sym}
-use Prim.Native.Nat.{◌-◌}
 use Rattle.table_reader.proofs.Steps.{word_stands, word_over}
 use Rattle.table_reader.proofs.word_at.Goals as goal
 

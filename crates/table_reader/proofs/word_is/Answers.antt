@@ -7,8 +7,7 @@ use Rattle.table_reader.proofs.word_is.Goals as goal
 pub returns-in-Is : goal.returns-in-Is
 returns-in-Is c =
     let a = c.args in
-    let w = c.w-1.given in
-    c.is_IsWord.ensures ∙ word_same a.ws.now a.at w.0.0 (a.base + a.v) (sym c.next_word.ensures ∙ w.1)
+    c.is_word.ensures ∙ word_same a.ws.now a.at c.in-Is.w (a.base + a.v) (sym c.next_word.ensures ∙ c.in-Is.is)
 
 pub returns-in-Past : goal.returns-in-Past
 returns-in-Past c =
