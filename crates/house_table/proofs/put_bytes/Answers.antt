@@ -1,7 +1,7 @@
 -- `put_bytes` meets its contract: the words, then their bytes.
 use mathlib.Core.Path.{◌≡◌, sym, ap, ◌∙◌}
 use mathlib.Core.List.{List, ◌++◌}
-use Prim.Native.Nat.{ℕ, ◌+◌, ◌-◌, ◌*◌, ◌/◌}
+use Prim.Native.Nat.{ℕ, ◌*◌, ◌/◌}
 use native.Mathlib.Omega.{arith}
 use lib.ListN.{length, take, drop}
 use Rattle.house_table.specs.House.{house_words}
@@ -29,7 +29,7 @@ slice_bounds-bytes_from-end-2 c =
     let pre = c.requires in
     let put-table = c.put_table in
     let n : length a.out.now / 4 ≡ length (house_words a.depth) = omega (arith, pre.1) in
-    let v = put-table.new.0 in
+    let v = put-table.new.out in
     let front : take (length a.out.now / 4) (v ++ drop (length a.out.now / 4) a.words.now) ≡ house_words a.depth =
     take_at v (drop (length a.out.now / 4) a.words.now) (length a.out.now / 4) (ap length put-table.ensures ∙ sym n)
     ∙ put-table.ensures in
@@ -41,7 +41,7 @@ bytes_from-requires c =
     let pre = c.requires in
     let put-table = c.put_table in
     let n : length a.out.now / 4 ≡ length (house_words a.depth) = omega (arith, pre.1) in
-    let v = put-table.new.0 in
+    let v = put-table.new.out in
     let front : take (length a.out.now / 4) (v ++ drop (length a.out.now / 4) a.words.now) ≡ house_words a.depth =
     take_at v (drop (length a.out.now / 4) a.words.now) (length a.out.now / 4) (ap length put-table.ensures ∙ sym n)
     ∙ put-table.ensures in
@@ -53,7 +53,7 @@ returns c =
     let pre = c.requires in
     let put-table = c.put_table in
     let n : length a.out.now / 4 ≡ length (house_words a.depth) = omega (arith, pre.1) in
-    let v = put-table.new.0 in
+    let v = put-table.new.out in
     let front : take (length a.out.now / 4) (v ++ drop (length a.out.now / 4) a.words.now) ≡ house_words a.depth =
     take_at v (drop (length a.out.now / 4) a.words.now) (length a.out.now / 4) (ap length put-table.ensures ∙ sym n)
     ∙ put-table.ensures in

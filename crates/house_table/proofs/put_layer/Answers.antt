@@ -1,6 +1,6 @@
 -- `put_layer` meets its contract. The loop keeps `Putting`: what is left is the equations from e on.
 use mathlib.Core.Path.{ap, ◌∙◌}
-use Prim.Native.Nat.{◌+◌, ◌-◌}
+use Prim.Native.Nat.{◌+◌}
 use native.Mathlib.Omega.{arith}
 use lib.ListN.{length, set, length-set}
 use Rattle.parity_table.specs.Table.{word}
@@ -17,8 +17,7 @@ loop-e-init c =
 pub put_row-p-requires : goal.put_row-p-requires
 put_row-p-requires c =
     let a = c.args in
-    let l = c.loop-e in
-    (
+    let l = c.loop-e in (
       c.requires.0,
       c.requires.1,
       omega arith,
@@ -35,7 +34,7 @@ loop-e-preserved c =
     let l = c.loop-e in
     let r = c.put_row-p in (
       omega arith,
-      putting_step l.invariant.1 (house_row a.k l.e) (rows_left a.k (l.e + 1)) (rows_turn a.k l.e (omega arith)) r.new.0
+      putting_step l.invariant.1 (house_row a.k l.e) (rows_left a.k (l.e + 1)) (rows_turn a.k l.e (omega arith)) r.new.out
           r.result r.ensures.1 r.ensures.0,
     )
 

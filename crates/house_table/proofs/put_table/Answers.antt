@@ -1,7 +1,7 @@
 -- `put_table` meets its contract. The loop keeps `Putting`: what is left is the layers from j on, and the end word.
 use mathlib.Core.Path.{sym, ap, ◌∙◌}
 use mathlib.Core.List.{◌++◌}
-use Prim.Native.Nat.{ℕ, ◌+◌, ◌-◌}
+use Prim.Native.Nat.{ℕ, ◌+◌}
 use native.Mathlib.Omega.{arith}
 use lib.ListN.{length-set}
 use Rattle.house_table.specs.House.{house_layer}
@@ -51,7 +51,7 @@ loop-j-preserved c =
     ∙ ap (λ (k : ℕ). house_layer l.j k ++ layers_left a.depth (l.j + 1)) (sym k.ensures) in
     let r = c.put_layer-at in (
       omega arith,
-      putting_step l.invariant.1 (house_layer l.j k.result) (layers_left a.depth (l.j + 1)) t r.new.0 r.result r.ensures.1
+      putting_step l.invariant.1 (house_layer l.j k.result) (layers_left a.depth (l.j + 1)) t r.new.out r.result r.ensures.1
           r.ensures.0,
     )
 

@@ -1,5 +1,4 @@
 -- `word_count` meets its contract: the formula.
-use Prim.Native.Nat.{◌-◌}
 use native.Mathlib.Omega.{arith}
 use Rattle.parity_table.proofs.Shape.{shift_is, shift_small}
 use Rattle.house_table.proofs.HouseParts.{size_is}

@@ -1,30 +1,28 @@
 -- `write` meets its contract: two tests, then the table.
 use mathlib.Core.Path.{refl, sym, ◌∙◌}
-use Prim.Native.Nat.{◌-◌}
 use lib.ListN.{length}
 use Rattle.house_table.specs.House.{house_words}
 use Rattle.house_table.proofs.HouseParts.{answer-depth, answer-length, answer-whole}
 use Rattle.parity_table.proofs.Shape.{depth_is}
-use Rattle.octets.proofs.Choice.{not_yes, not_no}
 use Rattle.house_table.proofs.write.Goals as goal
 
 pub returns-then-not-depth_fits : goal.returns-then-not-depth_fits
 returns-then-not-depth_fits c =
     let a = c.args in (
       answer-depth a.depth (length a.out.now) (length (house_words a.depth))
-          (sym c.depth_fits.ensures ∙ not_yes _ c.if-not-depth_fits.true-raw),
+          (sym c.depth_fits.ensures ∙ c.if-not-depth_fits.true),
       refl,
     )
 
 pub word_count-requires : goal.word_count-requires
 word_count-requires c =
-    (depth_is c.args.depth (sym c.depth_fits.ensures ∙ not_no _ c.if-not-depth_fits.false-raw)).1
+    (depth_is c.args.depth (sym c.depth_fits.ensures ∙ c.if-not-depth_fits.false)).1
 
 pub returns-then-out-word_count : goal.returns-then-out-word_count
 returns-then-out-word_count c =
     let a = c.args in (
       answer-length a.depth (length a.out.now) (length (house_words a.depth))
-          (sym c.depth_fits.ensures ∙ not_no _ c.if-not-depth_fits.false-raw)
+          (sym c.depth_fits.ensures ∙ c.if-not-depth_fits.false)
           (λ q. c.if-out-word_count.true (q ∙ sym c.word_count.ensures.0)),
       refl,
     )
@@ -32,7 +30,7 @@ returns-then-out-word_count c =
 pub put_table-requires : goal.put_table-requires
 put_table-requires c =
     let a = c.args in (
-      (depth_is a.depth (sym c.depth_fits.ensures ∙ not_no _ c.if-not-depth_fits.false-raw)
+      (depth_is a.depth (sym c.depth_fits.ensures ∙ c.if-not-depth_fits.false)
           ).1,
       c.if-out-word_count.false ∙ c.word_count.ensures.0,
     )
@@ -43,7 +41,7 @@ returns c =
     let depth-fits = c.depth_fits in
     let if1 = c.if-not-depth_fits in
     let word_count = c.word_count in (
-      answer-whole a.depth (length a.out.now) (length (house_words a.depth)) (sym depth-fits.ensures ∙ not_no _ if1.false)
+      answer-whole a.depth (length a.out.now) (length (house_words a.depth)) (sym depth-fits.ensures ∙ if1.false)
           (c.if-out-word_count.false ∙ word_count.ensures.0),
       c.put_table.ensures,
     )
