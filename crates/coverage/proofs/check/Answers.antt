@@ -1,7 +1,7 @@
 -- `check` meets its contract. The loop keeps: layer j begins at word `at`, and the first layer with such a symbol, from j on, is the first of all.
 use mathlib.Core.Path.{◌≡◌, refl, sym, ap, ◌∙◌, subst}
 use mathlib.Core.List.{List, ◌++◌}
-use Prim.Native.Nat.{ℕ, ◌+◌, ◌-◌}
+use Prim.Native.Nat.{ℕ, ◌+◌}
 use lib.ListN.{length, drop, take-append-drop}
 use Rattle.parity_table.specs.Shape.{k_of}
 use native.Mathlib.Omega.{arith}

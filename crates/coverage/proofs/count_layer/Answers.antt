@@ -13,7 +13,7 @@ returns c =
     let a = c.args in
     let m = c.count_to_end-end in
     let f = c.first_thin-lowest in
-    let n : length f.new.0 ≡ length a.seen.now = f.auto.0 ∙ m.auto.1.1.0 in (
+    let n : length f.new.seen ≡ length a.seen.now = f.auto.seen ∙ m.auto.seen in (
       counted a.ws.now a.seen.now _ a.at _ _ c.requires.2 m.ensures.0 m.ensures.1 f.ensures.0,
       forgotten a.seen.now _ _ c.requires.2 n f.ensures.1,
     )

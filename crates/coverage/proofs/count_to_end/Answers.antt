@@ -1,9 +1,8 @@
 -- `count_to_end` meets its contract. The loop keeps: the pass from here on comes to what all of it comes to, and some word ends the layer; no symbol
 -- was seen more often than there were words.
 use mathlib.Core.Path.{refl, sym, ap, ◌∙◌, subst}
-use mathlib.Core.Bool.{true}
 use mathlib.Core.List.{List}
-use Prim.Native.Nat.{ℕ, ◌+◌, ◌-◌}
+use Prim.Native.Nat.{ℕ, ◌+◌}
 use native.Mathlib.Omega.{arith}
 use lib.ListN.{length, get_or, drop}
 use Rattle.coverage.specs.Counting.{Below, tallied, tally}
