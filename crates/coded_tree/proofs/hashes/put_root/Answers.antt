@@ -4,7 +4,6 @@ use Prim.Native.Nat.{◌+◌, ◌-◌, ◌*◌}
 use native.Mathlib.Omega.{arith}
 use lib.ListN.{length, take, drop, length-take, length-drop}
 use Rattle.coded_tree.proofs.HashLaws.{root_more, root_all}
-use Rattle.model.specs.Shape.{tree}
 use Rattle.model.specs.Symbols.{joined}
 use Rattle.symbol_hash.proofs.Laws.{length-symbol_hash}
 use Rattle.coded_tree.proofs.hashes.put_root.Goals as goal

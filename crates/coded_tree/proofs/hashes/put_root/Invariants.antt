@@ -3,7 +3,6 @@ use mathlib.Core.Path.{◌≡◌}
 use Prim.Native.Nat.{◌-◌, ◌*◌, ◌≤◌}
 use lib.ListN.{length, take}
 use Rattle.coded_tree.proofs.HashLaws.{top_hash}
-use Rattle.model.specs.Shape.{tree}
 use Rattle.model.specs.Symbols.{joined}
 use Rattle.coded_tree.proofs.hashes.put_root.Given as goal
 

@@ -1,11 +1,9 @@
 -- `put_parities` meets its contract. The loop keeps: what is left to do gives what all of it gives.
 use mathlib.Core.Path.{refl, sym, ◌∙◌}
-use Prim.Native.Nat.{◌-◌}
 use native.Mathlib.Omega.{arith}
 use borrow.Author.Rules.{rules}
 use Rattle.parity_table.proofs.Accepts.{members_there, accepted-depth}
 use Rattle.coded_tree.proofs.ParityLaws.{members-inside, parity_inside, parity_step, layer-done}
-use Rattle.octets.specs.BigEndian.{words}
 use Rattle.parity_table.proofs.Shape.{k_small}
 use Rattle.coded_tree.proofs.parity.put_parities.Goals as goal
 

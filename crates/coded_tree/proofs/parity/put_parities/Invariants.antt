@@ -1,10 +1,9 @@
 -- `put_parities` meets its contract. The loop keeps: what is left to do gives what all of it gives.
 use mathlib.Core.Path.{◌≡◌}
-use Prim.Native.Nat.{◌-◌, ◌*◌, ◌≤◌}
+use Prim.Native.Nat.{◌*◌, ◌≤◌}
 use lib.ListN.{length, drop}
 use Rattle.model.specs.Shape.{places, tree as shape}
 use Rattle.model.specs.Writer.{parities}
-use Rattle.octets.specs.BigEndian.{words}
 use Rattle.parity_table.specs.Parse.{table_of}
 use Rattle.parity_table.specs.Shape.{k_of}
 use Rattle.parity_table.specs.Table.{layer_of}

@@ -1,6 +1,6 @@
 -- `xor_others` meets its contract. The loop keeps: what is gathered, with what is left, is the whole.
 use mathlib.Core.Path.{◌≡◌}
-use Prim.Native.Nat.{◌+◌, ◌-◌, ◌≤◌}
+use Prim.Native.Nat.{◌+◌, ◌≤◌}
 use lib.ListN.{length}
 use Rattle.coded_tree.proofs.ParityLaws.{left}
 use Rattle.model.specs.Symbols.{symbol_in}

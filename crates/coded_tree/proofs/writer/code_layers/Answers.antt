@@ -5,7 +5,6 @@ use native.Mathlib.Omega.{arith}
 use borrow.Author.Rules.{rules}
 use Rattle.coded_tree.proofs.WriterLaws.{layer-room, code_step, code-top, layer-room_up}
 use Rattle.model.specs.Writer.{code}
-use Rattle.octets.specs.BigEndian.{words}
 use Rattle.parity_table.specs.Parse.{table_of}
 use Rattle.parity_table.proofs.Accepts.{accepted-depth}
 use Rattle.symbol_hash.specs.SymbolHash.{symbol_hash}

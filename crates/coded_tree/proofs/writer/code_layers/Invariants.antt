@@ -1,9 +1,8 @@
 -- `code_layers` meets its contract. The loop keeps: coding what is left gives what coding all gives.
 use mathlib.Core.Path.{◌≡◌}
-use Prim.Native.Nat.{suc, ◌-◌, ◌<◌}
+use Prim.Native.Nat.{suc, ◌<◌}
 use lib.ListN.{length}
 use Rattle.model.specs.Writer.{code}
-use Rattle.octets.specs.BigEndian.{words}
 use Rattle.parity_table.specs.Parse.{table_of}
 use Rattle.symbol_hash.specs.SymbolHash.{symbol_hash}
 use Rattle.model.specs.Shape.{tree as shape}

@@ -32,3 +32,8 @@ returns c =
     c.data_count.ensures c.requires.2
     c.copy_at.ensures
     c.fill.ensures
+
+pub slice_bounds-fill-end : goal.slice_bounds-fill-end
+slice_bounds-fill-end c =
+    omega
+    (arith, base-room c.args.depth _ c.args.tree.now c.requires.0 c.first_place-from.ensures c.requires.3, c.data_count.ensures, c.requires.2)

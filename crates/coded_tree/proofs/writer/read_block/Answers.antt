@@ -15,3 +15,7 @@ pub returns : goal.returns
 returns c =
     block-read c.args.depth _ c.args.tree.now c.requires.0 c.first_place-from.ensures c.requires.2
     c.args.block.now _ c.requires.3 c.copy_at.ensures
+
+pub slice_bounds-copy_at-end : goal.slice_bounds-copy_at-end
+slice_bounds-copy_at-end c =
+    omega (arith, base-room c.args.depth _ c.args.tree.now c.requires.0 c.first_place-from.ensures c.requires.2, c.requires.3)

@@ -25,3 +25,8 @@ returns c =
     let p = c.first_place-from in
     c.is_zero.ensures
     ∙ rest_zero c.args.depth _ c.args.tree.now c.requires.0 p.ensures c.requires.2 c.args.n _ c.data_count.ensures c.requires.3
+
+pub slice_bounds-is_zero-end : goal.slice_bounds-is_zero-end
+slice_bounds-is_zero-end c =
+    omega
+    (arith, base-room c.args.depth _ c.args.tree.now c.requires.0 c.first_place-from.ensures c.requires.2, c.data_count.ensures, c.requires.3)
