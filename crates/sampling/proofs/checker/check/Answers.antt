@@ -1,8 +1,6 @@
 -- `check` meets its contract. The loop keeps: every symbol before x fits.
 use mathlib.Core.Path.{refl}
-use Prim.Native.Nat.{◌-◌}
 use native.Mathlib.Omega.{arith}
-use Rattle.octets.proofs.Choice.{not_yes, not_no}
 use Rattle.symbol_hash.specs.SymbolHash.{symbol_hash}
 use Rattle.sampling.proofs.CheckLaws.{fits-here, breaks-here, leads-here, fit_start}
 use Rattle.sampling.proofs.checker.check.Goals as goal
@@ -24,12 +22,12 @@ returns-then-not-symbol_fits c =
     c.args.depth
     c.args.i c.loop-x.x
     c.symbol_fits.result c.symbol_fits.ensures (omega arith)
-    c.loop-x.invariant.2 (not_yes _ c.if-not-symbol_fits.true-raw) c.layer_of.result
+    c.loop-x.invariant.2 c.if-not-symbol_fits.true c.layer_of.result
     c.layer_of.ensures
 
 pub loop-x-preserved : goal.loop-x-preserved
 loop-x-preserved c =
-    (omega arith, c.loop-x.invariant.1, fits-here (symbol_hash c.args.kind) c.args.root.now c.args.sample.now c.args.depth c.args.i c.loop-x.x c.symbol_fits.result c.symbol_fits.ensures (omega arith) c.loop-x.invariant.2 (not_no _ c.if-not-symbol_fits.false-raw))
+    (omega arith, c.loop-x.invariant.1, fits-here (symbol_hash c.args.kind) c.args.root.now c.args.sample.now c.args.depth c.args.i c.loop-x.x c.symbol_fits.result c.symbol_fits.ensures (omega arith) c.loop-x.invariant.2 c.if-not-symbol_fits.false)
 
 pub returns : goal.returns
 returns c =

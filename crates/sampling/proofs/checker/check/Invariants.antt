@@ -1,6 +1,6 @@
 -- `check` meets its contract. The loop keeps: every symbol before x fits.
 use mathlib.Core.Path.{◌≡◌}
-use Prim.Native.Nat.{◌-◌, ◌≤◌}
+use Prim.Native.Nat.{◌≤◌}
 use Rattle.model.specs.Sampling.{sample_size}
 use Rattle.symbol_hash.specs.SymbolHash.{symbol_hash}
 use Rattle.sampling.proofs.CheckLaws.{FitBefore}

@@ -1,6 +1,5 @@
 -- `first_absent` meets its contract. The loop keeps: every symbol before x is marked held.
 use mathlib.Core.Path.{refl}
-use Prim.Native.Nat.{◌-◌}
 use native.Mathlib.Omega.{arith}
 use Rattle.sampling.proofs.SamplerLaws.{absent-here, held-here, all_held, held_start}
 use Rattle.sampling.proofs.SymbolLaws.{sample-place_lt}

@@ -1,6 +1,6 @@
 -- `first_absent` meets its contract. The loop keeps: every symbol before x is marked held.
 use mathlib.Core.Path.{◌≡◌}
-use Prim.Native.Nat.{◌-◌, ◌≤◌}
+use Prim.Native.Nat.{◌≤◌}
 use Rattle.model.specs.Sampling.{sample_size}
 use Rattle.sampling.proofs.SamplerLaws.{HeldBefore}
 use Rattle.sampling.proofs.sampler.first_absent.Given as goal

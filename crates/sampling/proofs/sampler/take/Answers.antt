@@ -1,8 +1,6 @@
 -- `take` meets its contract. The loop keeps: the first x symbols are the sample's.
 use mathlib.Core.Path.{refl, ◌∙◌}
-use Prim.Native.Nat.{◌-◌}
 use native.Mathlib.Omega.{arith}
-use Rattle.model.specs.Shape.{tree}
 use Rattle.model.specs.Symbols.{joined}
 use Rattle.sampling.proofs.SamplerLaws.{taken-all, copied_length, taken_more, copied_same}
 use Rattle.sampling.proofs.SymbolLaws.{sample-place_lt}
@@ -25,8 +23,8 @@ overflow_add-to c =
     omega
     (arith, sample-place_lt c.args.depth c.args.i c.loop-x.x c.requires.0 (omega arith), c.sample_place-from.ensures)
 
-pub slice_bounds-copy_at-count : goal.slice_bounds-copy_at-count
-slice_bounds-copy_at-count c =
+pub slice_bounds-copy_at-end : goal.slice_bounds-copy_at-end
+slice_bounds-copy_at-end c =
     omega
     (arith, sample-place_lt c.args.depth c.args.i c.loop-x.x c.requires.0 (omega arith), c.sample_place-from.ensures)
 

@@ -1,9 +1,8 @@
 -- `take` meets its contract. The loop keeps: the first x symbols are the sample's.
 use mathlib.Core.Path.{◌≡◌}
-use Prim.Native.Nat.{◌-◌, ◌*◌, ◌≤◌}
+use Prim.Native.Nat.{◌*◌, ◌≤◌}
 use lib.ListN.{length}
 use Rattle.model.specs.Sampling.{sample_size}
-use Rattle.model.specs.Shape.{tree}
 use Rattle.sampling.proofs.SamplerLaws.{Taken}
 use Rattle.sampling.proofs.sampler.take.Given as goal
 
