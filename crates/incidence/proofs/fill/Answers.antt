@@ -17,7 +17,7 @@ pub add_equation-requires : goal.add_equation-requires
 add_equation-requires c =
     let a = c.args in
     let v = c.fill_words in (
-      subst (λ (q : ℕ). Threadable a.words.now a.starts.now a.from (c.loop-e.e + 1) q (length c.loop-e.next)) (sym (c.loop-e.invariant.1 ∙ v.auto.0))
+      subst (λ (q : ℕ). Threadable a.words.now a.starts.now a.from (c.loop-e.e + 1) q (length c.loop-e.next)) (sym (c.loop-e.invariant.1 ∙ v.auto.s))
           (subst (λ (q : ℕ). Threadable a.words.now a.starts.now a.from (c.loop-e.e + 1) (length a.last.now) q) (sym c.loop-e.invariant.2)
           (threadable_fewer a.words.now a.starts.now a.from a.n (c.loop-e.e + 1) (length a.last.now) (length a.next.now) (omega (arith, c.loop-e-test.true)) c.requires)),
       c.loop-e.invariant.3,
@@ -32,7 +32,7 @@ loop-e-smaller c = omega (arith, c.loop-e-test.true)
 pub loop-e-preserved : goal.loop-e-preserved
 loop-e-preserved c =
     let v = c.add_equation in
-    (omega (arith, c.loop-e-test.true), v.auto.1.1.1.1.0 ∙ c.loop-e.invariant.1, v.auto.1.1.1.1.1.0 ∙ c.loop-e.invariant.2, v.ensures)
+    (omega (arith, c.loop-e-test.true), v.auto.last ∙ c.loop-e.invariant.1, v.auto.next ∙ c.loop-e.invariant.2, v.ensures)
 
 pub shape_of-last : goal.shape_of-last
 shape_of-last c = c.loop-e.invariant.1 ∙ c.fill_words.auto.s

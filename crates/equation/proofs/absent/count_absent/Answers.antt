@@ -1,7 +1,5 @@
 -- `count_absent` meets its contract. The loop keeps: n, with the count of the members from i on, is the count of all.
-use mathlib.Core.Logic.{⊎_elim}
 use mathlib.Core.Path.{ap, refl}
-use Prim.Native.Nat.{◌-◌}
 use native.Mathlib.Nat.{zero-add}
 use native.Mathlib.Omega.{arith}
 use lib.ListN.{get_or}
@@ -12,6 +10,7 @@ use Rattle.model.specs.Repair.{absent_at}
 use Rattle.model.specs.Symbols.{bit}
 use Rattle.model.specs.Shape.{tree as shape}
 use Rattle.equation.proofs.absent.count_absent.Goals as goal
+use Rattle.equation.proofs.absent.count_absent.Goals.{then-marks-base-ne1, else-marks-base-ne1}
 
 pub first_place-base-requires : goal.first_place-base-requires
 first_place-base-requires c = omega (arith, c.requires.layer)
@@ -20,7 +19,7 @@ pub loop-i-init : goal.loop-i-init
 loop-i-init c = (omega arith, refl, c.first_place-base.ensures, omega arith, zero-add _)
 
 pub overflow_cast-members : goal.overflow_cast-members
-overflow_cast-members c = omega (arith, c.shared_slice_known-in-loop-i-1.given c.loop-i.i)
+overflow_cast-members c = omega (arith, c.type_inv.members c.loop-i.i)
 
 pub overflow_add-base : goal.overflow_add-base
 overflow_add-base c =
@@ -38,10 +37,10 @@ loop-i-preserved c =
     let p = absent_at shape c.args.marks.now c.args.j in
     let y = get_or c.args.members.now l.i 0 in
     let q = count-drop p c.args.members.now l.i (omega arith) in
-    ⊎_elim
-    (λ w. (omega arith, l.invariant.1, l.invariant.2, omega (arith, w.1), omega (arith, q, l.invariant.4, w.1, ap bit (absent-is c.args.marks.now c.args.j _ l.invariant.2 y w.0.taken))))
-    (λ w. (omega arith, l.invariant.1, l.invariant.2, omega (arith, w.1), omega (arith, q, l.invariant.4, w.1, ap bit (held-is c.args.marks.now c.args.j _ l.invariant.2 y w.0.left))))
-    c.if-marks-base-ne1.branch
+    elim c.if-marks-base-ne1.branch [
+      | then-marks-base-ne1 w ↦ (omega arith, l.invariant.1, l.invariant.2, omega arith, omega (arith, q, l.invariant.4, ap bit (absent-is c.args.marks.now c.args.j _ l.invariant.2 y w.if-marks-base-ne1.true)))
+      | else-marks-base-ne1 w ↦ (omega arith, l.invariant.1, l.invariant.2, omega arith, omega (arith, q, l.invariant.4, ap bit (held-is c.args.marks.now c.args.j _ l.invariant.2 y w.if-marks-base-ne1.false)))
+    ]
 
 pub returns : goal.returns
 returns c =

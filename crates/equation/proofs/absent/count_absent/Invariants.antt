@@ -1,6 +1,6 @@
 -- `count_absent` meets its contract. The loop keeps: n, with the count of the members from i on, is the count of all.
 use mathlib.Core.Path.{◌≡◌}
-use Prim.Native.Nat.{◌+◌, ◌-◌, ◌≤◌}
+use Prim.Native.Nat.{◌+◌, ◌≤◌}
 use lib.ListN.{drop, length}
 use Rattle.model.specs.Repair.{absent_at}
 use Rattle.model.specs.Shape.{places}

@@ -1,6 +1,5 @@
 -- `first_absent` meets its contract. The loop keeps: the members before i are held.
 use mathlib.Core.Path.{◌∙◌, refl, sym}
-use Prim.Native.Nat.{◌-◌}
 use native.Mathlib.Omega.{arith}
 use Rattle.coded_tree.proofs.MarkLaws.{absent-is, held-is}
 use Rattle.model.proofs.Counts.{first-end, first-here, first_skip}
@@ -16,7 +15,7 @@ pub loop-i-init : goal.loop-i-init
 loop-i-init c = (omega arith, refl, c.first_place-base.ensures, refl)
 
 pub overflow_cast-y : goal.overflow_cast-y
-overflow_cast-y c = omega (arith, c.shared_slice_known-in-loop-i-1.given c.loop-i.i)
+overflow_cast-y c = omega (arith, c.type_inv.members c.loop-i.i)
 
 pub overflow_add-base : goal.overflow_add-base
 overflow_add-base c =

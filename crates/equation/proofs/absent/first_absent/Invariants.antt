@@ -1,6 +1,6 @@
 -- `first_absent` meets its contract. The loop keeps: the members before i are held.
 use mathlib.Core.Path.{◌≡◌}
-use Prim.Native.Nat.{◌-◌, ◌≤◌}
+use Prim.Native.Nat.{◌≤◌}
 use lib.ListN.{drop, length}
 use Rattle.model.specs.Repair.{absent_at}
 use Rattle.model.specs.Shape.{places}

@@ -72,7 +72,7 @@ returns-then-fits c =
     let k = c.requires.0.work in
     let v = xor_there a.tree.now a.members.now _ a.j _ _ p.ensures c.xor_others.ensures in
     form-stores a.kind a.root.now a.members.now a.j a.e a.tree.now a.marks.now a.out.now a.used.now _ _ c.requires.1 c.first_absent-x.ensures v p.result _ _ _
-    (sym c.fits2.ensures ∙ c.if-fits.true) p.ensures (ap length v ∙ rest-length a.root.now a.members.now a.tree.now a.out.now a.j a.e k _) c.copy_at.ensures refl refl
+    (sym c.fits.ensures ∙ c.if-fits.true) p.ensures (ap length v ∙ rest-length a.root.now a.members.now a.tree.now a.out.now a.j a.e k _) c.copy_at.ensures refl refl
 
 pub put_proof-size-requires : goal.put_proof-size-requires
 put_proof-size-requires c =
@@ -89,4 +89,4 @@ returns c =
     let v = xor_there a.tree.now a.members.now _ a.j _ _ p.ensures c.xor_others.ensures in
     let w = c.put_proof-size.ensures tree (tree_hangs _) in
     form_faults a.kind a.root.now a.members.now a.j a.e a.tree.now a.marks.now a.out.now a.used.now _ _ c.requires.1 c.first_absent-x.ensures v _ _
-    (sym c.fits2.ensures ∙ c.if-fits.false) w.0 w.1
+    (sym c.fits.ensures ∙ c.if-fits.false) w.0 w.1

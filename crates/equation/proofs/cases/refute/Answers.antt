@@ -14,7 +14,7 @@ pub overflow_sub-x : goal.overflow_sub-x
 overflow_sub-x c = omega (arith, c.requires.some)
 
 pub overflow_cast-x : goal.overflow_cast-x
-overflow_cast-x c = omega (arith, c.shared_slice_known-4-1.given (length c.args.members.now - 1))
+overflow_cast-x c = omega (arith, c.type_inv.members (length c.args.members.now - 1))
 
 pub first_place-requires : goal.first_place-requires
 first_place-requires c = omega (arith, c.requires.members.layers.layer)
@@ -50,8 +50,8 @@ returns-then-fits c =
     let z = last_in a.members.now c.requires.some in
     let v = xor_there a.tree.now a.members.now _ a.j _ _ c.first_place.ensures c.xor_others.ensures in
     refute-twins a.kind a.root.now a.members.now a.j a.e a.tree.now a.out.now _ _ _ (sym (last_get a.members.now 0 c.requires.some)) v
-    (sym c.fits2.ensures ∙ c.if-fits.true)
-    (twins_put a.out.now c.put_symbol.new.1.1.1.0 c.copy_at.new.1.0 (sym_at tree a.tree.now a.j (get_or a.members.now (length a.members.now - 1) 0)) c.xor_others.new.0 (full a.root.now a.members.now a.tree.now a.out.now a.j a.e c.requires _ (member_below a.root.now a.members.now a.tree.now a.out.now a.j a.e c.requires _ z)) c.requires.twins-room (c.put_symbol.ensures tree (tree_hangs _)) c.copy_at.ensures)
+    (sym c.fits.ensures ∙ c.if-fits.true)
+    (twins_put a.out.now c.put_symbol.new.out c.copy_at.new.d (sym_at tree a.tree.now a.j (get_or a.members.now (length a.members.now - 1) 0)) c.xor_others.new.acc (full a.root.now a.members.now a.tree.now a.out.now a.j a.e c.requires _ (member_below a.root.now a.members.now a.tree.now a.out.now a.j a.e c.requires _ z)) c.requires.twins-room (c.put_symbol.ensures tree (tree_hangs _)) c.copy_at.ensures)
 
 pub put_proof-size-requires : goal.put_proof-size-requires
 put_proof-size-requires c =
@@ -65,4 +65,4 @@ returns c =
     let v = xor_there a.tree.now a.members.now _ a.j _ _ c.first_place.ensures c.xor_others.ensures in
     let o = c.put_proof-size.ensures tree (tree_hangs _) in
     refute_faults a.kind a.root.now a.members.now a.j a.e a.tree.now a.out.now _ _ _ (sym (last_get a.members.now 0 c.requires.some)) v _
-    (sym c.fits2.ensures ∙ c.if-fits.false) o.0 o.1
+    (sym c.fits.ensures ∙ c.if-fits.false) o.0 o.1

@@ -13,6 +13,10 @@ pub overflow_add-end : goal.overflow_add-end
 overflow_add-end c =
     omega (arith, c.count_members.ensures, members_fit c.args.words.now c.args.starts.now c.args.number c.requires.0)
 
+pub slice_bounds-settle-end : goal.slice_bounds-settle-end
+slice_bounds-settle-end c =
+    omega (arith, c.count_members.ensures, members_fit c.args.words.now c.args.starts.now c.args.number c.requires.0)
+
 pub settle-requires : goal.settle-requires
 settle-requires c =
     let a = c.args in

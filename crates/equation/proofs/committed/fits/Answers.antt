@@ -12,7 +12,7 @@ fits-requires c =
 
 pub returns-then-j-eq0 : goal.returns-then-j-eq0
 returns-then-j-eq0 c =
-    c.fits-2.ensures ∙ fits-top c.args.kind c.args.root.now c.args.tree.now c.args.s.now c.args.i c.args.j c.if-j-eq0.true
+    c.fits.ensures ∙ fits-top c.args.kind c.args.root.now c.args.tree.now c.args.s.now c.args.i c.args.j c.if-j-eq0.true
 
 pub first_place-requires : goal.first_place-requires
 first_place-requires c = omega (arith, c.requires.0.layer)
@@ -37,4 +37,4 @@ fits-requires-2 c =
 
 pub returns : goal.returns
 returns c =
-    c.fits3.ensures ∙ fits_below c.args.kind c.args.root.now c.args.tree.now c.args.s.now c.args.i c.args.j c.first_place.result c.data_count.result c.if-j-eq0.false c.first_place.ensures c.data_count.ensures
+    c.fits-2.ensures ∙ fits_below c.args.kind c.args.root.now c.args.tree.now c.args.s.now c.args.i c.args.j c.first_place.result c.data_count.result c.if-j-eq0.false c.first_place.ensures c.data_count.ensures

@@ -17,5 +17,5 @@ pub returns : goal.returns
 returns c =
     let p = c.first_place in
     let a = c.args in
-    ap not (c.fits2.ensures ∙ ap (fits_in a.kind a.root.now a.tree.now a.j a.i) (symbol_there a.tree.now a.j a.i p.result p.ensures))
+    ap not (c.fits.ensures ∙ ap (fits_in a.kind a.root.now a.tree.now a.j a.i) (symbol_there a.tree.now a.j a.i p.result p.ensures))
     ∙ gap_by a.kind a.root.now a.tree.now a.marks.now a.j a.i false (held-is a.marks.now a.j p.result p.ensures a.i c.if-marks-p-ne1.false)
