@@ -1,6 +1,6 @@
 -- `fill` meets its contract. The loop keeps: the equations before number e are threaded.
 use mathlib.Core.Path.{◌≡◌, refl, sym, subst, ◌∙◌}
-use Prim.Native.Nat.{◌+◌, ◌-◌, ℕ}
+use Prim.Native.Nat.{◌+◌, ℕ}
 use native.Mathlib.Omega.{arith}
 use lib.ListN.{length}
 use Rattle.incidence.specs.Incidence.{Threadable, Threaded}
