@@ -15,7 +15,6 @@ use Rattle.parity_table.specs.Shape.{max_depth, depth_fits, is_deep, k_of, shall
 use Rattle.parity_table.specs.declared.Answer.{Answer as Read}
 use Rattle.parity_table.specs.declared.Answer.TheVariants as read
 use Rattle.table_bytes.specs.Bytes.{words_of, front_words, length_fits}
-use Rattle.parity_table.specs.Coverage.{Covered}
 use Rattle.parity_table.specs.Parse.{Indexed, index_of, over, table_of, equations_above}
 use Rattle.parity_table.specs.Longest.{longest}
 use Rattle.parity_table.specs.Reader.{read_of}

@@ -2,12 +2,11 @@
 use mathlib.Core.Path.{sym, ap, ◌∙◌}
 use native.Mathlib.Omega.{arith}
 use lib.ListN.{length}
-use Rattle.octets.proofs.Choice.{not_yes, not_no}
 use Rattle.table_bytes.specs.Bytes.{words_of}
 use Rattle.table_bytes.proofs.ByteForm.{front_length}
 use Rattle.calls.specs.declared.Answer.TheVariants.{Done}
 use Rattle.calls.specs.Tests.{words_tested}
-use Rattle.calls.proofs.AdmissionLaws.{not_opened, not_long, goes_on, by_begun, front_there, tested_front}
+use Rattle.calls.proofs.AdmissionLaws.{not_opened, not_long, goes_on_lem, by_begun, front_there, tested_front}
 use Rattle.calls.proofs.TestLaws.{opened_by}
 use Rattle.calls.proofs.admission.test_table.Goals as goal
 
@@ -22,7 +21,7 @@ returns-then-not-length_fits c =
     let a = c.args in
     let o = sym c.in_default.is ∙ c.enter.ensures in
     by_begun a.depth a.sized a.table.now _
-    (not_long a.depth a.sized a.table.now o (sym c.length_fits.ensures ∙ not_yes _ c.if-not-length_fits.true-raw)) a.words.now
+    (not_long a.depth a.sized a.table.now o (sym c.length_fits.ensures ∙ c.if-not-length_fits.true)) a.words.now
 
 pub slice_bounds-check_words-end : goal.slice_bounds-check_words-end
 slice_bounds-check_words-end c =
@@ -41,8 +40,8 @@ returns c =
     let a = c.args in
     let w = c.words_from-n.ensures in
     let o = sym c.in_default.is ∙ c.enter.ensures in
-    let l = sym c.length_fits.ensures ∙ not_no _ c.if-not-length_fits.false-raw in
-    let (x, y) = by_begun a.depth a.sized a.table.now Done (goes_on a.depth a.sized a.table.now o l) a.words.now in
+    let l = sym c.length_fits.ensures ∙ c.if-not-length_fits.false in
+    let (x, y) = by_begun a.depth a.sized a.table.now Done (goes_on_lem a.depth a.sized a.table.now o l) a.words.now in
     let h = c.requires (opened_by a.depth a.sized (sym o)).deep in (
       c.check_words.ensures
           ∙ ap (words_tested a.depth) (front_there a.table.now a.words.now _ _ w.0 w.1)

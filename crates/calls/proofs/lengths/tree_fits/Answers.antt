@@ -2,7 +2,6 @@
 use mathlib.Core.Path.{sym, ap, ◌∙◌}
 use mathlib.Core.Bool.{Bool, ◌&&◌}
 use native.Mathlib.Omega.{arith}
-use Rattle.octets.proofs.Choice.{not_yes, not_no}
 use Rattle.parity_table.proofs.Shape.{depth_is}
 use Rattle.calls.specs.Lengths.{tree_sized}
 use Rattle.calls.proofs.LengthLaws.{places_small, tree-other, tree-same-length}
@@ -11,22 +10,22 @@ use Rattle.calls.proofs.lengths.tree_fits.Goals as goal
 pub returns-then-not-depth_fits : goal.returns-then-not-depth_fits
 returns-then-not-depth_fits c =
     let g = c.args in
-    sym (ap (λ (b : Bool). b && tree_sized g.depth g.tree g.marks) (sym c.depth_fits.ensures ∙ not_yes _ c.if-not-depth_fits.true-raw))
+    sym (ap (λ (b : Bool). b && tree_sized g.depth g.tree g.marks) (sym c.depth_fits.ensures ∙ c.if-not-depth_fits.true))
 
 pub first_place-n-requires : goal.first_place-n-requires
-first_place-n-requires c = (depth_is c.args.depth (sym c.depth_fits.ensures ∙ not_no _ c.if-not-depth_fits.false-raw)).1
+first_place-n-requires c = (depth_is c.args.depth (sym c.depth_fits.ensures ∙ c.if-not-depth_fits.false)).1
 
 pub overflow_mul-n : goal.overflow_mul-n
 overflow_mul-n c =
     let g = c.args in
-    omega (arith, c.first_place-n.ensures, places_small g.depth (depth_is g.depth (sym c.depth_fits.ensures ∙ not_no _ c.if-not-depth_fits.false-raw)).1)
+    omega (arith, c.first_place-n.ensures, places_small g.depth (depth_is g.depth (sym c.depth_fits.ensures ∙ c.if-not-depth_fits.false)).1)
 
 pub returns-then-tree-n : goal.returns-then-tree-n
 returns-then-tree-n c =
     let g = c.args in
-    tree-other g.depth g.tree g.marks c.first_place-n.result (sym c.depth_fits.ensures ∙ not_no _ c.if-not-depth_fits.false-raw) c.first_place-n.ensures c.if-tree-n.true
+    tree-other g.depth g.tree g.marks c.first_place-n.result (sym c.depth_fits.ensures ∙ c.if-not-depth_fits.false) c.first_place-n.ensures c.if-tree-n.true
 
 pub returns : goal.returns
 returns c =
     let g = c.args in
-    tree-same-length g.depth g.tree g.marks c.first_place-n.result (sym c.depth_fits.ensures ∙ not_no _ c.if-not-depth_fits.false-raw) c.first_place-n.ensures c.if-tree-n.false
+    tree-same-length g.depth g.tree g.marks c.first_place-n.result (sym c.depth_fits.ensures ∙ c.if-not-depth_fits.false) c.first_place-n.ensures c.if-tree-n.false
