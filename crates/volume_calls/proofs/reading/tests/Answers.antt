@@ -12,9 +12,9 @@ use Rattle.volume_calls.proofs.ReadingLaws.{sizes}
 use Rattle.volume_calls.proofs.reading.tests.Goals as goal
 
 pub enter_by-requires : goal.enter_by-requires
-enter_by-requires c =
+enter_by-requires c x =
     let g = c.args in
-    (sizes g.depth _ _ _ _ (and_yes (depth_fits g.depth) (read_sized g.depth (length g.root_record.now) g.tree (length g.marks.now) g.block) (sym c.sizes_fit-sized.ensures ∙ e)).1).2
+    (sizes g.depth _ _ _ _ (and_yes (depth_fits g.depth) (read_sized g.depth (length g.root_record.now) g.tree (length g.marks.now) g.block) (sym c.sizes_fit-sized.ensures ∙ x)).1).2
 
 pub returns-in-Stopped : goal.returns-in-Stopped
 returns-in-Stopped c =
