@@ -35,6 +35,13 @@ slice_bounds-root-count c =
     let n = sizes g.depth (length g.root_record.now) (length g.sample.now) k.opened-is.lengths in
     omega (arith, n.0)
 
+pub slice_bounds-root-start : goal.slice_bounds-root-start
+slice_bounds-root-start c =
+    let g = c.args in
+    let (k, b) = passed g.depth g.number g.root_record.now (length g.sample.now) (sym (sym c.in_default.is ∙ c.tests.ensures)) in
+    let n = sizes g.depth (length g.root_record.now) (length g.sample.now) k.opened-is.lengths in
+    omega (arith, n.0)
+
 pub check-requires : goal.check-requires
 check-requires c =
     let g = c.args in

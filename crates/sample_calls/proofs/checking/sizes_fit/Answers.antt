@@ -3,7 +3,6 @@ use mathlib.Core.Path.{sym, ap, ap₂, ◌∙◌}
 use mathlib.Core.Bool.{Bool, ◌&&◌}
 use native.Mathlib.Omega.{arith}
 use borrow.Author.Tests.{eq-eqb, ne_eqb}
-use Rattle.octets.proofs.Choice.{not_yes, not_no}
 use Rattle.parity_table.proofs.Shape.{depth_is}
 use Rattle.calls.specs.Lengths.{sample_sized}
 use Rattle.sample_calls.specs.Checking.{check_sized}
@@ -12,26 +11,26 @@ use Rattle.sample_calls.proofs.checking.sizes_fit.Goals as goal
 pub returns-then-not-depth_fits : goal.returns-then-not-depth_fits
 returns-then-not-depth_fits c =
     let g = c.args in
-    sym (ap (λ (b : Bool). b && check_sized g.depth g.record-len g.sample) (sym c.depth_fits.ensures ∙ not_yes _ c.if-not-depth_fits.true-raw))
+    sym (ap (λ (b : Bool). b && check_sized g.depth g.record_len g.sample) (sym c.depth_fits.ensures ∙ c.if-not-depth_fits.true))
 
 pub returns-then-record_len-ne-BYTES : goal.returns-then-record_len-ne-BYTES
 returns-then-record_len-ne-BYTES c =
     let g = c.args in
-    sym (ap₂ (λ (a b : Bool). a && (b && sample_sized g.depth g.sample)) (sym c.depth_fits.ensures ∙ not_no _ c.if-not-depth_fits.false-raw) (ne_eqb g.record-len 556 c.if-record_len-ne-BYTES.true))
+    sym (ap₂ (λ (a b : Bool). a && (b && sample_sized g.depth g.sample)) (sym c.depth_fits.ensures ∙ c.if-not-depth_fits.false) (ne_eqb g.record_len 556 c.if-record_len-ne-BYTES.true))
 
 pub overflow_mul-result : goal.overflow_mul-result
 overflow_mul-result c =
-    omega (arith, (depth_is c.args.depth (sym c.depth_fits.ensures ∙ not_no _ c.if-not-depth_fits.false-raw)).1)
+    omega (arith, (depth_is c.args.depth (sym c.depth_fits.ensures ∙ c.if-not-depth_fits.false)).1)
 
 pub overflow_sub-result : goal.overflow_sub-result
 overflow_sub-result c =
-    omega (arith, (depth_is c.args.depth (sym c.depth_fits.ensures ∙ not_no _ c.if-not-depth_fits.false-raw)).0)
+    omega (arith, (depth_is c.args.depth (sym c.depth_fits.ensures ∙ c.if-not-depth_fits.false)).0)
 
 pub overflow_mul-result-2 : goal.overflow_mul-result-2
 overflow_mul-result-2 c =
-    omega (arith, (depth_is c.args.depth (sym c.depth_fits.ensures ∙ not_no _ c.if-not-depth_fits.false-raw)).1)
+    omega (arith, (depth_is c.args.depth (sym c.depth_fits.ensures ∙ c.if-not-depth_fits.false)).1)
 
 pub returns : goal.returns
 returns c =
     let g = c.args in
-    sym (ap₂ (λ (a b : Bool). a && (b && sample_sized g.depth g.sample)) (sym c.depth_fits.ensures ∙ not_no _ c.if-not-depth_fits.false-raw) (eq-eqb g.record-len 556 c.if-record_len-ne-BYTES.false))
+    sym (ap₂ (λ (a b : Bool). a && (b && sample_sized g.depth g.sample)) (sym c.depth_fits.ensures ∙ c.if-not-depth_fits.false) (eq-eqb g.record_len 556 c.if-record_len-ne-BYTES.false))

@@ -12,7 +12,7 @@ use Rattle.sample_calls.proofs.CheckingLaws.{sizes}
 use Rattle.sample_calls.proofs.checking.tests.Goals as goal
 
 pub enter_by-requires : goal.enter_by-requires
-enter_by-requires c =
+enter_by-requires c e =
     let g = c.args in
     (sizes g.depth _ _ (and_yes (depth_fits g.depth) (check_sized g.depth (length g.root_record.now) g.sample) (sym c.sizes_fit-sized.ensures ∙ e)).1).0
 

@@ -1,6 +1,5 @@
 -- `take` meets its contract: refused by a test, or taken.
 use mathlib.Core.Path.{sym, ◌∙◌}
-use lib.ListN.{take}
 use Rattle.sample_calls.proofs.TakingLaws.{refused, passed, sizes, taken}
 use Rattle.sample_calls.proofs.taking.take.Goals as goal
 
