@@ -11,9 +11,9 @@ returns-then-not-depth_fits c =
 pub returns-then-not-sized : goal.returns-then-not-sized
 returns-then-not-sized c =
     let g = c.args in
-    no_length g.depth g.sized (sym c.depth_fits.ensures ∙ c.if-not-depth_fits.false) (c.if-not-sized.true)
+    no_length g.depth g.sized (sym c.depth_fits.ensures ∙ c.if-not-depth_fits.false) c.if-not-sized.true
 
 pub returns : goal.returns
 returns c =
     let g = c.args in
-    opens g.depth g.sized (sym c.depth_fits.ensures ∙ c.if-not-depth_fits.false) (c.if-not-sized.false)
+    opens g.depth g.sized (sym c.depth_fits.ensures ∙ c.if-not-depth_fits.false) c.if-not-sized.false
