@@ -34,6 +34,13 @@ kind-kind-requires c =
     let k = admission_by g.depth c.sizes_fit-sized.result g.root_record.now g.table.now (sym (sym c.in_default.is ∙ c.admit_by.ensures.0)) in
     (sizes (length g.root_record.now) (length g.proof.now) (sym c.sizes_fit-sized.ensures ∙ k.lengths)).0
 
+pub slice_bounds-root-start : goal.slice_bounds-root-start
+slice_bounds-root-start c =
+    let g = c.args in
+    let k = admission_by g.depth c.sizes_fit-sized.result g.root_record.now g.table.now (sym (sym c.in_default.is ∙ c.admit_by.ensures.0)) in
+    let (r, l) = sizes (length g.root_record.now) (length g.proof.now) (sym c.sizes_fit-sized.ensures ∙ k.lengths) in
+    omega (arith, r)
+
 pub slice_bounds-root-count : goal.slice_bounds-root-count
 slice_bounds-root-count c =
     let g = c.args in

@@ -36,6 +36,13 @@ slice_bounds-repair_with-end-2 c =
     let g = c.args in
     (ready_by g.depth c.sizes_fit-sized.result g.root_record.now g.table.now (sym c.in_default.is ∙ c.admit_by.ensures.0) _ _ _ _ c.requires.0 c.admit_by.ensures.1 c.admit_by.ensures.2).words_count
 
+pub slice_bounds-repair_with-start : goal.slice_bounds-repair_with-start
+slice_bounds-repair_with-start c =
+    let g = c.args in
+    let a = admission_by g.depth c.sizes_fit-sized.result g.root_record.now g.table.now (sym (sym c.in_default.is ∙ c.admit_by.ensures.0)) in
+    let (r, t, m, o) = sizes g.depth (length g.root_record.now) (length g.tree.now) (length g.marks.now) (length g.out.now) (and_yes (depth_fits g.depth) (repair_sized g.depth (length g.root_record.now) (length g.tree.now) (length g.marks.now) (length g.out.now)) (sym c.sizes_fit-sized.ensures ∙ a.lengths)).1 in
+    omega (arith, r)
+
 pub slice_bounds-repair_with-count : goal.slice_bounds-repair_with-count
 slice_bounds-repair_with-count c =
     let g = c.args in

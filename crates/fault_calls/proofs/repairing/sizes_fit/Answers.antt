@@ -14,12 +14,12 @@ use Rattle.fault_calls.proofs.repairing.sizes_fit.Goals as goal
 pub returns-then-not-tree_fits : goal.returns-then-not-tree_fits
 returns-then-not-tree_fits c =
     let g = c.args in
-    fit_no (depth_fits g.depth) (tree_sized g.depth g.tree g.marks) (record_sized g.record-len && eqb g.out (12 + 256 * (8 * g.depth - 1))) (sym c.tree_fits.ensures ∙ not_yes _ c.if-not-tree_fits.true-raw)
+    fit_no (depth_fits g.depth) (tree_sized g.depth g.tree g.marks) (record_sized g.record_len && eqb g.out (12 + 256 * (8 * g.depth - 1))) (sym c.tree_fits.ensures ∙ not_yes _ c.if-not-tree_fits.true-raw)
 
 pub returns-then-record_len-ne-BYTES : goal.returns-then-record_len-ne-BYTES
 returns-then-record_len-ne-BYTES c =
     let g = c.args in
-    sym (ap (λ (b : Bool). b && eqb g.out (12 + 256 * (8 * g.depth - 1))) (ne_eqb g.record-len 556 c.if-record_len-ne-BYTES.true)) ∙ fit_yes (depth_fits g.depth) (tree_sized g.depth g.tree g.marks) (record_sized g.record-len && eqb g.out (12 + 256 * (8 * g.depth - 1))) (sym c.tree_fits.ensures ∙ not_no _ c.if-not-tree_fits.false-raw)
+    sym (ap (λ (b : Bool). b && eqb g.out (12 + 256 * (8 * g.depth - 1))) (ne_eqb g.record_len 556 c.if-record_len-ne-BYTES.true)) ∙ fit_yes (depth_fits g.depth) (tree_sized g.depth g.tree g.marks) (record_sized g.record_len && eqb g.out (12 + 256 * (8 * g.depth - 1))) (sym c.tree_fits.ensures ∙ not_no _ c.if-not-tree_fits.false-raw)
 
 pub overflow_mul-result : goal.overflow_mul-result
 overflow_mul-result c =
@@ -44,4 +44,4 @@ overflow_add-result c =
 pub returns : goal.returns
 returns c =
     let g = c.args in
-    sym (ap (λ (b : Bool). b && eqb g.out (12 + 256 * (8 * g.depth - 1))) (eq-eqb g.record-len 556 c.if-record_len-ne-BYTES.false)) ∙ fit_yes (depth_fits g.depth) (tree_sized g.depth g.tree g.marks) (record_sized g.record-len && eqb g.out (12 + 256 * (8 * g.depth - 1))) (sym c.tree_fits.ensures ∙ not_no _ c.if-not-tree_fits.false-raw)
+    sym (ap (λ (b : Bool). b && eqb g.out (12 + 256 * (8 * g.depth - 1))) (eq-eqb g.record_len 556 c.if-record_len-ne-BYTES.false)) ∙ fit_yes (depth_fits g.depth) (tree_sized g.depth g.tree g.marks) (record_sized g.record_len && eqb g.out (12 + 256 * (8 * g.depth - 1))) (sym c.tree_fits.ensures ∙ not_no _ c.if-not-tree_fits.false-raw)
