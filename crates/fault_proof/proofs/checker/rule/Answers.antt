@@ -74,10 +74,10 @@ pub returns-then-fits : goal.returns-then-fits
 returns-then-fits c =
     let a = c.args in
     let k = c.requires in
-    no_fault_lem (symbol_hash a.kind) a.root.now a.j a.x a.members.now a.proof.now k.0 k.1 c.if-proof-members.false c.check.result c.check.ensures c.in_default.is _ c.gather.ensures c.fits2.result c.fits2.ensures c.if-fits.true
+    no_fault_lem (symbol_hash a.kind) a.root.now a.j a.x a.members.now a.proof.now k.0 k.1 c.if-proof-members.false c.check.result c.check.ensures c.in_default.is _ c.gather.ensures c.fits.result c.fits.ensures c.if-fits.true
 
 pub returns : goal.returns
 returns c =
     let a = c.args in
     let k = c.requires in
-    fault-shown (symbol_hash a.kind) a.root.now a.j a.x a.members.now a.proof.now k.0 k.1 c.if-proof-members.false c.check.result c.check.ensures c.in_default.is _ c.gather.ensures c.fits2.result c.fits2.ensures c.if-fits.false
+    fault-shown (symbol_hash a.kind) a.root.now a.j a.x a.members.now a.proof.now k.0 k.1 c.if-proof-members.false c.check.result c.check.ensures c.in_default.is _ c.gather.ensures c.fits.result c.fits.ensures c.if-fits.false

@@ -1,12 +1,11 @@
 -- `gather` meets its contract. The loop keeps `Gathered`: what is gathered, with what is left, is the whole.
 use mathlib.Core.Path.{refl, ap, ◌∙◌}
-use mathlib.Core.Logic.{⊎_elim}
-use Prim.Native.Nat.{◌-◌}
 use native.Mathlib.Omega.{arith}
 use lib.ListN.{length}
 use Rattle.model.proofs.Bytes.{length-zeros}
 use Rattle.fault_proof.proofs.GivenLaws.{gathered_start, gathered_skip, way_room, gathered_on, gathered_end}
 use Rattle.fault_proof.proofs.given.gather.Goals as goal
+use Rattle.fault_proof.proofs.given.gather.Goals.{then-y-x, else-y-x}
 
 pub loop-i-init : goal.loop-i-init
 loop-i-init c =
@@ -15,7 +14,7 @@ loop-i-init c =
     (omega arith, refl, gathered_start a.b.now a.members.now a.j a.x a.at a.acc.now pre.0 (omega (arith, pre.1)))
 
 pub overflow_cast-y : goal.overflow_cast-y
-overflow_cast-y c = omega (arith, c.shared_slice_known-in-loop-i-1.given c.loop-i.i)
+overflow_cast-y c = omega (arith, c.type_inv.members c.loop-i.i)
 
 pub xor_at-requires : goal.xor_at-requires
 xor_at-requires c =
@@ -45,10 +44,10 @@ pub loop-i-preserved : goal.loop-i-preserved
 loop-i-preserved c =
     let a = c.args in
     let l = c.loop-i in
-    ⊎_elim
-    (λ w. (omega arith, refl, gathered_on a.b.now a.members.now a.j a.x l.i (omega arith) w.0.taken l.from a.at c.if-y-x.from l.acc c.if-y-x.acc w.6 (w.5 ∙ w.2.ensures) l.invariant.2))
-    (λ w. (omega arith, refl, rw (w.1, w.2) (gathered_skip a.b.now a.members.now a.j a.x l.i (omega arith) w.0.left a.at l.acc l.from l.invariant.2)))
-    c.if-y-x.branch
+    elim c.if-y-x.branch [
+      | then-y-x w ↦ (omega arith, refl, gathered_on a.b.now a.members.now a.j a.x l.i (omega arith) w.if-y-x.true l.from a.at c.if-y-x.from l.acc c.if-y-x.acc w.from-is (w.acc-is ∙ w.xor_at.ensures) l.invariant.2)
+      | else-y-x w ↦ (omega arith, refl, rw (w.acc-is, w.from-is) (gathered_skip a.b.now a.members.now a.j a.x l.i (omega arith) w.if-y-x.false a.at l.acc l.from l.invariant.2))
+    ]
 
 pub shape_of-acc : goal.shape_of-acc
 shape_of-acc c =

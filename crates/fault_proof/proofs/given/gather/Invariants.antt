@@ -1,6 +1,6 @@
 -- `gather` meets its contract. The loop keeps `Gathered`: what is gathered, with what is left, is the whole.
 use mathlib.Core.Path.{◌≡◌}
-use Prim.Native.Nat.{◌-◌, ◌≤◌}
+use Prim.Native.Nat.{◌≤◌}
 use lib.ListN.{length}
 use Rattle.fault_proof.proofs.GivenLaws.{Gathered}
 use Rattle.fault_proof.proofs.given.gather.Given as goal

@@ -1,6 +1,5 @@
 -- `is_member` meets its contract. The loop keeps: no member before i is x.
 use mathlib.Core.Path.{refl}
-use Prim.Native.Nat.{◌-◌}
 use native.Mathlib.Omega.{arith}
 use Rattle.fault_proof.proofs.HeadLaws.{member-here, member-next, member-none}
 use Rattle.fault_proof.proofs.head.is_member.Goals as goal
@@ -9,7 +8,7 @@ pub loop-i-init : goal.loop-i-init
 loop-i-init c = (omega arith, refl, refl)
 
 pub overflow_cast-members : goal.overflow_cast-members
-overflow_cast-members c = omega (arith, c.shared_slice_known-1.given c.loop-i.i)
+overflow_cast-members c = omega (arith, c.type_inv.members c.loop-i.i)
 
 pub returns-then-members-i : goal.returns-then-members-i
 returns-then-members-i c =

@@ -1,6 +1,6 @@
 -- `is_member` meets its contract. The loop keeps: no member before i is x.
 use mathlib.Core.Path.{◌≡◌}
-use Prim.Native.Nat.{◌-◌, ◌≤◌}
+use Prim.Native.Nat.{◌≤◌}
 use lib.ListN.{length, drop}
 use Rattle.model.specs.Symbols.{count}
 use Rattle.model.proofs.Counts.{is_it}

@@ -1,13 +1,12 @@
 -- `check` meets its contract. The loop keeps `Led`: the members before i lead to the root, and those left stand from byte from on, the first of them at
 -- this position.
 use mathlib.Core.Path.{refl}
-use mathlib.Core.Logic.{⊎_elim}
-use Prim.Native.Nat.{◌-◌}
 use native.Mathlib.Omega.{arith}
 use Rattle.symbol_hash.specs.SymbolHash.{symbol_hash}
 use Rattle.model.proofs.Members.{every-below}
 use Rattle.fault_proof.proofs.GivenLaws.{led_start, led_skip, way_room, led_on, led_off, path_room, led-end, led-last_off}
 use Rattle.fault_proof.proofs.members.check.Goals as goal
+use Rattle.fault_proof.proofs.members.check.Goals.{then-y-x+in_default, else-y-x}
 
 pub loop-i-init : goal.loop-i-init
 loop-i-init c =
@@ -16,7 +15,7 @@ loop-i-init c =
     (omega arith, refl, led_start a.b.now a.members.now a.j a.x (symbol_hash a.kind) a.root.now a.at pre.1)
 
 pub overflow_cast-y : goal.overflow_cast-y
-overflow_cast-y c = omega (arith, c.shared_slice_known-in-loop-i-1.given c.loop-i.i)
+overflow_cast-y c = omega (arith, c.type_inv.members c.loop-i.i)
 
 pub check-requires : goal.check-requires
 check-requires c =
@@ -37,10 +36,10 @@ pub loop-i-preserved : goal.loop-i-preserved
 loop-i-preserved c =
     let a = c.args in
     let l = c.loop-i in
-    ⊎_elim
-    (λ w. (omega arith, refl, led_on a.b.now a.members.now a.j a.x l.i (omega arith) w.0.taken l.from (symbol_hash a.kind) a.root.now a.at l.position w.1.result w.1.ensures l.invariant.2 c.if-y-x.from c.if-y-x.position w.4 w.5 w.3.given.1))
-    (λ w. (omega arith, refl, rw (w.1, w.2) (led_skip a.b.now a.members.now a.j a.x l.i (omega arith) w.0.left (symbol_hash a.kind) a.root.now a.at l.from l.position l.invariant.2)))
-    c.if-y-x.branch
+    elim c.if-y-x.branch [
+      | then-y-x+in_default w ↦ (omega arith, refl, led_on a.b.now a.members.now a.j a.x l.i (omega arith) w.if-y-x.true l.from (symbol_hash a.kind) a.root.now a.at l.position w.check.result w.check.ensures l.invariant.2 c.if-y-x.from c.if-y-x.position w.from-is w.position-is w.in_default.is)
+      | else-y-x w ↦ (omega arith, refl, rw (w.from-is, w.position-is) (led_skip a.b.now a.members.now a.j a.x l.i (omega arith) w.if-y-x.false (symbol_hash a.kind) a.root.now a.at l.from l.position l.invariant.2))
+    ]
 
 pub check_path-requires : goal.check_path-requires
 check_path-requires c =

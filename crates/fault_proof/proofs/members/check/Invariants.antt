@@ -1,7 +1,7 @@
 -- `check` meets its contract. The loop keeps `Led`: the members before i lead to the root, and those left stand from byte from on, the first of them at
 -- this position.
 use mathlib.Core.Path.{◌≡◌}
-use Prim.Native.Nat.{◌-◌, ◌≤◌}
+use Prim.Native.Nat.{◌≤◌}
 use lib.ListN.{length}
 use Rattle.symbol_hash.specs.SymbolHash.{symbol_hash}
 use Rattle.fault_proof.proofs.GivenLaws.{Led}

@@ -1,5 +1,6 @@
 -- `check` meets its contract. The loop keeps: symbol x of the way has number m, and every symbol before it fits.
-use mathlib.Core.Path.{refl}
+use mathlib.Core.Bool.{not}
+use mathlib.Core.Path.{refl, ap}
 use Prim.Native.Nat.{◌+◌, ◌-◌}
 use native.Mathlib.Omega.{arith}
 use borrow.Author.Rules.{rules}
@@ -27,13 +28,13 @@ pub returns-then-not-fits : goal.returns-then-not-fits
 returns-then-not-fits c =
     let a = c.args in
     let l = c.loop-kind in
-    breaks-here (symbol_hash a.kind) a.root.now a.b.now a.at a.j a.i l.x l.m l.invariant.0 l.invariant.1 c.fits2.result c.fits2.ensures l.invariant.2 c.if-not-fits.true-raw
+    breaks-here (symbol_hash a.kind) a.root.now a.b.now a.at a.j a.i l.x l.m l.invariant.0 l.invariant.1 c.fits.result c.fits.ensures l.invariant.2 (ap not c.if-not-fits.true)
 
 pub returns-then-x-j : goal.returns-then-x-j
 returns-then-x-j c =
     let a = c.args in
     let l = c.loop-kind in
-    leads-here (symbol_hash a.kind) a.root.now a.b.now a.at a.j a.i l.x l.m l.invariant.0 l.invariant.1 c.fits2.result c.fits2.ensures l.invariant.2 c.if-not-fits.false-raw c.if-x-j.true
+    leads-here (symbol_hash a.kind) a.root.now a.b.now a.at a.j a.i l.x l.m l.invariant.0 l.invariant.1 c.fits.result c.fits.ensures l.invariant.2 (ap not c.if-not-fits.false) c.if-x-j.true
 
 pub data_count-m-requires : goal.data_count-m-requires
 data_count-m-requires c =
@@ -50,4 +51,4 @@ pub loop-kind-preserved : goal.loop-kind-preserved
 loop-kind-preserved c =
     let a = c.args in
     let l = c.loop-kind in
-    (omega (arith, l.invariant.0, c.if-x-j.false), reached-next (symbol_hash a.kind) a.root.now a.b.now a.at a.j a.i l.x l.m l.invariant.0 l.invariant.1 c.data_count-m.result c.data_count-m.ensures, fits-here (symbol_hash a.kind) a.root.now a.b.now a.at a.j a.i l.x l.m l.invariant.0 l.invariant.1 c.fits2.result c.fits2.ensures l.invariant.2 c.if-not-fits.false-raw)
+    (omega (arith, l.invariant.0, c.if-x-j.false), reached-next (symbol_hash a.kind) a.root.now a.b.now a.at a.j a.i l.x l.m l.invariant.0 l.invariant.1 c.data_count-m.result c.data_count-m.ensures, fits-here (symbol_hash a.kind) a.root.now a.b.now a.at a.j a.i l.x l.m l.invariant.0 l.invariant.1 c.fits.result c.fits.ensures l.invariant.2 (ap not c.if-not-fits.false))
