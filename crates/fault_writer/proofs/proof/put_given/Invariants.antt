@@ -1,6 +1,6 @@
 -- `put_given` meets its contract. The loop keeps: the members before i are written.
 use mathlib.Core.Path.{◌≡◌}
-use Prim.Native.Nat.{◌-◌, ◌≤◌}
+use Prim.Native.Nat.{◌≤◌}
 use lib.ListN.{length}
 use Rattle.fault_writer.proofs.ProofLaws.{GivenAt}
 use Rattle.fault_writer.proofs.proof.put_given.Given as goal

@@ -18,12 +18,12 @@ put-requires c =
 pub put_given-p-requires : goal.put_given-p-requires
 put_given-p-requires c =
     let n = given-length c.args.tree.now c.args.members.now c.args.j c.args.e c.args.x c.requires.0 in
-    (c.requires.0, omega (arith, n, c.requires.3, c.put.auto))
+    (c.requires.0, omega (arith, n, c.requires.3, c.put.auto.out))
 
 pub put_path-requires : goal.put_path-requires
 put_path-requires c =
     let n = given-length c.args.tree.now c.args.members.now c.args.j c.args.e c.args.x c.requires.0 in
-    (layers_fewer c.args.j c.requires.0.symbols 0 c.args.tree.now (omega arith) c.requires.0.layers, omega (arith, n, c.requires.3, c.put_given-p.ensures.0, c.put_given-p.auto, c.put.auto))
+    (layers_fewer c.args.j c.requires.0.symbols 0 c.args.tree.now (omega arith) c.requires.0.layers, omega (arith, n, c.requires.3, c.put_given-p.ensures.0, c.put_given-p.auto.out, c.put.auto.out))
 
 pub overflow_add-result : goal.overflow_add-result
 overflow_add-result c =

@@ -13,12 +13,11 @@ pub nonzero_rem-i : goal.nonzero_rem-i
 nonzero_rem-i c = omega (arith, c.data_count.ensures, tree_ok.shape.some (c.args.j - 1))
 
 pub put_way-requires : goal.put_way-requires
-put_way-requires c =
-    (
-      subst (λ (q : ℕ). Layers (c.args.j - 1) (suc (c.args.i % q)) c.args.tree.now) (sym c.data_count.ensures)
-          (above-layers c.args.tree.now c.args.j 0 (c.args.j - 1) c.args.i (omega arith) c.requires.0),
-      omega (arith, c.requires.1),
-    )
+put_way-requires c = (
+  subst (λ (q : ℕ). Layers (c.args.j - 1) (suc (c.args.i % q)) c.args.tree.now) (sym c.data_count.ensures)
+      (above-layers c.args.tree.now c.args.j 0 (c.args.j - 1) c.args.i (omega arith) c.requires.0),
+  omega (arith, c.requires.1),
+)
 
 pub returns-then-j-gt0 : goal.returns-then-j-gt0
 returns-then-j-gt0 c =

@@ -49,4 +49,4 @@ returns c =
     let a = c.args in
     let l = c.loop-l in
     let p = c.put_symbol in
-    way_end a.tree.now a.j a.i a.at _ c.requires.0 (omega (arith, c.requires.1)) l.l l.m l.p l.out l.invariant a.out.now p.auto.1.1.1.0 (p.ensures tree (tree_hangs _)) (omega arith)
+    way_end a.tree.now a.j a.i a.at _ c.requires.0 (omega (arith, c.requires.1)) l.l l.m l.p l.out l.invariant a.out.now p.auto.out (p.ensures tree (tree_hangs _)) (omega arith)

@@ -1,7 +1,5 @@
 -- `put_way` meets its contract. The loop keeps: the way is written from its start to layer l.
-use Prim.Native.Nat.{◌-◌}
 use Rattle.fault_writer.proofs.WayLaws.{WayAt}
-use Rattle.model.specs.Shape.{tree}
 use Rattle.fault_writer.proofs.way.put_way.Given as goal
 
 abbrev pub invariant-loop-l : goal.invariant-loop-l
