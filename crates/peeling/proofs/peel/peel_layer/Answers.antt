@@ -62,8 +62,8 @@ pub loop-kind-preserved-in-Used : goal.loop-kind-preserved-in-Used
 loop-kind-preserved-in-Used c =
     let l = c.loop-kind in
     let he : c.pick-e.result < length c.args.used.now = omega (arith, l.invariant.0, c.if-n-e.false) in
-    let k = c.take.auto.1.1.1.1.1 in
-    (l.invariant.0, search_used c.requires.0 l.invariant.1 c.pick-e.ensures he c.past-at.ensures c.take.ensures k.0 k.1.0 k.1.1.0 k.1.1.1.0 c.in-Used.is)
+    let k = c.take.auto in
+    (l.invariant.0, search_used c.requires.0 l.invariant.1 c.pick-e.ensures he c.past-at.ensures c.take.ensures k.tree k.marks k.out k.used c.in-Used.is)
 
 pub overflow_add-got : goal.overflow_add-got
 overflow_add-got c = omega (arith, stored-few c.loop-kind.invariant.1.peeling, c.requires.1, c.requires.0.lent.low)
@@ -72,8 +72,8 @@ pub lower-requires : goal.lower-requires
 lower-requires c =
     let l = c.loop-kind in
     let he : c.pick-e.result < length c.args.used.now = omega (arith, l.invariant.0, c.if-n-e.false) in
-    let k = c.take.auto.1.1.1.1.1 in
-    lower_asks c.requires.0 l.invariant.1 c.pick-e.ensures he c.past-at.ensures c.take.ensures k.0 k.1.0 k.1.1.0 k.1.1.1.0 _ c.in-Stored.is
+    let k = c.take.auto in
+    lower_asks c.requires.0 l.invariant.1 c.pick-e.ensures he c.past-at.ensures c.take.ensures k.tree k.marks k.out k.used _ c.in-Stored.is
 
 pub loop-kind-smaller : goal.loop-kind-smaller
 loop-kind-smaller c =
@@ -86,8 +86,8 @@ loop-kind-preserved c =
     let y = c.lower in
     let l = c.loop-kind in
     let he : c.pick-e.result < length c.args.used.now = omega (arith, l.invariant.0, c.if-n-e.false) in
-    let k = c.take.auto.1.1.1.1.1 in
-    (l.invariant.0, search_stored c.requires.0 l.invariant.1 c.pick-e.ensures he c.past-at.ensures c.take.ensures k.0 k.1.0 k.1.1.0 k.1.1.1.0 _ c.in-Stored.is _ _ y.auto.1.1.1.0 y.ensures.0 y.ensures.1)
+    let k = c.take.auto in
+    (l.invariant.0, search_stored c.requires.0 l.invariant.1 c.pick-e.ensures he c.past-at.ensures c.take.ensures k.tree k.marks k.out k.used _ c.in-Stored.is _ _ y.auto.absent y.ensures.0 y.ensures.1)
 
 pub shape_of-tree-in-Fault : goal.shape_of-tree-in-Fault
 shape_of-tree-in-Fault c = c.take.auto.tree ∙ c.loop-kind.invariant.1.peeling.tree-length

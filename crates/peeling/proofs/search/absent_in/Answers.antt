@@ -14,6 +14,10 @@ pub overflow_add-end : goal.overflow_add-end
 overflow_add-end c =
     omega (arith, c.count_members.ensures, members_fit c.args.words.now c.args.starts.now c.args.number c.requires.0)
 
+pub slice_bounds-count_absent-end : goal.slice_bounds-count_absent-end
+slice_bounds-count_absent-end c =
+    omega (arith, c.count_members.ensures, members_fit c.args.words.now c.args.starts.now c.args.number c.requires.0)
+
 pub count_absent-requires : goal.count_absent-requires
 count_absent-requires c =
     subst (λ (l : List ℕ). Marked c.args.marks.now l c.args.j)

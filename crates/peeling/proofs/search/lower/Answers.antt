@@ -12,7 +12,7 @@ pub bounds-last-x : goal.bounds-last-x
 bounds-last-x c = omega (arith, c.requires.thread.known)
 
 pub overflow_cast-slot : goal.overflow_cast-slot
-overflow_cast-slot c = omega (arith, c.shared_slice_known-4-1.given c.args.x)
+overflow_cast-slot c = omega (arith, c.type_inv.last c.args.x)
 
 pub loop-slot-init : goal.loop-slot-init
 loop-slot-init c =
@@ -37,7 +37,7 @@ bounds-next-s c =
     omega (arith, walk_slot c.requires.thread (l.invariant.3 c.requires.words c.requires.starts c.requires.from c.requires.thread) (omega (arith, c.loop-slot-test.true)), c.requires.thread.room)
 
 pub overflow_cast-slot-in-loop-slot : goal.overflow_cast-slot-in-loop-slot
-overflow_cast-slot-in-loop-slot c = omega (arith, c.shared_slice_known-in-loop-slot-1.given (c.loop-slot.slot - 1))
+overflow_cast-slot-in-loop-slot c = omega (arith, c.type_inv.next (c.loop-slot.slot - 1))
 
 pub loop-slot-smaller : goal.loop-slot-smaller
 loop-slot-smaller c =
@@ -51,7 +51,7 @@ loop-slot-preserved c =
     let h : 0 < l.slot = omega (arith, c.loop-slot-test.true) in
     let k₀ = c.requires.thread in
     let some = walk_some k₀ (l.invariant.3 c.requires.words c.requires.starts c.requires.from k₀) h c.requires.enough in
-    (v.auto.1.0 ∙ l.invariant.0, v.auto.1.1.0 ∙ l.invariant.1, v.ensures.1, λ ws starts from k. walk_turn k (l.invariant.3 ws starts from k) h _ v.ensures.0 (l.invariant.0 ∙ c.requires.sized) some)
+    (v.auto.absent ∙ l.invariant.0, v.auto.order ∙ l.invariant.1, v.ensures.1, λ ws starts from k. walk_turn k (l.invariant.3 ws starts from k) h _ v.ensures.0 (l.invariant.0 ∙ c.requires.sized) some)
 
 pub shape_of-absent : goal.shape_of-absent
 shape_of-absent c = c.loop-slot.invariant.0

@@ -1,7 +1,7 @@
 -- `lower` meets its contract. The loop keeps: what was noted, with what is left of the thread, is what was there.
 use mathlib.Core.List.{List}
 use mathlib.Core.Path.{◌≡◌}
-use Prim.Native.Nat.{◌-◌, ℕ}
+use Prim.Native.Nat.{ℕ}
 use lib.ListN.{length}
 use Rattle.peeling.proofs.WalkLaws.{Walking}
 use Rattle.peeling.specs.Search.{Ordered, Thread}

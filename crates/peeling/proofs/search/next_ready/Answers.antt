@@ -1,6 +1,5 @@
 -- `next_ready` meets its contract. The loop keeps: the lowest from here on is the lowest of all.
 use mathlib.Core.Path.{◌∙◌, refl, sym}
-use Prim.Native.Nat.{◌-◌}
 use native.Mathlib.Omega.{arith}
 use lib.ListN.{length}
 use Rattle.model.proofs.Counts.{lowest_hit, lowest-none, lowest_pass}

@@ -1,6 +1,6 @@
 -- `prepare` meets its contract. The loop keeps: the equations before e are counted.
 use mathlib.Core.Path.{◌∙◌, refl}
-use Prim.Native.Nat.{◌+◌, ◌-◌, ◌<◌}
+use Prim.Native.Nat.{◌+◌, ◌<◌}
 use native.Mathlib.Omega.{arith}
 use lib.ListN.{length, length-set}
 use Rattle.model.proofs.Counts.{count_le}

@@ -1,5 +1,4 @@
 -- `sweep_layer` meets its contract. The loop keeps: the symbols before i are swept.
-use Prim.Native.Nat.{◌-◌}
 use native.Mathlib.Omega.{arith}
 use Rattle.equation.proofs.TurnLaws.{level_fewer}
 use Rattle.peeling.proofs.SweepLaws.{level_keep, sweep-end, sweep_start, sweep-turn}
@@ -20,7 +19,7 @@ pub loop-i-preserved : goal.loop-i-preserved
 loop-i-preserved c =
     let l = c.loop-i in
     let v = c.sweep_at in
-    (omega arith, sweep-turn l.invariant.1 (omega arith) v.auto.1.1.0 v.auto.1.1.1.0 v.ensures)
+    (omega arith, sweep-turn l.invariant.1 (omega arith) v.auto.tree v.auto.marks v.ensures)
 
 pub shape_of-tree : goal.shape_of-tree
 shape_of-tree c = c.loop-i.invariant.1.tree-length
