@@ -1,6 +1,6 @@
 -- `repair` meets its contract. The loop keeps: the layers from j on give what all of them give.
 use mathlib.Core.Path.{◌∙◌, refl}
-use Prim.Native.Nat.{◌+◌, ◌-◌}
+use Prim.Native.Nat.{◌+◌}
 use native.Mathlib.Omega.{arith}
 use Rattle.parity_table.proofs.Accepts.{accepted-depth}
 use Rattle.parity_table.specs.Parse.{table_of}

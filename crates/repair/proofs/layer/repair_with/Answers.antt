@@ -43,8 +43,8 @@ peel_layer-run-requires c =
     let g = c.requires.0 in
     let w = c.sweep_layer in
     let u = c.set_up in
-    let k = given_keep w.auto.1.1.0 w.auto.1.1.1.0 refl g.1 in
-    let own = own_keep u.auto.1.1.1.1.0 u.auto.1.1.1.1.1.0 u.auto.1.1.1.1.1.1.0 u.auto.1.1.1.1.1.1.1.0 u.auto.1.1.1.1.1.1.1.1.0 c.requires.2 in
+    let k = given_keep w.auto.tree w.auto.marks refl g.1 in
+    let own = own_keep u.auto.used u.auto.absent u.auto.order u.auto.last u.auto.next c.requires.2 in
     (peelable k a.j g.2 _ c.number_of-from.ensures own u.ensures.1 u.ensures.2 u.ensures.3, c.requires.1)
 
 pub settle-requires : goal.settle-requires
