@@ -1,6 +1,5 @@
 -- `all_hold` meets its contract. The loop keeps: each equation before this one holds.
 use mathlib.Core.Path.{◌∙◌, sym}
-use Prim.Native.Nat.{◌-◌}
 use native.Mathlib.Omega.{arith}
 use borrow.Author.Count.{below_more}
 use Rattle.octets.proofs.Choice.{not_no, not_yes}

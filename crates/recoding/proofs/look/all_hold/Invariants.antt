@@ -1,7 +1,7 @@
 -- `all_hold` meets its contract. The loop keeps: each equation before this one holds.
 use mathlib.Core.Path.{◌≡◌}
 use mathlib.Core.Bool.{true}
-use Prim.Native.Nat.{ℕ, ◌-◌, ◌*◌, ◌≤◌, ◌<◌}
+use Prim.Native.Nat.{ℕ, ◌*◌, ◌≤◌, ◌<◌}
 use Rattle.parity_table.specs.Shape.{k_of}
 use Rattle.recoding.proofs.LookLaws.{holds_at}
 use Rattle.recoding.proofs.look.all_hold.Given as goal

@@ -1,11 +1,8 @@
 -- `is_intact` meets its contract. The loop keeps: each layer above this one is complete.
 use mathlib.Core.Path.{◌∙◌, sym}
-use mathlib.Core.Bool.{true}
-use Prim.Native.Nat.{◌-◌}
 use native.Mathlib.Omega.{arith}
 use borrow.Author.Count.{below_more}
 use Rattle.octets.proofs.Choice.{not_no, not_yes}
-use Rattle.model.specs.Look.{is_complete}
 use Rattle.recoding.proofs.LookLaws.{one-incomplete, each_complete}
 use Rattle.recoding.proofs.look.is_intact.Goals as goal
 

@@ -1,7 +1,6 @@
 -- `no_gaps` meets its contract. The loop keeps: no symbol before this one is a gap.
 use mathlib.Core.Path.{◌∙◌, sym, ap}
-use mathlib.Core.Bool.{true, not}
-use Prim.Native.Nat.{◌-◌}
+use mathlib.Core.Bool.{not}
 use native.Mathlib.Omega.{arith}
 use borrow.Author.Count.{below_more}
 use Rattle.parity_table.specs.Shape.{n_of}

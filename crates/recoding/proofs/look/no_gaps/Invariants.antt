@@ -1,7 +1,7 @@
 -- `no_gaps` meets its contract. The loop keeps: no symbol before this one is a gap.
 use mathlib.Core.Path.{◌≡◌}
 use mathlib.Core.Bool.{true}
-use Prim.Native.Nat.{ℕ, ◌-◌, ◌≤◌, ◌<◌}
+use Prim.Native.Nat.{ℕ, ◌≤◌, ◌<◌}
 use Rattle.parity_table.specs.Shape.{n_of}
 use Rattle.recoding.proofs.LookLaws.{no_gap_at}
 use Rattle.recoding.proofs.look.no_gaps.Given as goal

@@ -13,19 +13,19 @@ pub admit_by-requires : goal.admit_by-requires
 admit_by-requires c =
     let g = c.args in (
       c.requires,
-      λ e. (sizes g.depth (length g.root_record.now) (length g.tree.now) (length g.marks.now) (length g.new-tree.now) (length g.new-marks.now) (length g.new_record_lem.now)
-          (and_yes (depth_fits g.depth) (recode_sized g.depth (length g.root_record.now) (length g.tree.now) (length g.marks.now) (length g.new-tree.now) (length g.new-marks.now) (length g.new_record_lem.now)) (sym c.sizes_fit-sized.ensures ∙ e)).1).4,
+      λ e. (sizes g.depth (length g.root_record.now) (length g.tree.now) (length g.marks.now) (length g.new_tree.now) (length g.new_marks.now) (length g.new_record.now)
+          (and_yes (depth_fits g.depth) (recode_sized g.depth (length g.root_record.now) (length g.tree.now) (length g.marks.now) (length g.new_tree.now) (length g.new_marks.now) (length g.new_record.now)) (sym c.sizes_fit-sized.ensures ∙ e)).1).4,
     )
 
 pub returns-in-Stopped : goal.returns-in-Stopped
 returns-in-Stopped c =
     let g = c.args in
-    refused g.depth g.root_record.now g.table.now g.tree.now g.marks.now g.new-tree.now g.new-marks.now g.new_record_lem.now _ (sym c.in-Stopped.is ∙ c.admit_by.ensures.0 ∙ admitted_by-sized g.depth _ (recode_sized g.depth (length g.root_record.now) (length g.tree.now) (length g.marks.now) (length g.new-tree.now) (length g.new-marks.now) (length g.new_record_lem.now)) g.root_record.now g.table.now c.sizes_fit-sized.ensures)
+    refused g.depth g.root_record.now g.table.now g.tree.now g.marks.now g.new_tree.now g.new_marks.now g.new_record.now _ (sym c.in-Stopped.is ∙ c.admit_by.ensures.0 ∙ admitted_by-sized g.depth _ (recode_sized g.depth (length g.root_record.now) (length g.tree.now) (length g.marks.now) (length g.new_tree.now) (length g.new_marks.now) (length g.new_record.now)) g.root_record.now g.table.now c.sizes_fit-sized.ensures)
 
 pub kind-requires : goal.kind-requires
 kind-requires c =
     let g = c.args in
-    (formed g.depth g.root_record.now g.table.now g.tree.now g.marks.now (length g.new-tree.now) (length g.new-marks.now) (length g.new_record_lem.now) (sym c.in_default.is ∙ c.admit_by.ensures.0 ∙ admitted_by-sized g.depth _ (recode_sized g.depth (length g.root_record.now) (length g.tree.now) (length g.marks.now) (length g.new-tree.now) (length g.new-marks.now) (length g.new_record_lem.now)) g.root_record.now g.table.now c.sizes_fit-sized.ensures)).record_full
+    (formed g.depth g.root_record.now g.table.now g.tree.now g.marks.now (length g.new_tree.now) (length g.new_marks.now) (length g.new_record.now) (sym c.in_default.is ∙ c.admit_by.ensures.0 ∙ admitted_by-sized g.depth _ (recode_sized g.depth (length g.root_record.now) (length g.tree.now) (length g.marks.now) (length g.new_tree.now) (length g.new_marks.now) (length g.new_record.now)) g.root_record.now g.table.now c.sizes_fit-sized.ensures)).record_full
 
 pub slice_bounds-recode_with-end : goal.slice_bounds-recode_with-end
 slice_bounds-recode_with-end c =
@@ -37,20 +37,25 @@ slice_bounds-recode_with-end-2 c =
     let g = c.args in
     (ready_by g.depth c.sizes_fit-sized.result g.root_record.now g.table.now (sym c.in_default.is ∙ c.admit_by.ensures.0) _ _ _ _ c.requires c.admit_by.ensures.1 c.admit_by.ensures.2).words_count
 
+pub slice_bounds-recode_with-start : goal.slice_bounds-recode_with-start
+slice_bounds-recode_with-start c =
+    let g = c.args in
+    omega (arith, (formed g.depth g.root_record.now g.table.now g.tree.now g.marks.now (length g.new_tree.now) (length g.new_marks.now) (length g.new_record.now) (sym c.in_default.is ∙ c.admit_by.ensures.0 ∙ admitted_by-sized g.depth _ (recode_sized g.depth (length g.root_record.now) (length g.tree.now) (length g.marks.now) (length g.new_tree.now) (length g.new_marks.now) (length g.new_record.now)) g.root_record.now g.table.now c.sizes_fit-sized.ensures)).record_full)
+
 pub slice_bounds-recode_with-count : goal.slice_bounds-recode_with-count
 slice_bounds-recode_with-count c =
     let g = c.args in
-    omega (arith, (formed g.depth g.root_record.now g.table.now g.tree.now g.marks.now (length g.new-tree.now) (length g.new-marks.now) (length g.new_record_lem.now) (sym c.in_default.is ∙ c.admit_by.ensures.0 ∙ admitted_by-sized g.depth _ (recode_sized g.depth (length g.root_record.now) (length g.tree.now) (length g.marks.now) (length g.new-tree.now) (length g.new-marks.now) (length g.new_record_lem.now)) g.root_record.now g.table.now c.sizes_fit-sized.ensures)).record_full)
+    omega (arith, (formed g.depth g.root_record.now g.table.now g.tree.now g.marks.now (length g.new_tree.now) (length g.new_marks.now) (length g.new_record.now) (sym c.in_default.is ∙ c.admit_by.ensures.0 ∙ admitted_by-sized g.depth _ (recode_sized g.depth (length g.root_record.now) (length g.tree.now) (length g.marks.now) (length g.new_tree.now) (length g.new_marks.now) (length g.new_record.now)) g.root_record.now g.table.now c.sizes_fit-sized.ensures)).record_full)
 
 pub size-requires : goal.size-requires
 size-requires c =
     let g = c.args in
-    (formed g.depth g.root_record.now g.table.now g.tree.now g.marks.now (length g.new-tree.now) (length g.new-marks.now) (length g.new_record_lem.now) (sym c.in_default.is ∙ c.admit_by.ensures.0 ∙ admitted_by-sized g.depth _ (recode_sized g.depth (length g.root_record.now) (length g.tree.now) (length g.marks.now) (length g.new-tree.now) (length g.new-marks.now) (length g.new_record_lem.now)) g.root_record.now g.table.now c.sizes_fit-sized.ensures)).record_full
+    (formed g.depth g.root_record.now g.table.now g.tree.now g.marks.now (length g.new_tree.now) (length g.new_marks.now) (length g.new_record.now) (sym c.in_default.is ∙ c.admit_by.ensures.0 ∙ admitted_by-sized g.depth _ (recode_sized g.depth (length g.root_record.now) (length g.tree.now) (length g.marks.now) (length g.new_tree.now) (length g.new_marks.now) (length g.new_record.now)) g.root_record.now g.table.now c.sizes_fit-sized.ensures)).record_full
 
 pub recode_with-requires : goal.recode_with-requires
 recode_with-requires c =
     let g = c.args in
-    let k = formed g.depth g.root_record.now g.table.now g.tree.now g.marks.now (length g.new-tree.now) (length g.new-marks.now) (length g.new_record_lem.now) (sym c.in_default.is ∙ c.admit_by.ensures.0 ∙ admitted_by-sized g.depth _ (recode_sized g.depth (length g.root_record.now) (length g.tree.now) (length g.marks.now) (length g.new-tree.now) (length g.new-marks.now) (length g.new_record_lem.now)) g.root_record.now g.table.now c.sizes_fit-sized.ensures) in
+    let k = formed g.depth g.root_record.now g.table.now g.tree.now g.marks.now (length g.new_tree.now) (length g.new_marks.now) (length g.new_record.now) (sym c.in_default.is ∙ c.admit_by.ensures.0 ∙ admitted_by-sized g.depth _ (recode_sized g.depth (length g.root_record.now) (length g.tree.now) (length g.marks.now) (length g.new_tree.now) (length g.new_marks.now) (length g.new_record.now)) g.root_record.now g.table.now c.sizes_fit-sized.ensures) in
     let w = ready_by g.depth c.sizes_fit-sized.result g.root_record.now g.table.now (sym c.in_default.is ∙ c.admit_by.ensures.0) _ _ _ _ c.requires c.admit_by.ensures.1 c.admit_by.ensures.2 in
     record {
       source = record {
@@ -74,5 +79,5 @@ recode_with-requires c =
 pub returns : goal.returns
 returns c =
     let g = c.args in
-    went_on g.depth g.root_record.now g.table.now g.tree.now g.marks.now g.new-tree.now g.new-marks.now g.new_record_lem.now _ _ _ _ _ c.kind.ensures (root_part_lem g.root_record.now) c.size.ensures (ready_by g.depth c.sizes_fit-sized.result g.root_record.now g.table.now (sym c.in_default.is ∙ c.admit_by.ensures.0) _ _ _ _ c.requires c.admit_by.ensures.1 c.admit_by.ensures.2).words_there
-    (sym c.in_default.is ∙ c.admit_by.ensures.0 ∙ admitted_by-sized g.depth _ (recode_sized g.depth (length g.root_record.now) (length g.tree.now) (length g.marks.now) (length g.new-tree.now) (length g.new-marks.now) (length g.new_record_lem.now)) g.root_record.now g.table.now c.sizes_fit-sized.ensures) c.recode_with.ensures
+    went_on g.depth g.root_record.now g.table.now g.tree.now g.marks.now g.new_tree.now g.new_marks.now g.new_record.now _ _ _ _ _ c.kind.ensures (root_part_lem g.root_record.now) c.size.ensures (ready_by g.depth c.sizes_fit-sized.result g.root_record.now g.table.now (sym c.in_default.is ∙ c.admit_by.ensures.0) _ _ _ _ c.requires c.admit_by.ensures.1 c.admit_by.ensures.2).words_there
+    (sym c.in_default.is ∙ c.admit_by.ensures.0 ∙ admitted_by-sized g.depth _ (recode_sized g.depth (length g.root_record.now) (length g.tree.now) (length g.marks.now) (length g.new_tree.now) (length g.new_marks.now) (length g.new_record.now)) g.root_record.now g.table.now c.sizes_fit-sized.ensures) c.recode_with.ensures

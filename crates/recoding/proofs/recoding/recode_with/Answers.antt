@@ -19,7 +19,7 @@ use Rattle.recoding.proofs.recoding.recode_with.Goals as goal
 pub returns-in-Stopped : goal.returns-in-Stopped
 returns-in-Stopped c =
     let a = c.args in
-    ap (λ (x : Answer). written_by x a.depth (other_kind a.kind) a.table.now (take a.n (block_of tree a.depth a.tree.now)) a.new-tree.now a.new-marks.now a.new_record_lem.now) (sym c.in-Stopped.is ∙ c.test_source.ensures)
+    ap (λ (x : Answer). written_by x a.depth (other_kind a.kind) a.table.now (take a.n (block_of tree a.depth a.tree.now)) a.new_tree.now a.new_marks.now a.new_record.now) (sym c.in-Stopped.is ∙ c.test_source.ensures)
 
 pub overflow_sub-depth : goal.overflow_sub-depth
 overflow_sub-depth c = omega (arith, accepted-depth c.args.depth c.args.words.now c.requires.source.indexed.accepted)
@@ -33,6 +33,9 @@ overflow_mul-from c = omega (arith, c.requires.size_fits, base-room c.args.depth
 pub overflow_add-to : goal.overflow_add-to
 overflow_add-to c = omega (arith, c.requires.size_fits, base-room c.args.depth _ c.args.tree.now (accepted-depth c.args.depth c.args.words.now c.requires.source.indexed.accepted).0 c.first_place-from.ensures c.requires.source.tree-full)
 
+pub slice_bounds-write_with-end : goal.slice_bounds-write_with-end
+slice_bounds-write_with-end c = omega (arith, c.requires.size_fits, base-room c.args.depth _ c.args.tree.now (accepted-depth c.args.depth c.args.words.now c.requires.source.indexed.accepted).0 c.first_place-from.ensures c.requires.source.tree-full)
+
 pub write_with-requires : goal.write_with-requires
 write_with-requires c = c.requires.writable _ (block-short c.args.depth _ c.args.tree.now (accepted-depth c.args.depth c.args.words.now c.requires.source.indexed.accepted).0 c.first_place-from.ensures c.requires.source.tree-full c.args.n c.requires.size_fits)
 
@@ -40,5 +43,5 @@ pub returns : goal.returns
 returns c =
     let a = c.args in
     c.write_with.ensures
-    ∙ ap₂ (λ (k : Kind) (b : List ℕ). written_by Done a.depth k a.table.now b a.new-tree.now a.new-marks.now a.new_record_lem.now) c.other.ensures (block_part c.args.depth _ c.args.tree.now (accepted-depth c.args.depth c.args.words.now c.requires.source.indexed.accepted).0 c.first_place-from.ensures c.requires.source.tree-full c.args.n c.requires.size_fits)
-    ∙ ap (λ (x : Answer). written_by x a.depth (other_kind a.kind) a.table.now (take a.n (block_of tree a.depth a.tree.now)) a.new-tree.now a.new-marks.now a.new_record_lem.now) (sym c.in_default.is ∙ c.test_source.ensures)
+    ∙ ap₂ (λ (k : Kind) (b : List ℕ). written_by Done a.depth k a.table.now b a.new_tree.now a.new_marks.now a.new_record.now) c.other.ensures (block_part c.args.depth _ c.args.tree.now (accepted-depth c.args.depth c.args.words.now c.requires.source.indexed.accepted).0 c.first_place-from.ensures c.requires.source.tree-full c.args.n c.requires.size_fits)
+    ∙ ap (λ (x : Answer). written_by x a.depth (other_kind a.kind) a.table.now (take a.n (block_of tree a.depth a.tree.now)) a.new_tree.now a.new_marks.now a.new_record.now) (sym c.in_default.is ∙ c.test_source.ensures)

@@ -12,21 +12,21 @@ use Rattle.recoding.proofs.recoding.sizes_fit.Goals as goal
 pub returns-then-not-tree_fits : goal.returns-then-not-tree_fits
 returns-then-not-tree_fits c =
     let g = c.args in
-    fit_no (depth_fits g.depth) (tree_sized g.depth g.tree g.marks) (tree_sized g.depth g.new-tree g.new-marks && (record_sized g.record-len && record_sized g.new-record-len)) (sym c.tree_fits.ensures ∙ not_yes _ c.if-not-tree_fits.true-raw)
+    fit_no (depth_fits g.depth) (tree_sized g.depth g.tree g.marks) (tree_sized g.depth g.new_tree g.new_marks && (record_sized g.record_len && record_sized g.new_record_len)) (sym c.tree_fits.ensures ∙ not_yes _ c.if-not-tree_fits.true-raw)
 
 pub returns-then-not-tree_fits-2 : goal.returns-then-not-tree_fits-2
 returns-then-not-tree_fits-2 c =
     let g = c.args in
-    second-fails (depth_fits g.depth) (tree_sized g.depth g.tree g.marks) (tree_sized g.depth g.new-tree g.new-marks) (record_sized g.record-len && record_sized g.new-record-len) (sym c.tree_fits.ensures ∙ not_no _ c.if-not-tree_fits.false-raw) (sym c.tree_fits-2.ensures ∙ not_yes _ c.if-not-tree_fits-2.true-raw)
+    second-fails (depth_fits g.depth) (tree_sized g.depth g.tree g.marks) (tree_sized g.depth g.new_tree g.new_marks) (record_sized g.record_len && record_sized g.new_record_len) (sym c.tree_fits.ensures ∙ not_no _ c.if-not-tree_fits.false-raw) (sym c.tree_fits-2.ensures ∙ not_yes _ c.if-not-tree_fits-2.true-raw)
 
 pub returns-then-record_len-ne-BYTES : goal.returns-then-record_len-ne-BYTES
 returns-then-record_len-ne-BYTES c =
     let g = c.args in
-    sym (ap (λ (b : Bool). b && record_sized g.new-record-len) (ne_eqb g.record-len 556 c.if-record_len-ne-BYTES.true))
-    ∙ both_fit (depth_fits g.depth) (tree_sized g.depth g.tree g.marks) (tree_sized g.depth g.new-tree g.new-marks) (record_sized g.record-len && record_sized g.new-record-len) (sym c.tree_fits.ensures ∙ not_no _ c.if-not-tree_fits.false-raw) (sym c.tree_fits-2.ensures ∙ not_no _ c.if-not-tree_fits-2.false-raw)
+    sym (ap (λ (b : Bool). b && record_sized g.new_record_len) (ne_eqb g.record_len 556 c.if-record_len-ne-BYTES.true))
+    ∙ both_fit (depth_fits g.depth) (tree_sized g.depth g.tree g.marks) (tree_sized g.depth g.new_tree g.new_marks) (record_sized g.record_len && record_sized g.new_record_len) (sym c.tree_fits.ensures ∙ not_no _ c.if-not-tree_fits.false-raw) (sym c.tree_fits-2.ensures ∙ not_no _ c.if-not-tree_fits-2.false-raw)
 
 pub returns : goal.returns
 returns c =
     let g = c.args in
-    sym (ap (λ (b : Bool). b && record_sized g.new-record-len) (eq-eqb g.record-len 556 c.if-record_len-ne-BYTES.false))
-    ∙ both_fit (depth_fits g.depth) (tree_sized g.depth g.tree g.marks) (tree_sized g.depth g.new-tree g.new-marks) (record_sized g.record-len && record_sized g.new-record-len) (sym c.tree_fits.ensures ∙ not_no _ c.if-not-tree_fits.false-raw) (sym c.tree_fits-2.ensures ∙ not_no _ c.if-not-tree_fits-2.false-raw)
+    sym (ap (λ (b : Bool). b && record_sized g.new_record_len) (eq-eqb g.record_len 556 c.if-record_len-ne-BYTES.false))
+    ∙ both_fit (depth_fits g.depth) (tree_sized g.depth g.tree g.marks) (tree_sized g.depth g.new_tree g.new_marks) (record_sized g.record_len && record_sized g.new_record_len) (sym c.tree_fits.ensures ∙ not_no _ c.if-not-tree_fits.false-raw) (sym c.tree_fits-2.ensures ∙ not_no _ c.if-not-tree_fits-2.false-raw)
