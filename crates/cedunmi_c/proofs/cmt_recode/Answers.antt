@@ -10,7 +10,7 @@ use Rattle.cedunmi_c.proofs.cmt_recode.Goals as goal
 pub call_result-requires : goal.call_result-requires
 call_result-requires c =
     let g = c.args in
-    subst Small (sym (ap (λ (w : TreeLeft Answer). w.answer) c.recode.ensures)) (small g.depth g.root_record.now g.table.now g.tree.now g.marks.now g.new-tree.now g.new-marks.now g.new_record_lem.now)
+    subst Small (sym (ap (λ (w : TreeLeft Answer). w.answer) c.recode.ensures)) (small g.depth g.root_record.now g.table.now g.tree.now g.marks.now g.new_tree.now g.new_marks.now g.new_record.now)
 
 pub returns : goal.returns
 returns c = tree-left _ _ c.call_result.ensures _ _ _ _ c.recode.ensures

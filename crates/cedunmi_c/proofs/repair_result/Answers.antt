@@ -22,7 +22,7 @@ ending_of-requires c =
 
 pub end_result-requires : goal.end_result-requires
 end_result-requires c =
-    let z = c.Ending-of.ensures in
+    let z = c.ending_of.ensures in
     let h = subst (λ (q : Outcome). Fits (kind_in c.args.root_record.now) (outcome_of q)) c.in-Ended.is c.requires.0 in
     let v = ap (λ (k : Kind). end_value k (end_of c.in-Ended.r.end)) c.kind.ensures in
     (omega (arith, z.0, h.2), omega (arith, z.1, h.0), omega (arith, z.2, h.1, v))
@@ -39,7 +39,7 @@ call_result-requires c =
 
 pub returns-in-Ended : goal.returns-in-Ended
 returns-in-Ended c =
-    let z = c.Ending-of.ensures in
+    let z = c.ending_of.ensures in
     let v = ap (λ (k : Kind). end_value k (end_of c.in-Ended.r.end)) c.kind.ensures in
     c.end_result.ensures ∙ ap₂ (λ (x y : ℕ). packed 0 (x, y)) z.0 (ap₂ (λ (x y : ℕ). x + y * 2 ^ 16) z.1 (z.2 ∙ v)) ∙ sym (ap (λ (q : Outcome). repair_result (kind_in c.args.root_record.now) (outcome_of q)) c.in-Ended.is)
 
