@@ -536,7 +536,7 @@ module _ (depth : ℕ) (r table t m o : List ℕ) (e : repair_tested depth r tab
         first = λ l i h hi. marked_1 st.marks l i ((a.above l (omega (arith, x.last))).full i hi);
         absent = absent j;
         tells = told j (omega (arith, x.last));
-        within-gaps = λ i hi z. gap_is j i lj hi (x.largest.inside i hi (lost i z));
+        within_gaps = λ i hi z. gap_is j i lj hi (x.largest.inside i hi (lost i z));
         never_once = λ v hv c. x.largest.stopping v (in_table v hv) (sym (meets-count (absent j) (members tbl j v)) ∙ c);
         largest = λ s w n i hi b.
             gone i hi

@@ -213,7 +213,7 @@ module _ (depth : ℕ) (r table t m o : List ℕ) where
     -- the missing symbols, which this test tells, are a set within the layer's gaps that no equation meets exactly once
     pub absent : ℕ → Bool
     pub tells : Tells layer absent
-    pub within-gaps : (i : ℕ) → i < all_symbols layer → mark layer i ≡ 0 → Gap layer i
+    pub within_gaps : (i : ℕ) → i < all_symbols layer → mark layer i ≡ 0 → Gap layer i
     pub never_once : NeverOnce layer absent
     -- and every other such set lies inside them
     pub largest : (s : ℕ → Bool) → ((i : ℕ) → i < all_symbols layer → s i ≡ true → Gap layer i) → NeverOnce layer s
