@@ -52,7 +52,7 @@ use Rattle.calls.proofs.AdmissionLaws.{TableTaken}
 use Rattle.guarantees.proofs.Membership.{every-member_of, member-other, two_passing, member_apart, last_apart, others_apart}
 use Rattle.guarantees.proofs.Marks.{held-marked, all_right}
 use Rattle.guarantees.proofs.Tables.{ok_rules}
-use Rattle.guarantees.proofs.Whole.{answer-is}
+use Rattle.guarantees.proofs.Whole.{answer-is as whole-answer}
 use Rattle.guarantees.proofs.Trees.{hash_in_lem, symbols-are, agrees_with, with_agrees, twins_of}
 use Rattle.guarantees.proofs.Refusals.{absent_said, absent-seen}
 use Rattle.guarantees.proofs.FaultProofs.{fault-proofs}
@@ -216,14 +216,14 @@ module _ (depth : ℕ) (r table t m o : List ℕ) (e : repair_tested depth r tab
   abbrev blank : Bool
   blank = zero_filled tree depth (size_in r) st.tree
 
-  answer_so : (repaired depth r table t m o).answer ≡ ended_by blank st.stored st.end
-  answer_so = answer-is depth r table t m o e
+  answer-is : (repaired depth r table t m o).answer ≡ ended_by blank st.stored st.end
+  answer-is = whole-answer depth r table t m o e
 
   reported : (z : End) → st.end ≡ z → (end_number z ≡ 0 → blank ≡ true) → (repaired depth r table t m o).answer ≡ ended st.stored z
-  reported z q f = answer_so ∙ ap (ended_by blank st.stored) q ∙ sym (ends_so blank st.stored z f)
+  reported z q f = answer-is ∙ ap (ended_by blank st.stored) q ∙ sym (ends_so blank st.stored z f)
 
   reported_13 : st.end ≡ whole → blank ≡ false → (repaired depth r table t m o).answer ≡ misfilled st.stored
-  reported_13 q f = answer_so ∙ ap (ended_by blank st.stored) q ∙ sym (misfills blank st.stored whole refl f)
+  reported_13 q f = answer-is ∙ ap (ended_by blank st.stored) q ∙ sym (misfills blank st.stored whole refl f)
 
   reports_so : (z : End) → st.end ≡ z
       → ((repaired depth r table t m o).answer ≡ ended st.stored z) ⊎ ((z ≡ whole) × ((repaired depth r table t m o).answer ≡ misfilled st.stored))

@@ -12,7 +12,7 @@ use Rattle.model.specs.Climb.{leads, breaks, Says}
 use Rattle.model.specs.Fault.{reached, next, after_given, path_hash, way_fits, way_check}
 use Rattle.octets.proofs.Choice.{both}
 use Rattle.octets.proofs.SameLaws.{same_yes, yes_same, no_same}
-use Rattle.model.proofs.Shapes.{up_lt}
+use Rattle.model.proofs.Shapes.{up_lt, committed-same as alike}
 use Rattle.model.proofs.Climbs.{climb_says, climb-is}
 
 -- ---- numbers
@@ -53,6 +53,12 @@ module _ (b : List ℕ) (j : ℕ) where
   after_at (y ∷ ys) from =
       let e : from + 256 * (j + 1) + 256 * (length ys * suc j) ≡ from + 256 * (suc (length ys) * suc j) = omega arith in
       ap (after_given j ys) (next_at from) ∙ after_at ys (from + 256 * (j + 1)) ∙ ap (λ o. drop o b) e
+
+-- ---- the hash that symbols above, w by layer, have for a symbol is the committed one where the one above it is f's
+
+pub committed-same : (S : Shape) (root : List ℕ) (w : ℕ → List ℕ) (f : ℕ → ℕ → List ℕ) (l m : ℕ) → ((u : ℕ) → suc u ≡ l → w u ≡ f u (m % S.k u))
+    → committed S root (λ u i. w u) l m ≡ committed S root f l m
+committed-same S root w f l m above = alike S root (λ u i. w u) f l m above
 
 -- the hash that a path c has for a symbol is the one that symbols above, w by layer, have for it, where c starts with the one above it
 pub path-committed : (S : Shape) (root c : List ℕ) (w : ℕ → List ℕ) (l m : ℕ) → ((u : ℕ) → suc u ≡ l → symbol_in c 0 ≡ w u)
