@@ -8,7 +8,7 @@ help:
 	@echo 'make              proves the library and builds target/cedunmi'
 	@echo 'make install      installs command, library, header and manual pages under PREFIX (/usr/local), in DESTDIR where that is set'
 	@echo 'make uninstall    removes just what it installs'
-	@echo 'make test         every proof from nothing, every edit that must be refused, every test; it empties target/ first'
+	@echo 'make test         every proof, every edit that must be refused, every program, every test'
 	@echo 'make benchmarks   measures, and renews docs/BENCHMARKS.md and its picture'
 	@echo 'make fuzz         fuzzes each of the ten calls for SECONDS (600)'
 	@echo 'make pinned       sees that definitions that are wrong together with their code are refused'

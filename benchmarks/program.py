@@ -53,7 +53,7 @@ def build():
     """Builds a copy of the package, where cargo may write a lock file: the versions
     in it are those that the machine's Debian has."""
     if not (LIBRARY / "libcedunmi_c.a").is_file():
-        fail(f"{LIBRARY}/libcedunmi_c.a is missing: rt staticlib cedunmi_c")
+        fail(f"{LIBRARY}/libcedunmi_c.a is missing: make")
     shutil.rmtree(PACKAGE, ignore_errors=True)
     shutil.copytree(ROOT / "benchmarks", PACKAGE)
     manifest = PACKAGE / "Cargo.toml"

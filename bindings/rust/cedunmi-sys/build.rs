@@ -1,4 +1,4 @@
-//! Links libcedunmi_c.a, which `rt staticlib cedunmi_c` makes. The folder is
+//! Links libcedunmi_c.a, which `make` makes. The folder is
 //! `target/staticlib` of the repository, or CEDUNMI_LIB_DIR where that is set.
 
 use std::env;
@@ -9,7 +9,7 @@ fn main() {
     let folder = env::var_os("CEDUNMI_LIB_DIR").map_or(made, PathBuf::from);
     let archive = folder.join("libcedunmi_c.a");
     if !archive.is_file() {
-        eprintln!("{} is missing: run `rt staticlib cedunmi_c`", archive.display());
+        eprintln!("{} is missing: run `make`", archive.display());
         std::process::exit(1);
     }
     println!("cargo:rustc-link-search=native={}", folder.display());

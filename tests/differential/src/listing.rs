@@ -24,9 +24,9 @@ const OTHER_LENGTHS: [usize; 12] = [0, 1, 16, 96, 256, 512, 1023, 1025, 1026, 12
 /// What is printed of an input.
 pub type List = fn(&[u8]) -> Vec<u8>;
 
-/// The program that `rt check listing` builds, run on an input.
+/// The program that `rt run` builds in `crates/listing`, run on an input.
 pub fn program(input: &[u8]) -> Vec<u8> {
-    programs::run(Path::new(env!("CARGO_MANIFEST_DIR")).join("../../target/bin/listing"), input)
+    programs::run(Path::new(env!("CARGO_MANIFEST_DIR")).join("../../crates/listing/out/listing"), input)
 }
 
 /// Makes every comparison.
