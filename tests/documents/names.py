@@ -3,7 +3,7 @@
 
     tests/documents/names.py PAGE FOLDER..
 
-A name is a word in backquotes: `read-right`, `table_reader::read`, `Demand3.checker`. A file is a word
+A name is a word in backquotes: `read_right`, `table_reader::read`, `Demand3.checker`. A file is a word
 that ends as source files do: specs/Table.antt, lib.rt.
 """
 
