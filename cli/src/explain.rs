@@ -26,7 +26,7 @@ const TO_DO: &[(u8, &str)] = &[
     (14, "mend the tree by cedunmi repair, and recode what that leaves: the lines after it say what a repair would do, and cedunmi check says more. Where pages are missing, bring some first; of a misfilled volume see first that the record's length is the manual's, as cedunmi explain 43 says, and if it is, ask for it coded anew; one with a fault is to be struck, not recoded"),
     (DAMAGED, "mend the tree by cedunmi repair"),
     (31, "see that the record is the manual's; then send the proof to others, who strike the volume by it"),
-    (32, "bring some of the missing pages from other shops, mark them, and repair again: while volume and pages are right, one more never gives less, though a lower layer may then be the one that misses some; but where the last line speaks of the kind, do what that says"),
+    (32, "bring some of the missing pages from other shops, mark them, and repair again; but where the last line speaks of the kind, do what that says"),
     (33, "keep them, and tell everybody: SHA-256 can't be relied on any more. By a record of kind 00, with places, each of the two is hashed after the place that the report names, by one of kind 01 by itself"),
     (ENDS + MISFILLED, FILL_UP),
     (USAGE, "cedunmi help COMMAND shows what it takes"),
