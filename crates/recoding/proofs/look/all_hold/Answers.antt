@@ -2,7 +2,6 @@
 use mathlib.Core.Path.{◌∙◌, sym}
 use native.Mathlib.Omega.{arith}
 use borrow.Author.Count.{below_more}
-use Rattle.octets.proofs.Choice.{not_no, not_yes}
 use Rattle.parity_table.proofs.Shape.{k_small}
 use Rattle.recoding.proofs.LookLaws.{one-fails, each_holds}
 use Rattle.recoding.proofs.look.all_hold.Goals as goal
@@ -20,13 +19,13 @@ equation_holds-requires c =
 pub returns-then-not-equation_holds : goal.returns-then-not-equation_holds
 returns-then-not-equation_holds c =
     let a = c.args in
-    one-fails a.words.now a.starts.now a.tree.now a.j c.requires.0.0 c.requires.0.1 c.requires.0.2 c.loop-e.e (omega arith) (sym c.equation_holds.ensures ∙ not_yes _ c.if-not-equation_holds.true-raw)
+    one-fails a.words.now a.starts.now a.tree.now a.j c.requires.0.0 c.requires.0.1 c.requires.0.2 c.loop-e.e (omega arith) (sym c.equation_holds.ensures ∙ c.if-not-equation_holds.true)
 
 pub overflow_step-e : goal.overflow_step-e
 overflow_step-e c = omega (arith, k_small c.args.j c.requires.1.layer)
 
 pub loop-e-preserved : goal.loop-e-preserved
-loop-e-preserved c = let l = c.loop-e in (omega arith, l.invariant.1, below_more _ _ l.invariant.2 (sym c.equation_holds.ensures ∙ not_no _ c.if-not-equation_holds.false-raw))
+loop-e-preserved c = let l = c.loop-e in (omega arith, l.invariant.1, below_more _ _ l.invariant.2 (sym c.equation_holds.ensures ∙ c.if-not-equation_holds.false))
 
 pub returns : goal.returns
 returns c =

@@ -2,7 +2,6 @@
 use mathlib.Core.Path.{◌∙◌, sym}
 use native.Mathlib.Omega.{arith}
 use borrow.Author.Count.{below_more}
-use Rattle.octets.proofs.Choice.{not_no, not_yes}
 use Rattle.recoding.proofs.LookLaws.{one-incomplete, each_complete}
 use Rattle.recoding.proofs.look.is_intact.Goals as goal
 
@@ -14,10 +13,10 @@ is_complete-requires c = (c.args.depth, c.requires, c.loop-j-test.true)
 
 pub returns-then-not-is_complete : goal.returns-then-not-is_complete
 returns-then-not-is_complete c =
-    one-incomplete c.requires c.args.kind c.loop-j.j c.loop-j-test.true (sym c.is_complete.ensures ∙ not_yes _ c.if-not-is_complete.true-raw)
+    one-incomplete c.requires c.args.kind c.loop-j.j c.loop-j-test.true (sym c.is_complete.ensures ∙ c.if-not-is_complete.true)
 
 pub loop-j-preserved : goal.loop-j-preserved
-loop-j-preserved c = (omega arith, below_more _ _ c.loop-j.invariant.1 (sym c.is_complete.ensures ∙ not_no _ c.if-not-is_complete.false-raw))
+loop-j-preserved c = (omega arith, below_more _ _ c.loop-j.invariant.1 (sym c.is_complete.ensures ∙ c.if-not-is_complete.false))
 
 pub returns : goal.returns
 returns c =

@@ -1,7 +1,6 @@
 -- `test_source` meets its contract: the marks, then the look, then what fills up the block.
 use mathlib.Core.Bool.{Bool, ◌&&◌}
 use mathlib.Core.Path.{◌∙◌, ap, ap₂, sym}
-use Rattle.octets.proofs.Choice.{not_no, not_yes}
 use Rattle.parity_table.specs.Parse.{table_of}
 use Rattle.parity_table.proofs.Accepts.{accepted-depth}
 use Rattle.model.specs.Shape.{tree}
@@ -19,7 +18,7 @@ returns-then-not-is_intact c =
     let a = c.args in
     let p : Bool = intact tree (symbol_hash a.kind) a.root.now (table_of a.words.now) a.tree.now a.marks.now in
     let q : Bool = zero_filled tree a.depth a.n a.tree.now in
-    seen_not _ p q (sym c.in_default.is ∙ c.test_marks.ensures) (ap (λ (b : Bool). b && q) (sym c.is_intact.ensures ∙ not_yes _ c.if-not-is_intact.true-raw))
+    seen_not _ p q (sym c.in_default.is ∙ c.test_marks.ensures) (ap (λ (b : Bool). b && q) (sym c.is_intact.ensures ∙ c.if-not-is_intact.true))
 
 pub zero_filled-requires : goal.zero_filled-requires
 zero_filled-requires c =
@@ -33,7 +32,7 @@ returns-then-not-zero_filled c =
     let p : Bool = intact tree (symbol_hash a.kind) a.root.now (table_of a.words.now) a.tree.now a.marks.now in
     let q : Bool = zero_filled tree a.depth a.n a.tree.now in
     seen_not _ p q (sym c.in_default.is ∙ c.test_marks.ensures)
-    (ap₂ (λ (x y : Bool). x && y) (sym c.is_intact.ensures ∙ not_no _ c.if-not-is_intact.false-raw) (sym c.zero_filled.ensures ∙ not_yes _ c.if-not-zero_filled.true-raw))
+    (ap₂ (λ (x y : Bool). x && y) (sym c.is_intact.ensures ∙ c.if-not-is_intact.false) (sym c.zero_filled.ensures ∙ c.if-not-zero_filled.true))
 
 pub returns : goal.returns
 returns c =
@@ -41,4 +40,4 @@ returns c =
     let p : Bool = intact tree (symbol_hash a.kind) a.root.now (table_of a.words.now) a.tree.now a.marks.now in
     let q : Bool = zero_filled tree a.depth a.n a.tree.now in
     seen-whole _ p q (sym c.in_default.is ∙ c.test_marks.ensures)
-    (ap₂ (λ (x y : Bool). x && y) (sym c.is_intact.ensures ∙ not_no _ c.if-not-is_intact.false-raw) (sym c.zero_filled.ensures ∙ not_no _ c.if-not-zero_filled.false-raw))
+    (ap₂ (λ (x y : Bool). x && y) (sym c.is_intact.ensures ∙ c.if-not-is_intact.false) (sym c.zero_filled.ensures ∙ c.if-not-zero_filled.false))
