@@ -1,5 +1,5 @@
 -- FIPS 180-4, sections 2.2.2 and 3.2: operations on 32-bit words, which are numbers below 2 ^ 32. Definitions only.
--- The standard's ∧, ∨ and ⊕ are bitAnd, bitOr and bitXor of lib.Bits.
+-- The standard's ∧, ∨ and ⊕ are bit_and, bit_or and bit_xor of the library.
 use Rattle.std.specs.Prelude.{ℕ, ◌+◌, ◌-◌, ◌*◌, ◌/◌, ◌%◌, ◌^◌, bit_or}
 
 -- 2.2.2: ¬x, the bitwise complement
