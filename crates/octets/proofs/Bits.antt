@@ -67,14 +67,7 @@ module _ (f g : ℕ → ℕ → ℕ → ℕ) (fb : Bitwise f) (gb : Bitwise g) (
   pub bitwise_equal : (x y z : ℕ) → f x y z ≡ g x y z
   bitwise_equal x y z = up_to (x + y + z) x y z (omega arith) (omega arith) (omega arith)
 
--- ---- exclusive-or and conjunction
-
-pub xor_assoc : (x y z : ℕ) → bit_xor (bit_xor x y) z ≡ bit_xor x (bit_xor y z)
-xor_assoc =
-    bitwise_equal (λ x y z. bit_xor (bit_xor x y) z) (λ x y z. bit_xor x (bit_xor y z))
-    (record { half = λ x y z. simp xor_half; last = λ x y z. simp xor_bit })
-    (record { half = λ x y z. simp xor_half; last = λ x y z. simp xor_bit })
-    (record { b000 = refl; b001 = refl; b010 = refl; b011 = refl; b100 = refl; b101 = refl; b110 = refl; b111 = refl })
+-- ---- conjunction over exclusive-or
 
 pub and_xor : (x y z : ℕ) → bit_and (bit_xor x y) z ≡ bit_xor (bit_and x z) (bit_and y z)
 and_xor =

@@ -1,42 +1,22 @@
--- Bytes and words: four bytes joined by shifts, four bytes stored, and the lengths of the byte forms.
+-- Words as bytes, and the lengths of the byte forms.
 use mathlib.Core.Path.{◌≡◌, refl, ap}
 use mathlib.Core.List.{List, [], ◌∷◌}
 use Prim.Native.Nat.{ℕ, zero, suc, ◌+◌, ◌*◌, ◌/◌, ◌%◌, ◌^◌, ◌<◌}
 use native.Mathlib.Omega.{arith}
-use lib.Bits.{bit_or, or_shifted}
-use lib.ListN.{length, set, length-append}
-use lib.Seq.{sets}
+use mir.Syntax.{w32}
+use Rattle.std.specs.Int.{to_be_bytes}
+use Rattle.std.proofs.lemmas.Nat.{from_be_bytes-to_be_bytes_4}
+use lib.ListN.{length, length-append}
 use Rattle.octets.specs.BigEndian.{be, words, bytes_of}
 
--- x above k bits, y below
-low_or : (k x n y : ℕ) → n ≡ x * 2 ^ k → y < 2 ^ k → bit_or n y ≡ n + y
-low_or k x n y e h = rw e (or_shifted x k y h)
-
-pub join_sum : (a b c d : ℕ) → a < 256 → b < 256 → c < 256 → d < 256
-    → bit_or (bit_or (bit_or (a * 2 ^ 24 % 2 ^ 32) (b * 2 ^ 16 % 2 ^ 32)) (c * 2 ^ 8 % 2 ^ 32)) d
-    ≡ a * 2 ^ 24 + b * 2 ^ 16 + c * 2 ^ 8 + d
-join_sum a b c d ha hb hc hd =
-    let e1 : a * 2 ^ 24 % 2 ^ 32 ≡ a * 2 ^ 24 = omega arith in
-    let e2 : b * 2 ^ 16 % 2 ^ 32 ≡ b * 2 ^ 16 = omega arith in
-    let e3 : c * 2 ^ 8 % 2 ^ 32 ≡ c * 2 ^ 8 = omega arith in
-    let o1 : bit_or (a * 2 ^ 24) (b * 2 ^ 16) ≡ a * 2 ^ 24 + b * 2 ^ 16 = or_shifted a 24 (b * 2 ^ 16) (omega arith) in
-    let o2 : bit_or (a * 2 ^ 24 + b * 2 ^ 16) (c * 2 ^ 8) ≡ a * 2 ^ 24 + b * 2 ^ 16 + c * 2 ^ 8 =
-    low_or 16 (a * 2 ^ 8 + b) _ _ (omega arith) (omega arith) in
-    let o3 : bit_or (a * 2 ^ 24 + b * 2 ^ 16 + c * 2 ^ 8) d ≡ a * 2 ^ 24 + b * 2 ^ 16 + c * 2 ^ 8 + d =
-    low_or 8 (a * 2 ^ 16 + b * 2 ^ 8 + c) _ _ (omega arith) (omega arith) in
-    rw (e1, e2, e3, o1, o2, o3)
-
--- four stores are the run of stores of a word's bytes
-pub put_sets : (l : List ℕ) (at x : ℕ)
-    → set (set (set (set l at (x / 16777216 % 256)) (at + 1) (x / 65536 % 256)) (at + 2) (x / 256 % 256)) (at + 3) (x % 256)
-    ≡ sets l at (be 4 x)
+-- the bytes that the number type gives
+pub be_is : (x : ℕ) → to_be_bytes w32 x ≡ be 4 x
 unfolding be
-put_sets l at x =
-    let e1 : at + 1 ≡ suc at = omega arith in
-    let e2 : at + 2 ≡ suc (suc at) = omega arith in
-    let e3 : at + 3 ≡ suc (suc (suc at)) = omega arith in
-    let e4 : x / 1 ≡ x = omega arith in
-    rw (e1, e2, e3, e4)
+be_is x = let e : x / 1 ≡ x = omega arith in cc
+
+-- .. and added up again
+pub be-read : (x : ℕ) → x < 2 ^ 32 → x / 16777216 % 256 * 16777216 + x / 65536 % 256 * 65536 + x / 256 % 256 * 256 + x / 1 % 256 ≡ x
+be-read x h = let e : x / 1 ≡ x = omega arith in rw e (from_be_bytes-to_be_bytes_4 x h)
 
 pub length-be : (n x : ℕ) → length (be n x) ≡ n
 unfolding be

@@ -7,7 +7,7 @@ fn digit(n: u8, letter: u8) -> u8
     requires { (n < 16) × (letter ≤ 250) }
     ensures { result ≡ hex_digit letter n }
 {
-    if n < 10 { 48 + n } else { letter + (n - 10) }
+    if n < 10 { b'0' + n } else { letter + (n - 10) }
 }
 
 // The characters of a byte's two digits.
@@ -30,8 +30,8 @@ pub fn put_hex(s: &[u8], out: &mut [u8])
     requires { length out.old ≡ length s.now * 2 }
     ensures { out.new ≡ hex_of lower s.now }
 {
-    for i in 0..s.len() {
-        out[i * 2] = high(s[i], b'a');
-        out[i * 2 + 1] = low(s[i], b'a');
+    for (i, &x) in s.iter().enumerate() {
+        out[i * 2] = high(x, b'a');
+        out[i * 2 + 1] = low(x, b'a');
     }
 }

@@ -1,17 +1,16 @@
--- `octets::put_word` meets its contract: the four stores are the run of stores of `be 4 x`.
+-- `octets::put_word` meets its contract: the copy is the run of stores of `be 4 x`.
+use mathlib.Core.Path.{◌≡◌, ap, ◌∙◌}
+use Prim.Native.Nat.{◌+◌, ◌-◌}
 use native.Mathlib.Omega.{arith}
-use lib.ListN.{length-set}
-use Rattle.octets.proofs.Bytes.{put_sets}
+use borrow.Rule.Slice.PartMut.{put_mid}
+use Rattle.octets.specs.BigEndian.{be}
+use Rattle.octets.proofs.Bytes.{be_is, length-be}
+use Rattle.octets.proofs.Stores.{stores_part}
 use Rattle.octets.proofs.put_word.Goals as goal
 
-pub bounds-s-at-2 : goal.bounds-s-at-2
-bounds-s-at-2 c = simp length-set (omega arith)
-
-pub bounds-s-at-3 : goal.bounds-s-at-3
-bounds-s-at-3 c = simp length-set (omega arith)
-
-pub bounds-s-at-4 : goal.bounds-s-at-4
-bounds-s-at-4 c = simp length-set (omega arith)
-
 pub returns : goal.returns
-returns c = put_sets _ _ _
+returns c =
+    let a = c.args in
+    let e : c.copy_from_slice.new.self ≡ be 4 a.x = cc (be_is a.x) in
+    ap (put_mid a.at (a.at + 4 - a.at) a.s.now) e
+    ∙ stores_part a.s.now (be 4 a.x) a.at (a.at + 4 - a.at) (omega (arith, length-be 4 a.x)) (omega arith)

@@ -8,14 +8,14 @@ use Rattle.octets.proofs.hex.put_hex.Goals as goal
 
 pub loop-i-init : goal.loop-i-init
 unfolding hex_of
-loop-i-init c = (omega arith, refl, omega arith, refl)
-
-pub bounds-out-i-in-loop-i : goal.bounds-out-i-in-loop-i
-bounds-out-i-in-loop-i c = simp length-set (omega arith)
+loop-i-init c = (c.requires, refl)
 
 pub loop-i-preserved : goal.loop-i-preserved
 loop-i-preserved c =
-    (omega arith, c.loop-i.invariant.1, simp length-set c.loop-i.invariant.2, hex_more lower _ _ c.loop-i.i _ _ (omega arith) c.loop-i.invariant.2 c.loop-i.invariant.3 c.high.ensures c.low.ensures)
+    let l = c.loop-i in
+    (simp length-set l.invariant.0, hex_more lower _ _ l.i _ _ (omega arith) l.invariant.0 l.invariant.1 c.high.ensures c.low.ensures)
 
 pub returns : goal.returns
-returns c = hex_all lower _ _ c.loop-i.i (omega arith) c.loop-i.invariant.2 c.loop-i.invariant.3
+returns c =
+    let l = c.loop-i in
+    hex_all lower _ _ l.i (omega arith) l.invariant.0 l.invariant.1

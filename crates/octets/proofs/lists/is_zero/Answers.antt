@@ -1,20 +1,13 @@
--- `is_zero` meets its contract. The loop keeps: the first i bytes are zeros just when the greatest of them is zero.
-use mathlib.Core.Path.{refl}
-use native.Mathlib.Omega.{arith}
-use Rattle.octets.specs.ByteLists.{same}
-use Rattle.octets.proofs.ListLaws.{zero_turn, zero_end}
+-- `is_zero` meets its contract: the greatest byte tells.
+use mathlib.Core.Path.{◌≡◌, ap, ◌∙◌}
+use Prim.Native.Nat.{ℕ, max}
+use lib.Dec.{eqb}
+use Rattle.std.proofs.Common.{rules}
+use Rattle.std.specs.List.{fold}
+use Rattle.octets.proofs.ListLaws.{zeros_by_max}
 use Rattle.octets.proofs.lists.is_zero.Goals as goal
-
-pub loop-i-init : goal.loop-i-init
-unfolding same
-loop-i-init c = (omega arith, refl, refl)
-
-pub loop-i-preserved : goal.loop-i-preserved
-loop-i-preserved c =
-    let l = c.loop-i in
-    (omega arith, refl, zero_turn c.args.s.now l.i l.most _ (omega arith) c.greater-most.ensures l.invariant.2)
 
 pub returns : goal.returns
 returns c =
-    let l = c.loop-i in
-    zero_end c.args.s.now l.i l.most (omega arith) l.invariant.2
+    let e : c.fold.result ≡ fold max 0 c.args.s.now = search rules in
+    ap (λ (n : ℕ). eqb n 0) e ∙ zeros_by_max c.args.s.now
