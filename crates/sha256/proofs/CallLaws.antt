@@ -1,21 +1,20 @@
 -- What a call of the hasher answers and leaves, by its tests.
-use Rattle.std.proofs.Common.{◌≡◌, ℕ, ◌<◌, ◌≤◌, true, false, List, length, sym, ◌∙◌, eq-eqb, ne_eqb, le-leb}
+use Rattle.std.proofs.Common.{◌≡◌, ℕ, ◌<◌, ◌≤◌, true, false, List, length, Ok, Err, sym, ◌∙◌, eq-eqb, ne_eqb, le-leb}
 use borrow.Author.Tests.{lt-leb}
 use Rattle.octets.specs.Choice.{pick}
-use Rattle.sha256.specs.declared.Answer.TheVariants.{Done, Length}
 use Rattle.sha256.specs.Hash.{sha256}
-use Rattle.sha256.specs.Call.{longest, fits, answer, after}
+use Rattle.sha256.specs.Call.{longest, fits, wrong_length, answer, after}
 
 module _ (m d : List ℕ) where
-  refused : fits m d ≡ false → (Length ≡ answer m d) × (d ≡ after m d)
+  refused : fits m d ≡ false → (Err wrong_length ≡ answer m d) × (d ≡ after m d)
   unfolding answer after pick
   refused e = (rw e, rw e)
 
-  pub too_long : longest < length m → (Length ≡ answer m d) × (d ≡ after m d)
+  pub too_long : longest < length m → (Err wrong_length ≡ answer m d) × (d ≡ after m d)
   unfolding fits
   too_long h = refused (rw (lt-leb (length m) longest h))
 
-  pub other_digest : length m ≤ longest → (length d ≡ 32 → ⊥) → (Length ≡ answer m d) × (d ≡ after m d)
+  pub other_digest : length m ≤ longest → (length d ≡ 32 → ⊥) → (Err wrong_length ≡ answer m d) × (d ≡ after m d)
   unfolding fits
   other_digest h l = refused (rw (le-leb (length m) longest h, ne_eqb (length d) 32 l))
 
@@ -28,6 +27,6 @@ module _ (m d : List ℕ) where
   unfolding after pick
   written h l = rw (both_fit h l)
 
-  pub hashed_call : (out : List ℕ) → length m ≤ longest → length d ≡ 32 → out ≡ sha256 m → (Done ≡ answer m d) × (out ≡ after m d)
+  pub hashed_call : (out : List ℕ) → length m ≤ longest → length d ≡ 32 → out ≡ sha256 m → (Ok tt ≡ answer m d) × (out ≡ after m d)
   unfolding answer pick
   hashed_call out h l e = (rw (both_fit h l), e ∙ sym (written h l))

@@ -5,17 +5,15 @@ use Rattle.sha256.specs.Functions.{big_sigma1, ch}
 use Rattle.sha256.specs.Constants.{constants}
 use Rattle.sha256.specs.Hash.{temp1, temp2, round_of, round, rounds_from}
 
-pub temp1-is : (e f g h k w a b c d x y : ℕ) → a ≡ big_sigma1 e → b ≡ h ⊞ a → c ≡ ch e f g → d ≡ b ⊞ c → x ≡ d ⊞ k → y ≡ x ⊞ w
-    → y ≡ temp1 e f g h k w
+pub temp1-is : (e f g h k w a c : ℕ) → a ≡ big_sigma1 e → c ≡ ch e f g → h ⊞ a ⊞ c ⊞ k ⊞ w ≡ temp1 e f g h k w
 unfolding temp1
-temp1-is e f g h k w a b c d x y ea eb ec ed ex ey = rw (ey, ex, ed, eb, ea, ec)
+temp1-is e f g h k w a c ea ec = rw (ea, ec)
 
-pub round_is : (w k v : List ℕ) (t a b x y : ℕ) → k ≡ constants
+pub round_is : (w k v : List ℕ) (t a b : ℕ) → k ≡ constants
     → a ≡ temp1 (get_or v 4 0) (get_or v 5 0) (get_or v 6 0) (get_or v 7 0) (get_or k t 0) (get_or w t 0) → b ≡ temp2 (get_or v 0 0) (get_or v 1 0) (get_or v 2 0)
-    → x ≡ a ⊞ b → y ≡ get_or v 3 0 ⊞ a
-    → (x ∷ get_or v 0 0 ∷ get_or v 1 0 ∷ get_or v 2 0 ∷ y ∷ get_or v 4 0 ∷ get_or v 5 0 ∷ get_or v 6 0 ∷ []) ≡ round w t v
+    → ((a ⊞ b) ∷ get_or v 0 0 ∷ get_or v 1 0 ∷ get_or v 2 0 ∷ (get_or v 3 0 ⊞ a) ∷ get_or v 4 0 ∷ get_or v 5 0 ∷ get_or v 6 0 ∷ []) ≡ round w t v
 unfolding round round_of
-round_is w k v t a b x y ek ea eb ex ey = rw (ex, ey, ea, eb, ek)
+round_is w k v t a b ek ea eb = rw (ea, eb, ek)
 
 pub rounds_split : (w : List ℕ) (t m n : ℕ) (s : List ℕ) → rounds_from w t (m + n) s ≡ rounds_from w (t + m) n (rounds_from w t m s)
 unfolding rounds_from

@@ -47,6 +47,10 @@ extended-two w x y t ex ey =
     let e : t + 2 ≡ t + 1 + 1 = omega arith in
     ap (λ k. take k y) e ∙ more (λ t n v. extended v t n) extended_split t 1 1 ex ey
 
+-- two words more, after the k words from W_t on
+pub two_more : (t k : ℕ) (w v : List ℕ) → take (t + k + 2) v ≡ extended (take (t + k) w) (t + k) 2 → take (t + (k + 2)) v ≡ extended (take (t + k) w) (t + k) 2
+two_more t k w v e = let s : t + (k + 2) ≡ t + k + 2 = omega arith in ap (λ n. take n v) s ∙ e
+
 pub schedule_is : (w m : List ℕ) → length w ≡ 64 → take 64 w ≡ extended m 16 48 → w ≡ message_schedule m
 unfolding message_schedule
 schedule_is w m l e = sym (take_all 64 w (omega arith)) ∙ e

@@ -1,8 +1,7 @@
 -- What a call of the hasher answers and leaves, for every message and every lent digest. Definitions only.
-use Rattle.std.specs.Prelude.{ℕ, Bool, ◌&&◌, List, length, ◌==◌, nat_le}
+use Rattle.std.specs.Prelude.{ℕ, Bool, ◌&&◌, List, length, ◌==◌, nat_le, Result, Ok, Err}
 use Rattle.octets.specs.Choice.{pick}
-use Rattle.sha256.specs.declared.Answer.{Answer}
-use Rattle.sha256.specs.declared.Answer.TheVariants.{Done, Length}
+use Rattle.sha256.specs.declared.WrongLength.{WrongLength}
 use Rattle.sha256.specs.Hash.{sha256}
 
 -- the longest message, in bytes
@@ -13,8 +12,11 @@ longest = 1048576
 unfoldable pub fits : List ℕ → List ℕ → Bool
 fits m d = nat_le (length m) longest && length d == 32
 
-unfoldable pub answer : List ℕ → List ℕ → Answer
-answer m d = pick (fits m d) Done Length
+abbrev pub wrong_length : WrongLength
+wrong_length = record {}
+
+unfoldable pub answer : List ℕ → List ℕ → Result Unit WrongLength
+answer m d = pick (fits m d) (Ok tt) (Err wrong_length)
 
 -- what the digest holds afterwards
 unfoldable pub after : List ℕ → List ℕ → List ℕ

@@ -9,7 +9,7 @@ fn rotr(n: u32, x: u32) -> u32
     requires { (0 < n) × (n < 32) }
     ensures { result ≡ s_rotr n x }
 {
-    x >> n | x << (32 - n)
+    x.rotate_right(n)
 }
 
 // (4.2) Ch, without the complement: `ch-form`.

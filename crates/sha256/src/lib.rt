@@ -18,30 +18,32 @@ ghost use Rattle.octets.specs.BigEndian.{be};
 ghost use Rattle.sha256.specs.Hash.{sha256};
 ghost use Rattle.sha256.specs.Call.{longest, answer, after};
 
-// What the hasher answers.
-#[derive(Clone, Copy)]
-pub enum Answer {
-    // the digest is written
-    Done,
-    // the message is over the limit, or the digest's buffer is not 32 bytes long
-    Length,
-}
+// The message is over the limit, or the digest's buffer is not 32 bytes long.
+#[derive(Clone, Copy, Debug, PartialEq, Eq)]
+pub struct WrongLength;
 
 const LONGEST: usize = 1048576;
 
 // Writes the SHA-256 of the message into the lent digest; refuses, and changes nothing, where a length is wrong.
-pub fn digest(message: &[u8], digest: &mut [u8]) -> Answer
+pub fn digest(message: &[u8], digest: &mut [u8]) -> Result<(), WrongLength>
     ensures { (result ≡ answer message.now digest.old)
         × (digest.new ≡ after message.now digest.old) }
 {
-    if message.len() > LONGEST {
-        return Answer::Length;
-    }
-    if digest.len() != 32 {
-        return Answer::Length;
+    if message.len() > LONGEST || digest.len() != 32 {
+        return Err(WrongLength);
     }
     hash::put_digest(hash::hash(message), digest);
-    Answer::Done
+    Ok(())
+}
+
+// The SHA-256 of a message within the limit.
+pub fn digest_of(message: &[u8]) -> [u8; 32]
+    requires { length message.now ≤ longest }
+    ensures { result ≡ sha256 message.now }
+{
+    let mut digest = [0u8; 32];
+    hash::put_digest(hash::hash(message), &mut digest);
+    digest
 }
 
 // Writes the SHA-256 of a word's four bytes with the message after them, which is not copied. Word and message fill a block at least.

@@ -8,8 +8,8 @@ pub fn block(p: &[u8], i: usize) -> [u32; 16]
     ensures { result ≡ s_block p.now i }
 {
     let mut b = [0u32; 16];
-    for t in 0..16usize {
-        b[t] = octets::word_at(p, i * 64 + t * 4);
+    for (t, word) in b.iter_mut().enumerate() {
+        *word = octets::word_at(p, i * 64 + t * 4);
     }
     b
 }

@@ -1,7 +1,6 @@
 -- `big_sigma_1` meets its contract, (4.5): its last two rotations nested are the standard's.
 use Rattle.std.proofs.Common.{sym, ap, ◌∙◌, ap₂, arith}
-use lib.Bits.{bit_xor}
-use Rattle.octets.proofs.Bits.{xor_assoc}
+use lib.Bits.{bit_xor, xor_assoc}
 use Rattle.sha256.specs.Functions.{big_sigma1}
 use Rattle.sha256.specs.Words.{rotr}
 use Rattle.sha256.proofs.BitForms.{rotr_nested}

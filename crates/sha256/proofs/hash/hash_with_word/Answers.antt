@@ -1,10 +1,7 @@
 -- `hash_with_word` meets its contract: the first block, then the blocks of what is left of the message and those of its end.
-use Rattle.std.proofs.Common.{◌-◌, length, drop, sym, refl, arith, length-drop, length-take-le, take_all, rules}
+use Rattle.std.proofs.Common.{◌-◌, length, drop, refl, arith, length-drop, length-take-le, take_all, rules}
 use Rattle.sha256.proofs.HashLaws.{word_first}
 use Rattle.sha256.proofs.hash.hash_with_word.Goals as goal
-
-pub slice_bounds-copy_at-end : goal.slice_bounds-copy_at-end
-slice_bounds-copy_at-end c = sym (length-take-le 60 c.args.m.now c.requires.0)
 
 pub copy_at-requires : goal.copy_at-requires
 copy_at-requires c = let l = length-take-le 60 c.args.m.now c.requires.0 in search rules

@@ -1,18 +1,8 @@
 -- `put_end` meets its contract: the rest copied into zeros, a byte after it, and the length at the end.
-use Rattle.std.proofs.Common.{◌≡◌, ◌-◌, ◌*◌, ◌/◌, length, take, drop, set, replicate, refl, ap, ◌∙◌, arith, length-drop, length-set, take_all, rules}
+use Rattle.std.proofs.Common.{◌≡◌, ◌-◌, ◌*◌, ◌/◌, length, take, drop, set, replicate, refl, ap, ◌∙◌, arith, length-drop, length-set, take_all}
 use lib.Seq.{paste}
 use Rattle.sha256.proofs.PaddingLaws.{length-pad, buffer_length, in_buffer, end_is}
 use Rattle.sha256.proofs.padding.put_end.Goals as goal
-
-pub copy_at-requires : goal.copy_at-requires
-copy_at-requires c =
-    let l : length c.args.end.now ≡ 128 = buffer_length _ c.requires.1 in
-    search rules
-
-pub bounds-end-m : goal.bounds-end-m
-bounds-end-m c =
-    let l : length c.copy_at.new.d ≡ 128 = c.copy_at.auto.d ∙ buffer_length _ c.requires.1 in
-    search rules
 
 pub overflow_mul-end_blocks : goal.overflow_mul-end_blocks
 overflow_mul-end_blocks c = omega (arith, length-pad c.args.m.now, c.end_blocks.ensures)
@@ -26,10 +16,6 @@ put_word-requires c =
     let e = set c.copy_at.new.d (length m - length m / 64 * 64) 0x80 in
     let l : length e ≡ 128 = simp length-set (c.copy_at.auto.d ∙ buffer_length _ c.requires.1) in
     in_buffer e _ l (omega (arith, length-pad m, c.end_blocks.ensures))
-
-pub shape_of-end : goal.shape_of-end
-shape_of-end c = let m = c.args.m.now in
-    c.put_word.auto.s ∙ length-set c.copy_at.new.d (length m - length m / 64 * 64) 0x80 ∙ c.copy_at.auto.d
 
 pub returns : goal.returns
 returns c =

@@ -3,7 +3,4 @@ use Rattle.sha256.proofs.RoundLaws.{temp1-is}
 use Rattle.sha256.proofs.rounds.temp1.Goals as goal
 
 pub returns : goal.returns
-returns c =
-    temp1-is _ _ _ _ _ _ _ _ _ _ _ _ c.big_sigma_1.ensures
-    c.wrapping_add_u32.ensures.value c.ch.ensures
-    c.wrapping_add_u32-2.ensures.value c.wrapping_add_u32-3.ensures.value c.wrapping_add_u32-4.ensures.value
+returns c = temp1-is _ _ _ _ _ _ _ _ c.big_sigma_1.ensures c.ch.ensures

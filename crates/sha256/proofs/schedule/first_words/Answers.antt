@@ -4,11 +4,11 @@ use Rattle.sha256.proofs.ScheduleLaws.{copied_more}
 use Rattle.sha256.proofs.schedule.first_words.Goals as goal
 
 pub loop-t-init : goal.loop-t-init
-loop-t-init c = (omega arith, refl, refl)
+loop-t-init c = (refl, refl)
 
 pub loop-t-preserved : goal.loop-t-preserved
 loop-t-preserved c =
-    (omega arith, simp length-set c.loop-t.invariant.1, copied_more c.args.m _ c.loop-t.t _ (omega arith) (omega arith) c.loop-t.invariant.2 refl)
+    (simp length-set c.loop-t.invariant.0, copied_more c.args.m _ c.loop-t.t _ (omega arith) (omega arith) c.loop-t.invariant.1 refl)
 
 pub returns : goal.returns
-returns c = let e : c.loop-t.t ≡ 16 = omega arith in rw e at c.loop-t.invariant.2 ∙ take_all 16 _ (search rules)
+returns c = let e : c.loop-t.t ≡ 16 = omega arith in rw e at c.loop-t.invariant.1 ∙ take_all 16 _ (search rules)

@@ -8,5 +8,5 @@ use Rattle.sha256.proofs.schedule.message_schedule.Goals as goal
 pub returns : goal.returns
 returns c = schedule_is _ _ (search rules)
     (more (λ t n v. extended v t n) extended_split 16 32 16
-    (more (λ t n v. extended v t n) extended_split 16 16 16 (c.extended_to_32.ensures ∙ ap (λ v. extended v 16 16) c.first_words.ensures) c.extended_to_48.ensures)
-    c.extended_to_64.ensures)
+    (more (λ t n v. extended v t n) extended_split 16 16 16 (c.sixteen_words-w.ensures ∙ ap (λ v. extended v 16 16) c.first_words-w.ensures) c.sixteen_words-w-2.ensures)
+    c.sixteen_words.ensures)
