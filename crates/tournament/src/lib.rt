@@ -4,8 +4,6 @@
 ghost use Rattle.std.specs.Prelude.{◌/◌, ◌≤◌, ◌<◌, length};
 ghost use Rattle.tournament.specs.Tournament.{entries, Tournament, Entered, Least};
 
-use octets::lesser;
-
 // Entry e becomes v, and each node above it, from the lowest up to one that stays as it is, the lesser of the two below it.
 pub fn set(tree: &mut [u32], e: usize, v: u32)
     requires { Tournament tree.old × (e < length tree.old / 2) }
@@ -13,9 +11,10 @@ pub fn set(tree: &mut [u32], e: usize, v: u32)
 {
     let mut i = tree.len() / 2 + e;
     tree[i] = v;
+    // a way up by halves, which no range goes
     while 1 < i {
         i /= 2;
-        let m = lesser(tree[2 * i], tree[2 * i + 1]);
+        let m = tree[2 * i].min(tree[2 * i + 1]);
         if tree[i] == m {
             return;
         }

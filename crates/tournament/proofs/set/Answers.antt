@@ -19,13 +19,13 @@ shape_of-tree-then-tree-i c =
 pub returns-then-tree-i : goal.returns-then-tree-i
 returns-then-tree-i c =
     let a = c.args in
-    rising_stop a.tree.now a.e a.v c.loop-i.tree c.loop-i.i c.loop-i.invariant.0 (c.if-tree-i.true ∙ c.lesser-m.ensures)
+    rising_stop a.tree.now a.e a.v c.loop-i.tree c.loop-i.i c.loop-i.invariant.0 (c.if-tree-i.true ∙ c.min-m.ensures)
 
 pub loop-i-preserved : goal.loop-i-preserved
 loop-i-preserved c =
     let l = c.loop-i in
-    let v = c.lesser-m.result in
-    (rising_turn _ l.tree l.i l.invariant.0 v (omega arith) c.lesser-m.ensures, omega (arith, length-set l.tree (l.i / 2) v))
+    let v = c.min-m.result in
+    (rising_turn _ l.tree l.i l.invariant.0 v (omega arith) c.min-m.ensures, omega (arith, length-set l.tree (l.i / 2) v))
 
 pub shape_of-tree : goal.shape_of-tree
 shape_of-tree c =
