@@ -10,13 +10,14 @@ use lib.ListN.{length, get_or, take, drop, length-take}
 use lib.Seq.{get_or-take}
 use lib.Dec.{ltb}
 use borrow.Author.Tests.{ltb-true, ltb-false}
-use Rattle.parity_table.specs.declared.Answer.{Answer}
-use Rattle.parity_table.specs.declared.Answer.TheVariants.{Depth, Length, Wrong, Whole}
+use Rattle.std.specs.Prelude.{Ok, Err}
+use Rattle.parity_table.specs.declared.TableError.TheVariants as error
 use Rattle.parity_table.specs.Shape.{max_depth, depth_fits, k_of}
 use Rattle.parity_table.specs.Table.{equation_of, TableOk, WellFormed, FirstWrong}
-use Rattle.parity_table.specs.Reader.{layered, run, read_of}
+use Rattle.parity_table.specs.Reader.{Answer, Depth, Wrong, Whole, layered, run, read_of}
 use Rattle.parity_table.specs.Right.{Right}
-use Rattle.parity_table.specs.Parse.{table_of, members_of, index_of, equations_above, number_in, HasEquation, Located}
+use Rattle.parity_table.specs.Parse.{table_of, members_of, index_of, equations_above, number_in, Indexed, HasEquation, Located}
+use Rattle.parity_table.specs.Accepted.{Kept, accepted}
 use Rattle.octets.proofs.ListLaws.{part_ends}
 use Rattle.octets.proofs.Choice.{by_test, pick_ind, pick_yes, pick_no, both}
 use Rattle.parity_table.proofs.Run.{taken-formed, refused-first, run_ends}
@@ -52,19 +53,19 @@ first_unique d ws i j f g =
 
 -- the right answer is one
 pub right_unique : (d : ℕ) (ws : List ℕ) (a b : Answer) → Right d ws a → Right d ws b → a ≡ b
-right_unique d ws Depth Depth p q = refl
-right_unique d ws Depth (Wrong j) p q = both q.0 p
-right_unique d ws Depth Whole p q = both q.0 p
-right_unique d ws (Wrong i) Depth p q = both p.0 q
-right_unique d ws (Wrong i) (Wrong j) p q = ap Wrong (first_unique d ws i j p.1 q.1)
-right_unique d ws (Wrong i) Whole p q = absurd (p.1.refused q.1)
-right_unique d ws Whole Depth p q = both p.0 q
-right_unique d ws Whole (Wrong j) p q = absurd (q.1.refused p.1)
-right_unique d ws Whole Whole p q = refl
-right_unique d ws Length b p q = absurd p
-right_unique d ws Depth Length p q = absurd q
-right_unique d ws (Wrong i) Length p q = absurd q
-right_unique d ws Whole Length p q = absurd q
+right_unique d ws (Err error.Depth) (Err error.Depth) p q = refl
+right_unique d ws (Err error.Depth) (Err (error.Wrong j)) p q = both q.0 p
+right_unique d ws (Err error.Depth) (Ok _) p q = both q.0 p
+right_unique d ws (Err (error.Wrong i)) (Err error.Depth) p q = both p.0 q
+right_unique d ws (Err (error.Wrong i)) (Err (error.Wrong j)) p q = ap Wrong (first_unique d ws i j p.1 q.1)
+right_unique d ws (Err (error.Wrong i)) (Ok _) p q = absurd (p.1.refused q.1)
+right_unique d ws (Ok _) (Err error.Depth) p q = both p.0 q
+right_unique d ws (Ok _) (Err (error.Wrong j)) p q = absurd (q.1.refused p.1)
+right_unique d ws (Ok _) (Ok _) p q = refl
+right_unique d ws (Err error.Length) b p q = absurd p
+right_unique d ws (Err error.Depth) (Err error.Length) p q = absurd q
+right_unique d ws (Err (error.Wrong i)) (Err error.Length) p q = absurd q
+right_unique d ws (Ok _) (Err error.Length) p q = absurd q
 
 -- the reader accepts exactly the well-formed lists, for a depth that there is
 pub accepted-formed : (d : ℕ) (ws : List ℕ) → read_of d ws ≡ Whole → (depth_fits d ≡ true) × WellFormed d ws
@@ -96,6 +97,12 @@ module _ (d : ℕ) (ws : List ℕ) (r : read_of d ws ≡ Whole) where
   -- its index has an entry for each equation
   pub index-length : length (index_of ws) ≡ equations_above d
   index-length = starts-count d ws formed shallow
+
+-- with its index
+pub kept : (d : ℕ) (ws starts : List ℕ) → Indexed d ws starts → Kept (accepted d (table_of ws))
+kept d ws starts x =
+    let (some, shallow) = accepted-depth d ws x.accepted in
+    record { some = some; shallow = shallow; rules = accepted-table d ws x.accepted }
 
 -- ---- where equation e of layer j stands, by an index
 

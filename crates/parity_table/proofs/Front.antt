@@ -8,10 +8,10 @@ use lib.Seq.{length-take-le, take_all, take-take}
 use lib.Dec.{leb}
 use borrow.Author.Tests.{leb-true, leb-false}
 use Rattle.octets.proofs.Choice.{by_test}
-use Rattle.parity_table.specs.declared.Answer.{Answer}
-use Rattle.parity_table.specs.declared.Answer.TheVariants.{Depth, Length, Wrong, Whole}
+use Rattle.std.specs.Prelude.{Ok, Err}
+use Rattle.parity_table.specs.declared.TableError.TheVariants as error
 use Rattle.parity_table.specs.Table.{Begins, FirstWrong}
-use Rattle.parity_table.specs.Reader.{read_of}
+use Rattle.parity_table.specs.Reader.{Answer, Whole, read_of}
 use Rattle.parity_table.specs.Right.{Right}
 use Rattle.parity_table.specs.Longest.{longest}
 use Rattle.parity_table.proofs.Longest.{none_longer}
@@ -53,10 +53,10 @@ module _ (d w : ℕ) (ws : List ℕ) (past : longest d < w) (long : w ≤ length
 
   -- what is right of its front is right of it
   front-right : (a : Answer) → Right d (take w ws) a → Right d ws a
-  front-right Depth r = r
-  front-right Length r = r
-  front-right (Wrong i) r = (r.0, front-wrong i r.1)
-  front-right Whole r = absurd (omega (arith, none_longer d (take w ws) r.1, front_length))
+  front-right (Err error.Depth) r = r
+  front-right (Err error.Length) r = r
+  front-right (Err (error.Wrong i)) r = (r.0, front-wrong i r.1)
+  front-right (Ok _) r = absurd (omega (arith, none_longer d (take w ws) r.1, front_length))
 
   front_same : read_of d (take w ws) ≡ read_of d ws
   front_same = right_unique d ws (read_of d (take w ws)) (read_of d ws) (front-right (read_of d (take w ws)) (read_right d (take w ws))) (read_right d ws)

@@ -12,9 +12,7 @@ use borrow.Author.Tests.{ltb-true, ltb-false, leb-true, eqb-true, lt-ltb, le-ltb
 use Rattle.octets.specs.Choice.{pick}
 use Rattle.parity_table.specs.Shape.{k_of}
 use Rattle.octets.proofs.Choice.{by_test, pick_yes, pick_no, pick_ind, and_yes, yes_and, both}
-use Rattle.parity_table.specs.Reader.{Next, Layer, Equation, Member, End, Nothing, layered, opened, member_fits, fits, after, at_end, run}
-use Rattle.parity_table.specs.declared.Answer.{Answer}
-use Rattle.parity_table.specs.declared.Answer.TheVariants.{Wrong, Whole}
+use Rattle.parity_table.specs.Reader.{Answer, Whole, Wrong, Next, Layer, Equation, Member, End, Nothing, layered, opened, member_fits, fits, after, at_end, run}
 use Rattle.parity_table.specs.Table.{word, TableOk, equations_words, layers_words, table_words, WellFormed, Begins, FirstWrong}
 use Rattle.parity_table.proofs.Shape.{k_pos}
 use Rattle.parity_table.proofs.Rules.{EquationsOk, LayersOk, layers-table, table-layers}

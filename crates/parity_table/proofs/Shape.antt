@@ -5,7 +5,7 @@ use Prim.Native.Nat.{ℕ, suc, ◌+◌, ◌-◌, ◌*◌, ◌%◌, ◌^◌, ◌�
 use native.Mathlib.Omega.{arith}
 use lib.Dec.{leb, ltb}
 use lib.Pow.{pow_pos, pow_mono}
-use borrow.Author.Tests.{leb-true, le-leb, le-ltb, lt-leb, lt-ltb, ltb-false}
+use borrow.Author.Tests.{leb-true, lt-leb, ltb-false}
 use Rattle.octets.proofs.Choice.{and_yes, by_test, yes_and}
 use Rattle.parity_table.specs.Shape.{max_depth, depth_fits, is_deep, k_of, shallow}
 
@@ -15,23 +15,11 @@ pub depth_low : (d : ℕ) → d < 1 → false ≡ depth_fits d
 unfolding depth_fits
 depth_low d h = sym (ap (λ (b : Bool). b && leb d max_depth) (lt-leb 1 d h))
 
-pub depth_mid : (d : ℕ) → 1 ≤ d → leb d max_depth ≡ depth_fits d
-unfolding depth_fits
-depth_mid d h = sym (ap (λ (b : Bool). b && leb d max_depth) (le-leb 1 d h))
-
 pub depth_is : (d : ℕ) → depth_fits d ≡ true → (1 ≤ d) × (d ≤ max_depth)
 unfolding depth_fits
 depth_is d t = let (a, b) = and_yes (leb 1 d) (leb d max_depth) t in (leb-true 1 d a, leb-true d max_depth b)
 
 -- a depth that fits and needs no large arrays
-pub deep-low : (d : ℕ) → d ≤ shallow → false ≡ is_deep d
-unfolding is_deep
-deep-low d h = sym (ap (λ (b : Bool). b && depth_fits d) (le-ltb shallow d h))
-
-pub deep_high : (d : ℕ) → shallow < d → depth_fits d ≡ is_deep d
-unfolding is_deep
-deep_high d h = sym (ap (λ (b : Bool). b && depth_fits d) (lt-ltb shallow d h))
-
 pub not_deep : (d : ℕ) → is_deep d ≡ false → depth_fits d ≡ true → d ≤ shallow
 unfolding is_deep
 not_deep d n f =

@@ -2,12 +2,14 @@
 use mathlib.Core.Path.{◌≡◌, refl, sym, ap, ◌∙◌}
 use mathlib.Core.Bool.{Bool, true, false, ◌&&◌}
 use mathlib.Core.List.{List, [], ◌∷◌, ◌++◌, append_assoc, append-nil}
-use Prim.Native.Nat.{ℕ, suc, ◌+◌, ◌≤◌, ◌<◌}
+use Prim.Native.Nat.{ℕ, ◌+◌, ◌≤◌, ◌<◌}
 use native.Mathlib.Numerals.{add-one}
 use native.Mathlib.Omega.{arith}
 use lib.ListN.{length, get_or, take, drop, set, length-set, take-append-drop}
 use lib.Seq.{drop-cons, drop-length, drop-drop, take-suc-set, drop-set-lt, length-take-le}
 use lib.Dec.{ltb}
+use Rattle.std.specs.List.{prefix_len}
+use mathlib.Core.Bool.{cond}
 use borrow.Author.Tests.{lt-ltb, le-ltb, le-leb, lt-leb}
 use Rattle.octets.specs.Choice.{pick}
 use Rattle.octets.proofs.Choice.{pick_yes, pick_no, yes_and}
@@ -96,25 +98,12 @@ filling_end ws s₀ s q i f h =
     ∙ ap (λ (l : List ℕ). index_of ws ++ l) f.kept
     ∙ ap (λ (k : ℕ). index_of ws ++ drop k s₀) (sym long)
 
--- ---- the members in front
+-- ---- the members in front: as many as the words in front that are members
 
-abbrev pub left : List ℕ → ℕ → ℕ
-left ws o = length (members_of (drop o ws))
-
-pub members_go : (ws : List ℕ) (o : ℕ) → o < length ws → get_or ws o 0 < word 1 0 → left ws o ≡ 1 + left ws (o + 1)
-unfolding members_of
-members_go ws o h g =
-    ap (λ (l : List ℕ). length (members_of l)) (drop-cons ws o 0 h)
-    ∙ ap length (pick_yes (ltb (get_or ws o 0) (word 1 0)) (get_or ws o 0 ∷ members_of (drop (suc o) ws)) [] (lt-ltb (get_or ws o 0) (word 1 0) g))
-    ∙ ap (λ (n : ℕ). suc (left ws n)) (sym (add-one o))
-    ∙ omega arith
-
-pub members_stop : (ws : List ℕ) (o : ℕ) → o < length ws → word 1 0 ≤ get_or ws o 0 → left ws o ≡ 0
-unfolding members_of
-members_stop ws o h g =
-    ap (λ (l : List ℕ). length (members_of l)) (drop-cons ws o 0 h)
-    ∙ ap length (pick_no (ltb (get_or ws o 0) (word 1 0)) (get_or ws o 0 ∷ members_of (drop (suc o) ws)) [] (le-ltb (get_or ws o 0) (word 1 0) g))
-
-pub members-over : (ws : List ℕ) (o : ℕ) → o ≡ length ws → left ws o ≡ 0
-unfolding members_of
-members-over ws o h = ap (λ (n : ℕ). length (members_of (drop n ws))) h ∙ ap (λ (l : List ℕ). length (members_of l)) (drop-length ws)
+pub members-prefix : (ws : List ℕ) → prefix_len (λ w. ltb w (word 1 0)) ws ≡ length (members_of ws)
+unfolding members_of pick
+members-prefix [] = refl
+members-prefix (w ∷ ws) = elim (ltb w (word 1 0)) as (λ b. cond b (1 + prefix_len (λ w. ltb w (word 1 0)) ws) 0 ≡ length (pick b (w ∷ members_of ws) [])) [
+  | true ↦ omega (arith, members-prefix ws)
+  | false ↦ refl
+]

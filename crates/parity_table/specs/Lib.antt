@@ -1,8 +1,10 @@
 pub mod Shape
 pub mod Members
 pub mod Table
+pub mod Kinds
 pub mod Reader
 pub mod Right
 pub mod Parse
 pub mod Coverage
 pub mod Longest
+pub mod Accepted

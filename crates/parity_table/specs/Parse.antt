@@ -1,10 +1,9 @@
 -- The table that a list of words says, and where its equations stand. Definitions only.
 use Rattle.std.specs.Prelude.{◌≡◌, Bool, ◌&&◌, List, [], ◌∷◌, ◌++◌, ℕ, suc, ◌+◌, ◌-◌, ◌*◌, ◌≤◌, ◌<◌, length, take, drop, leb, ltb}
 use Rattle.octets.specs.Choice.{pick}
-use Rattle.parity_table.specs.declared.Answer.TheVariants.{Whole}
 use Rattle.parity_table.specs.Shape.{k_of}
 use Rattle.parity_table.specs.Table.{equation_of, layer_word, equation_word, end_word}
-use Rattle.parity_table.specs.Reader.{read_of}
+use Rattle.parity_table.specs.Reader.{Whole, read_of}
 
 -- ---- the table, by the kinds of the words alone
 

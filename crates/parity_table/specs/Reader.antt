@@ -1,11 +1,34 @@
 -- The table reader as a definition that computes: what may stand next decides whether a word fits, and what may stand after it.
 -- Its answer is the right one and no other is: `read_right`, `right_unique` of proofs/Accepts.antt. Definitions only.
-use Rattle.std.specs.Prelude.{Bool, false, ◌&&◌, List, [], ◌∷◌, ℕ, suc, ◌+◌, ◌*◌, leb, ltb, eqb}
+use Rattle.std.specs.Prelude.{Bool, false, ◌&&◌, List, [], ◌∷◌, ℕ, suc, ◌+◌, ◌*◌, leb, ltb, eqb, Result, Ok, Err}
 use Rattle.octets.specs.Choice.{pick}
-use Rattle.parity_table.specs.declared.Answer.{Answer}
-use Rattle.parity_table.specs.declared.Answer.TheVariants.{Depth, Wrong, Whole}
+use Rattle.parity_table.specs.declared.TableError.{TableError}
+use Rattle.parity_table.specs.declared.TableError.TheVariants as error
 use Rattle.parity_table.specs.Shape.{k_of, depth_fits}
 use Rattle.parity_table.specs.Table.{layer_word, equation_word, end_word}
+
+-- ---- what a reader of a table, or a writer of one, answers
+
+abbrev pub Answer : Type 0
+Answer = Result Unit TableError
+
+-- the table is whole
+abbrev pub Whole : Answer
+Whole = Ok tt
+
+-- the depth is not 1 to the largest
+abbrev pub Depth : Answer
+Depth = Err error.Depth
+
+-- a buffer's length is wrong
+abbrev pub Length : Answer
+Length = Err error.Length
+
+-- the first wrong word, or the number of words of a list that is short
+abbrev pub Wrong : ℕ → Answer
+Wrong i = Err (error.Wrong i)
+
+-- ---- the reader
 
 -- what may stand next
 pub data Next : Type 0 where

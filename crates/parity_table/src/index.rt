@@ -1,9 +1,11 @@
 // Where the equations of a table stand in its words, so that each is reached at once.
-ghost use Rattle.std.specs.Prelude.{◌≡◌, ◌*◌, ◌≤◌, ◌<◌, length, drop};
+ghost use Rattle.std.specs.Prelude.{◌≡◌, ◌*◌, ◌≤◌, ◌<◌, length, drop, ltb};
+ghost use Rattle.std.specs.List.{prefix_len};
 ghost use Rattle.parity_table.specs.Shape.{max_depth, k_of};
-ghost use Rattle.parity_table.specs.Parse.{members_of, index_of, over, number_in, HasEquation, Located};
+ghost use Rattle.parity_table.specs.Table.{layer_word};
+ghost use Rattle.parity_table.specs.Parse.{members_of, opens_equation, index_of, over, number_in, HasEquation, Located};
 
-use crate::{END, EQUATION, LAYER, data_count};
+use crate::{WordKind, data_count};
 
 // Where the members of an equation stand.
 #[derive(Clone, Copy)]
@@ -12,23 +14,39 @@ pub struct Span {
     pub size: usize,
 }
 
+// The word is a member.
+fn is_member(word: u32) -> bool
+    ensures { result ≡ ltb word (layer_word 0) }
+{
+    WordKind::of(word) == WordKind::Member
+}
+
+// The word opens an equation.
+fn opens_equation(word: u32) -> bool
+    ensures { result ≡ opens_equation word }
+{
+    WordKind::of(word) == WordKind::Equation
+}
+
 // Fills starts, from the front, with the place of the first member of each equation, in order.
 pub fn fill(ws: &[u32], starts: &mut [usize])
     requires { length (index_of ws.now) ≤ length starts.old }
     ensures { starts.new ≡ over (index_of ws.now) starts.old }
 {
     let mut found: usize = 0;
-    let mut i: usize = 0;
-    while i < ws.len() {
-        let w = ws[i];
-        i += 1;
-        if EQUATION <= w {
-            if w < END {
-                starts[found] = i;
-                found += 1;
-            }
+    for (i, &w) in ws.iter().enumerate() {
+        if opens_equation(w) {
+            starts[found] = i + 1;
+            found += 1;
         }
     }
+}
+
+// How many members stand in front.
+fn count_front(ws: &[u32]) -> usize
+    ensures { result ≡ prefix_len (λ w. ltb w (layer_word 0)) ws.now }
+{
+    ws.iter().take_while(|&&w| is_member(w)).count()
 }
 
 // How many members stand from word at on.
@@ -36,14 +54,7 @@ pub fn count_members(ws: &[u32], at: usize) -> usize
     requires { at ≤ length ws.now }
     ensures { result ≡ length (members_of (drop at ws.now)) }
 {
-    let mut n: usize = 0;
-    while at + n < ws.len() {
-        if LAYER <= ws[at + n] {
-            return n;
-        }
-        n += 1;
-    }
-    n
+    count_front(&ws[at..])
 }
 
 // The number of equation e of layer j among all equations.

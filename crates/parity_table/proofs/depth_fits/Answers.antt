@@ -1,9 +1,8 @@
--- `depth_fits` meets its contract: two tests.
-use Rattle.parity_table.proofs.Shape.{depth_low, depth_mid}
+-- `depth_fits` meets its contract: one range.
+use Rattle.std.proofs.Common.{rules}
+use Rattle.parity_table.specs.Shape.{depth_fits}
 use Rattle.parity_table.proofs.depth_fits.Goals as goal
 
-pub returns-then-depth-lt1 : goal.returns-then-depth-lt1
-returns-then-depth-lt1 c = depth_low c.args.depth c.if-depth-lt1.true
-
 pub returns : goal.returns
-returns c = depth_mid c.args.depth c.if-depth-lt1.false
+unfolding depth_fits
+returns c = search rules

@@ -1,10 +1,12 @@
 -- `is_deep` meets its contract: two tests.
-use mathlib.Core.Path.{◌∙◌}
-use Rattle.parity_table.proofs.Shape.{deep_high, deep-low}
+use Rattle.std.proofs.Common.{rules}
+use Rattle.parity_table.specs.Shape.{is_deep}
 use Rattle.parity_table.proofs.is_deep.Goals as goal
 
-pub returns-then-depth-le-SHALLOW : goal.returns-then-depth-le-SHALLOW
-returns-then-depth-le-SHALLOW c = deep-low c.args.depth c.if-depth-le-SHALLOW.true
+pub returns-then-depth-gt-SHALLOW : goal.returns-then-depth-gt-SHALLOW
+unfolding is_deep
+returns-then-depth-gt-SHALLOW c = search rules
 
-pub returns : goal.returns
-returns c = c.depth_fits.ensures ∙ deep_high c.args.depth c.if-depth-le-SHALLOW.false
+pub returns-else-depth-gt-SHALLOW : goal.returns-else-depth-gt-SHALLOW
+unfolding is_deep
+returns-else-depth-gt-SHALLOW c = search rules

@@ -1,31 +1,14 @@
--- `count_members` meets its contract. The loop keeps: the members counted and those from here are all.
-use mathlib.Core.Path.{ap}
-use Prim.Native.Nat.{ℕ, ◌+◌}
-use native.Mathlib.Omega.{arith}
-use Rattle.parity_table.proofs.Starts.{left, members_go, members_stop, members-over}
-use native.Mathlib.Nat.{add-zero, add_assoc}
+-- `count_members` meets its contract: the words from there on to the list's end are all the words from there on.
+use Rattle.std.proofs.Common.{◌≡◌, ◌-◌, ◌∙◌, ap, List, ℕ, length, drop, take, arith}
+use lib.Seq.{take_all}
+use lib.ListN.{length-drop}
+use Rattle.parity_table.specs.Parse.{members_of}
+use Rattle.parity_table.proofs.Starts.{members-prefix}
 use Rattle.parity_table.proofs.index.count_members.Goals as goal
-
-pub loop-n-init : goal.loop-n-init
-loop-n-init c = (omega arith, omega (arith, ap (λ (k : ℕ). left c.args.ws.now k) (add-zero c.args.at)))
-
-pub returns-then-ws-at-ge-LAYER : goal.returns-then-ws-at-ge-LAYER
-returns-then-ws-at-ge-LAYER c =
-    let a = c.args in
-    let l = c.loop-n in
-    omega (arith, members_stop a.ws.now (a.at + l.n) (omega arith) c.if-ws-at-ge-LAYER.true, l.invariant.1)
-
-pub loop-n-preserved : goal.loop-n-preserved
-loop-n-preserved c =
-    let a = c.args in
-    let l = c.loop-n in (
-      omega arith,
-      omega
-          (arith, members_go a.ws.now (a.at + l.n) (omega arith) (omega (arith, c.if-ws-at-ge-LAYER.false)), l.invariant.1, ap (λ (k : ℕ). left a.ws.now k) (add_assoc a.at l.n 1)),
-    )
 
 pub returns : goal.returns
 returns c =
-    let a = c.args in
-    let l = c.loop-n in
-    omega (arith, members-over a.ws.now (a.at + l.n) (omega arith), l.invariant.1)
+    let ws = c.args.ws.now in
+    let n = c.args.at in
+    let same : take (length ws - n) (drop n ws) ≡ drop n ws = take_all (length ws - n) (drop n ws) (omega (arith, length-drop n ws)) in
+    c.count_front.ensures ∙ members-prefix (take (length ws - n) (drop n ws)) ∙ ap (λ (x : List ℕ). length (members_of x)) same

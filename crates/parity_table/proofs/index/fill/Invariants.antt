@@ -1,11 +1,6 @@
 -- `fill` meets its contract. The loop keeps `Filling`: the starts found in the words passed are written.
-use Prim.Native.Nat.{◌-◌}
-use lib.ListN.{length}
 use Rattle.parity_table.proofs.Starts.{Filling}
 use Rattle.parity_table.proofs.index.fill.Given as goal
 
 abbrev pub invariant-loop-i : goal.invariant-loop-i
 invariant-loop-i l = Filling l.ws l.initial.starts l.starts l.found l.i
-
-abbrev pub decreases-loop-i : goal.decreases-loop-i
-decreases-loop-i l = length l.ws - l.i
