@@ -1,25 +1,37 @@
 -- The reader's definition, a word at a time from a place of the list: what the proofs of its code cite.
 use mathlib.Core.Path.{◌≡◌, refl, sym, ap, ◌∙◌}
-use mathlib.Core.Bool.{Bool, true, false, ◌&&◌, true≢false}
+use mathlib.Core.Bool.{Bool, true, false, ◌&&◌}
 use mathlib.Core.Logic.{⊎_elim}
 use mathlib.Core.List.{List}
-use Prim.Native.Nat.{ℕ, suc, ◌+◌, ◌-◌, ◌*◌, ◌≤◌, ◌<◌}
+use Prim.Native.Nat.{ℕ, suc, ◌+◌, ◌*◌, ◌≤◌, ◌<◌}
 use native.Mathlib.Numerals.{add-one}
-use native.Mathlib.Omega.{arith}
 use lib.ListN.{length, get_or, drop, drop_of_length-le}
 use lib.Seq.{drop-cons}
 use lib.Dec.{ltb, eqb}
-use borrow.Author.Tests.{ltb-true, ltb-false, eqb-true, eqb-false, lt-ltb, le-ltb, le-leb, lt-leb, eq-eqb, ne_eqb}
+use borrow.Author.Tests.{ltb-true, ltb-false, eqb-true, lt-ltb, le-ltb}
 use Rattle.octets.specs.Choice.{pick}
-use Rattle.parity_table.specs.declared.Answer.TheVariants.{Wrong, Whole}
-use Rattle.table_reader.specs.declared.Word.{Word}
-use Rattle.table_reader.specs.declared.Word.TheVariants.{Is, Past}
+use Rattle.std.specs.Prelude.{Option, Some, None, Ok, Err}
+use Rattle.std.specs.Result.{IsErrAnd}
+use Rattle.std.proofs.lemmas.Result.{err_from_is_err_and}
+use Rattle.parity_table.specs.declared.TableError.{TableError}
 use Rattle.parity_table.specs.Shape.{k_of}
 use Rattle.parity_table.specs.Table.{layer_word, equation_word, end_word}
-use Rattle.parity_table.specs.Reader.{Next, Layer, Equation, Member, End, Nothing, layered, opened, member_fits, fits, after, at_end, run}
-use Rattle.table_reader.specs.Steps.{word_at, word_is}
-use Rattle.octets.proofs.Choice.{by_test, pick_yes, pick_no, and_yes}
+use Rattle.parity_table.specs.Reader.{Answer, Wrong, Whole, Next, Layer, Equation, Member, End, Nothing, layered, opened, member_fits, fits, after, at_end, run}
+use Rattle.table_reader.specs.Steps.{word_at, word_is, goes_on, WordRead}
+use Rattle.octets.proofs.Choice.{by_test, pick_yes, pick_no, pick_ind, and_yes}
 use Rattle.parity_table.proofs.Run.{member-fits, after-goes, after-ends}
+
+-- ---- a refusal that a `?` hands on
+
+pub refused_by : (d : ℕ) (s : Next) (ws : List ℕ) (at : ℕ) {x : TableError} (r q : Answer) → r ≡ Err x → IsErrAnd q (λ y. y ≡ x) → goes_on d s ws at r ≡ q
+refused_by d s ws at r q e f = let (y, g, h) = err_from_is_err_and q f in ap (goes_on d s ws at) e ∙ ap {B = Answer} Err (sym h) ∙ sym g
+
+-- what was next matters no more
+pub handed_on : (d : ℕ) (s t : Next) (ws : List ℕ) (at to : ℕ) {x : TableError} (r q : Answer) → r ≡ Err x → IsErrAnd q (λ y. y ≡ x)
+    → goes_on d s ws at r ≡ goes_on d t ws to q
+handed_on d s t ws at to r q e f =
+    let (y, g, h) = err_from_is_err_and q f in
+    refused_by d s ws at r q e f ∙ g ∙ sym (ap (goes_on d t ws to) g)
 
 -- ---- a turn of the reader, and its end
 
@@ -45,36 +57,14 @@ past d i s ws h = ap (run d i s) (drop_of_length-le ws {i = i} h)
 
 -- ---- what stands at a place
 
-pub word_stands : (ws : List ℕ) (i : ℕ) → i < length ws → word_at ws i ≡ Is (get_or ws i 0)
+pub word-found : (ws : List ℕ) (i w : ℕ) → word_at ws i ≡ Some w → (i < length ws) × (get_or ws i 0 ≡ w)
 unfolding word_at
-word_stands ws i h = pick_yes (ltb i (length ws)) (Is (get_or ws i 0)) Past (lt-ltb i (length ws) h)
+word-found ws i w =
+    pick_ind (λ (o : Option ℕ). o ≡ Some w → (i < length ws) × (get_or ws i 0 ≡ w)) (ltb i (length ws)) (λ t q. (ltb-true i (length ws) t, cc)) (λ t q. cc)
 
-pub word_over : (ws : List ℕ) (i : ℕ) → length ws ≤ i → word_at ws i ≡ Past
+pub word-missing : (ws : List ℕ) (i : ℕ) → word_at ws i ≡ None → length ws ≤ i
 unfolding word_at
-word_over ws i h = pick_no (ltb i (length ws)) (Is (get_or ws i 0)) Past (le-ltb i (length ws) h)
-
--- the word of a place that has one
-abbrev value_of : Word → ℕ
-value_of (Is w) = w
-value_of Past = 0
-
-abbrev is_word : Word → Bool
-is_word (Is w) = true
-is_word Past = false
-
-pub word-found : (ws : List ℕ) (i w : ℕ) → word_at ws i ≡ Is w → (i < length ws) × (get_or ws i 0 ≡ w)
-word-found ws i w q =
-    by_test (ltb i (length ws))
-    (λ t.
-    let h : i < length ws = ltb-true i (length ws) t in
-    (h, ap value_of (sym (word_stands ws i h) ∙ q)))
-    (λ t. absurd (true≢false (ap is_word (sym q ∙ word_over ws i (ltb-false i (length ws) t)))))
-
-pub word-missing : (ws : List ℕ) (i : ℕ) → word_at ws i ≡ Past → length ws ≤ i
-word-missing ws i q =
-    by_test (ltb i (length ws))
-    (λ t. absurd (true≢false (ap is_word (sym (word_stands ws i (ltb-true i (length ws) t)) ∙ q))))
-    (λ t. ltb-false i (length ws) t)
+word-missing ws i = pick_ind (λ (o : Option ℕ). o ≡ None → length ws ≤ i) (ltb i (length ws)) (λ t q. cc) (λ t q. ltb-false i (length ws) t)
 
 -- ---- a word that has to be
 
@@ -85,18 +75,6 @@ word-inside ws i w t = ltb-true i (length ws) (and_yes (ltb i (length ws)) (eqb 
 pub word-here : (ws : List ℕ) (i w : ℕ) → i < length ws → eqb (get_or ws i 0) w ≡ word_is ws i w
 unfolding word_is
 word-here ws i w h = sym (ap (λ (b : Bool). b && eqb (get_or ws i 0) w) (lt-ltb i (length ws) h))
-
-pub word_past : (ws : List ℕ) (i w : ℕ) → length ws ≤ i → false ≡ word_is ws i w
-unfolding word_is
-word_past ws i w h = sym (ap (λ (b : Bool). b && eqb (get_or ws i 0) w) (le-ltb i (length ws) h))
-
-pub word_same : (ws : List ℕ) (i w x : ℕ) → word_at ws i ≡ Is w → eqb w x ≡ word_is ws i x
-word_same ws i w x q =
-    let found = word-found ws i w q in
-    ap (λ (y : ℕ). eqb y x) (sym found.1) ∙ word-here ws i x found.0
-
-pub word_none : (ws : List ℕ) (i x : ℕ) → word_at ws i ≡ Past → false ≡ word_is ws i x
-word_none ws i x q = word_past ws i x (word-missing ws i q)
 
 -- where one word alone may stand, the reader goes on past it, or stops
 module _ (d i : ℕ) (s t : Next) (w : ℕ) (ws : List ℕ) (one : (x : ℕ) → fits i s x ≡ eqb x w) (next : after d s w ≡ t) (stop : at_end i s ≡ Wrong i) where
@@ -114,63 +92,35 @@ module _ (d i : ℕ) (s t : Next) (w : ℕ) (ws : List ℕ) (one : (x : ℕ) →
       turn_no d i s ws h (one (get_or ws i 0) ∙ word-here ws i w h ∙ q))
       (λ p. past d i s ws (ltb-false i (length ws) p) ∙ stop)
 
-module _ (d i j : ℕ) (ws : List ℕ) where
-  pub goes-layer : word_is ws i (layer_word j) ≡ true → run d i (Layer j) (drop i ws) ≡ run d (i + 1) (opened d j 0) (drop (i + 1) ws)
-  unfolding fits after at_end
-  goes-layer = goes d i (Layer j) (opened d j 0) (layer_word j) ws (λ x. refl) refl refl
+  -- so where the code has read one
+  leads : (to : ℕ) (r : Answer) → WordRead ws i w to r → run d i s (drop i ws) ≡ goes_on d t ws to r
+  leads to (Ok _) (h, n) = goes h ∙ ap (λ (x : ℕ). run d x t (drop x ws)) (sym n)
+  leads to (Err e) (h, q) = stops h ∙ sym q
 
-  pub stops_layer : word_is ws i (layer_word j) ≡ false → run d i (Layer j) (drop i ws) ≡ Wrong i
+module _ (d i to : ℕ) (ws : List ℕ) (r : Answer) where
+  pub layer-leads : (j : ℕ) → WordRead ws i (layer_word j) to r → run d i (Layer j) (drop i ws) ≡ goes_on d (opened d j 0) ws to r
   unfolding fits after at_end
-  stops_layer = stops d i (Layer j) (opened d j 0) (layer_word j) ws (λ x. refl) refl refl
+  layer-leads j = leads d i (Layer j) (opened d j 0) (layer_word j) ws (λ x. refl) refl refl to r
 
-module _ (d i j e : ℕ) (ws : List ℕ) where
-  pub goes-equation : word_is ws i (equation_word e) ≡ true → run d i (Equation j e) (drop i ws) ≡ run d (i + 1) (Member j e 0 0) (drop (i + 1) ws)
+  pub equation-leads : (j e : ℕ) → WordRead ws i (equation_word e) to r → run d i (Equation j e) (drop i ws) ≡ goes_on d (Member j e 0 0) ws to r
   unfolding fits after at_end
-  goes-equation = goes d i (Equation j e) (Member j e 0 0) (equation_word e) ws (λ x. refl) refl refl
+  equation-leads j e = leads d i (Equation j e) (Member j e 0 0) (equation_word e) ws (λ x. refl) refl refl to r
 
-  pub stops_equation : word_is ws i (equation_word e) ≡ false → run d i (Equation j e) (drop i ws) ≡ Wrong i
+  pub end-leads : WordRead ws i (end_word i) to r → run d i End (drop i ws) ≡ goes_on d Nothing ws to r
   unfolding fits after at_end
-  stops_equation = stops d i (Equation j e) (Member j e 0 0) (equation_word e) ws (λ x. refl) refl refl
+  end-leads = leads d i End Nothing (end_word i) ws (λ x. refl) refl refl to r
 
+-- after the end word
 module _ (d i : ℕ) (ws : List ℕ) where
-  goes_end : word_is ws i (end_word i) ≡ true → run d i End (drop i ws) ≡ run d (i + 1) Nothing (drop (i + 1) ws)
-  unfolding fits after at_end
-  goes_end = goes d i End Nothing (end_word i) ws (λ x. refl) refl refl
-
-  pub stops_end : word_is ws i (end_word i) ≡ false → Wrong i ≡ run d i End (drop i ws)
-  unfolding fits after at_end
-  stops_end q = sym (stops d i End Nothing (end_word i) ws (λ x. refl) refl refl q)
-
-  -- a word after the end word
-  pub end_more : word_is ws i (end_word i) ≡ true → i + 1 < length ws → Wrong (i + 1) ≡ run d i End (drop i ws)
+  pub end_more : i < length ws → run d i Nothing (drop i ws) ≡ Wrong i
   unfolding fits
-  end_more q h = sym (goes_end q ∙ turn_no d (i + 1) Nothing ws h refl)
+  end_more h = turn_no d i Nothing ws h refl
 
-  pub end-last : word_is ws i (end_word i) ≡ true → length ws ≤ i + 1 → Whole ≡ run d i End (drop i ws)
+  pub end-last : length ws ≤ i → run d i Nothing (drop i ws) ≡ Whole
   unfolding at_end
-  end-last q h = sym (goes_end q ∙ past d (i + 1) Nothing ws h)
+  end-last h = past d i Nothing ws h
 
 -- ---- a member
-
-pub member-low : (z m lo w : ℕ) → w < lo → false ≡ member_fits z m lo w
-unfolding member_fits
-member-low z m lo w h = sym (ap (λ (b : Bool). b && pick (ltb w z) (ltb m 7) (eqb w z && ltb 0 m)) (lt-leb lo w h))
-
-member_high : (z m lo w : ℕ) → lo ≤ w → member_fits z m lo w ≡ pick (ltb w z) (ltb m 7) (eqb w z && ltb 0 m)
-unfolding member_fits
-member_high z m lo w h = ap (λ (b : Bool). b && pick (ltb w z) (ltb m 7) (eqb w z && ltb 0 m)) (le-leb lo w h)
-
-pub member_mid : (z m lo w : ℕ) → lo ≤ w → w < z → ltb m 7 ≡ member_fits z m lo w
-member_mid z m lo w h g = sym (member_high z m lo w h ∙ pick_yes (ltb w z) _ _ (lt-ltb w z g))
-
-member-end : (z m lo w : ℕ) → lo ≤ w → z ≤ w → member_fits z m lo w ≡ (eqb w z && ltb 0 m)
-member-end z m lo w h g = member_high z m lo w h ∙ pick_no (ltb w z) _ _ (le-ltb w z g)
-
-pub member_is : (z m lo w : ℕ) → lo ≤ w → w ≡ z → ltb 0 m ≡ member_fits z m lo w
-member_is z m lo w h g = sym (member-end z m lo w h (omega arith) ∙ ap (λ (b : Bool). b && ltb 0 m) (eq-eqb w z g))
-
-pub member-over : (z m lo w : ℕ) → lo ≤ w → z ≤ w → (w ≡ z → ⊥) → false ≡ member_fits z m lo w
-member-over z m lo w h g n = sym (member-end z m lo w h g ∙ ap (λ (b : Bool). b && ltb 0 m) (ne_eqb w z n))
 
 -- a member that fits and isn't the last is below it, and at most the seventh
 pub member-more : (z m lo w : ℕ) → member_fits z m lo w ≡ true → (w ≡ z → ⊥) → (w < z) × (m < 7)
@@ -199,12 +149,6 @@ module _ (d i j e m lo : ℕ) (ws : List ℕ) where
       (after-goes d j e m lo (get_or ws i 0) b.0
       ∙ ap (λ (n : ℕ). Member j e n (suc (get_or ws i 0))) (sym (add-one m))
       ∙ ap (Member j e (m + 1)) (sym (add-one (get_or ws i 0))))
-
--- a test of a difference
-pub minus_test : (w b v : ℕ) → b ≤ w → eqb (w - b) v ≡ eqb w (b + v)
-minus_test w b v h =
-    by_test (eqb (w - b) v) (λ t. t ∙ sym (eq-eqb w (b + v) (omega (arith, eqb-true (w - b) v t))))
-    (λ t. t ∙ sym (ne_eqb w (b + v) (λ q. eqb-false (w - b) v t (omega arith))))
 
 -- ---- the next equation, and the next layer
 

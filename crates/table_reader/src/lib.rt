@@ -3,32 +3,32 @@
 
 ghost use Rattle.std.specs.Prelude.{◌≡◌, ◌+◌, ◌*◌, ◌<◌, ◌≤◌, ◌^◌, eqb};
 ghost use Rattle.parity_table.specs.Shape.{max_depth};
-ghost use Rattle.parity_table.specs.Reader.{member_fits, layered, run, read_of};
-ghost use Rattle.table_reader.specs.Steps.{word_at, word_is, MembersRead, EquationRead, EquationsRead, LayerRead, LayersRead, EndRead, FinishRead};
+ghost use Rattle.parity_table.specs.Reader.{member_fits, read_of};
+ghost use Rattle.table_reader.specs.Steps.{word_at, word_is, WordRead, MembersRead, EquationRead, EquationsRead, LayerRead, LayersRead, EndRead};
 
-use parity_table::{Answer, END, EQUATION, LAYER, data_count, depth_fits};
+use parity_table::{END, EQUATION, LAYER, TableError, data_count, depth_fits};
+use std::cmp::Ordering;
 
-// A place in the list of words.
-#[derive(Clone, Copy)]
-pub struct Cursor {
-    pub at: usize,
+// Number x may be a member after count members, at least low, in an equation whose last is last. As one boolean expression it is compiled to no branches,
+// and reading a table then takes half as long again.
+fn member_fits(last: usize, count: usize, low: usize, x: usize) -> bool
+    ensures { result ≡ member_fits last count low x }
+{
+    if x < low {
+        return false;
+    }
+    match x.cmp(&last) {
+        Ordering::Less => count < 7,
+        Ordering::Equal => 0 < count,
+        Ordering::Greater => false,
+    }
 }
 
-// What reading from a place finds.
-#[derive(Clone, Copy)]
-pub enum Step {
-    // the words fit, up to this place
-    To(Cursor),
-    // the first wrong word, or the number of words of a list that is short
-    Wrong(usize),
-}
-
-// What stands at a place of a list.
-#[derive(Clone, Copy)]
-pub enum Word {
-    Is(u32),
-    // the list has ended
-    Past,
+// w is the word of value v of the kind whose words start at base.
+fn is_word(w: u32, base: u32, v: usize) -> bool
+    ensures { result ≡ eqb w (base + v) }
+{
+    base <= w && (w - base) as usize == v
 }
 
 // A table's list of words together with the place of the next one.
@@ -38,223 +38,123 @@ pub struct TableReader<'a> {
     pub at: usize,
 }
 
-// The word at a place.
-fn word_at(ws: &[u32], at: usize) -> Word
-    ensures { result ≡ word_at ws.now at }
-{
-    if at < ws.len() {
-        return Word::Is(ws[at]);
+// Each part of a table is read from the next word on. Where its words fit, the reader then stands past them; else the error is the first wrong word,
+// or the number of words of a list that is short.
+impl<'a> TableReader<'a> {
+    // The next word.
+    fn next(&self) -> Option<u32>
+        ensures { result ≡ word_at self.now.words.now self.now.at }
+    {
+        self.words.get(self.at).copied()
     }
-    Word::Past
-}
 
-// A reader whose next word is number at.
-fn reader_at<'a>(words: &'a [u32], at: usize) -> TableReader<'a>
-    ensures { (result.words ≡ words.entry) × (result.at ≡ at) }
-{
-    TableReader { words, at }
-}
-
-// The reader's next word.
-fn next<'a>(r: TableReader<'a>) -> Word
-    ensures { result ≡ word_at r.entry.words.now r.entry.at }
-{
-    word_at(r.words, r.at)
-}
-
-// Word number at, by a reader.
-fn next_word(ws: &[u32], at: usize) -> Word
-    ensures { result ≡ word_at ws.now at }
-{
-    next(reader_at(ws, at))
-}
-
-// w is the word of value v of the kind whose words start at base.
-fn is_word(w: u32, base: u32, v: usize) -> bool
-    ensures { result ≡ eqb w (base + v) }
-{
-    if w < base {
-        return false;
+    // The next word is that of value v of the kind whose words start at base.
+    fn next_is(&self, base: u32, v: usize) -> bool
+        ensures { result ≡ word_is self.now.words.now self.now.at (base + v) }
+    {
+        self.next().is_some_and(|w| is_word(w, base, v))
     }
-    (w - base) as usize == v
-}
 
-// Word number at is that of value v of the kind whose words start at base.
-fn word_is(ws: &[u32], at: usize, base: u32, v: usize) -> bool
-    ensures { result ≡ word_is ws.now at (base + v) }
-{
-    match next_word(ws, at) {
-        Word::Is(w) => is_word(w, base, v),
-        Word::Past => false,
-    }
-}
-
-// Number x may be a member after count members, at least low, in an equation whose last is last.
-fn member_fits(last: usize, count: usize, low: usize, x: usize) -> bool
-    ensures { result ≡ member_fits last count low x }
-{
-    if x < low {
-        return false;
-    }
-    if x < last {
-        return count < 7;
-    }
-    if x == last {
-        return 0 < count;
-    }
-    false
-}
-
-// The members of an equation whose last member is last.
-fn members(ws: &[u32], c: Cursor, last: usize) -> Step
-    ensures { MembersRead ws.now c.at last result }
-{
-    let mut at = c.at;
-    let mut count: usize = 0;
-    let mut low: usize = 0;
-    loop {
-        let Word::Is(w) = next_word(ws, at) else {
-            return Step::Wrong(at);
-        };
-        let x = w as usize;
-        if !member_fits(last, count, low, x) {
-            return Step::Wrong(at);
+    // The word of value v of the kind whose words start at base.
+    fn word(&mut self, base: u32, v: usize) -> Result<(), TableError>
+        ensures same { self.new.words ≡ self.old.words }
+        ensures read { WordRead self.old.words.now self.old.at (base + v) self.new.at result }
+    {
+        if !self.next_is(base, v) {
+            return Err(TableError::Wrong(self.at));
         }
-        at += 1;
-        if x == last {
-            return Step::To(Cursor { at });
+        self.at += 1;
+        Ok(())
+    }
+
+    // The members of an equation whose last member is last.
+    fn members(&mut self, last: usize) -> Result<(), TableError>
+        ensures same { self.new.words ≡ self.old.words }
+        ensures read { MembersRead self.old.words.now self.old.at last self.new.at result }
+    {
+        let mut count: usize = 0;
+        let mut low: usize = 0;
+        loop {
+            let Some(w) = self.next() else {
+                return Err(TableError::Wrong(self.at));
+            };
+            let x = w as usize;
+            if !member_fits(last, count, low, x) {
+                return Err(TableError::Wrong(self.at));
+            }
+            self.at += 1;
+            if x == last {
+                return Ok(());
+            }
+            count += 1;
+            low = x + 1;
         }
-        count += 1;
-        low = x + 1;
     }
-}
 
-// Equation e of a layer with k data symbols.
-fn equation(ws: &[u32], c: Cursor, k: usize, e: usize) -> Step
-    requires { (k ≤ 4 * 2 ^ max_depth) × (e < 3 * k) }
-    ensures { EquationRead ws.now c.at k e result }
-{
-    let at = c.at;
-    if !word_is(ws, at, EQUATION, e) {
-        return Step::Wrong(at);
+    // Equation e of a layer with k data symbols.
+    fn equation(&mut self, k: usize, e: usize) -> Result<(), TableError>
+        requires { (k ≤ 4 * 2 ^ max_depth) × (e < 3 * k) }
+        ensures same { self.new.words ≡ self.old.words }
+        ensures read { EquationRead self.old.words.now self.old.at k e self.new.at result }
+    {
+        self.word(EQUATION, e)?;
+        self.members(k + e)
     }
-    members(ws, Cursor { at: at + 1 }, k + e)
-}
 
-// The equations of a layer with k data symbols.
-fn equations(ws: &[u32], c: Cursor, k: usize) -> Step
-    requires { k ≤ 4 * 2 ^ max_depth }
-    ensures { EquationsRead ws.now c.at k result }
-{
-    let mut next = c;
-    let mut e: usize = 0;
-    while e < 3 * k {
-        match equation(ws, next, k, e) {
-            Step::To(n) => {
-                next = n;
-            }
-            Step::Wrong(i) => {
-                return Step::Wrong(i);
-            }
+    // The equations of a layer with k data symbols.
+    fn equations(&mut self, k: usize) -> Result<(), TableError>
+        requires { k ≤ 4 * 2 ^ max_depth }
+        ensures same { self.new.words ≡ self.old.words }
+        ensures read { EquationsRead self.old.words.now self.old.at k self.new.at result }
+    {
+        for e in 0..3 * k {
+            self.equation(k, e)?;
         }
-        e += 1;
+        Ok(())
     }
-    Step::To(next)
-}
 
-// Layer j.
-fn layer(ws: &[u32], c: Cursor, j: usize) -> Step
-    requires { j < max_depth }
-    ensures { LayerRead ws.now c.at j result }
-{
-    let at = c.at;
-    if !word_is(ws, at, LAYER, j) {
-        return Step::Wrong(at);
+    // Layer j.
+    fn layer(&mut self, j: usize) -> Result<(), TableError>
+        requires { j < max_depth }
+        ensures same { self.new.words ≡ self.old.words }
+        ensures read { LayerRead self.old.words.now self.old.at j self.new.at result }
+    {
+        self.word(LAYER, j)?;
+        self.equations(data_count(j))
     }
-    equations(ws, Cursor { at: at + 1 }, data_count(j))
-}
 
-// All layers of a table of this depth, from a place on.
-fn layers_from(ws: &[u32], at: usize, depth: usize) -> Step
-    requires { depth ≤ max_depth }
-    ensures { LayersRead ws.now at depth result }
-{
-    let mut next = Cursor { at };
-    let mut j: usize = 0;
-    while j < depth {
-        match layer(ws, next, j) {
-            Step::To(n) => {
-                next = n;
-            }
-            Step::Wrong(i) => {
-                return Step::Wrong(i);
-            }
+    // All layers of a table of this depth.
+    fn layers(&mut self, depth: usize) -> Result<(), TableError>
+        requires { depth ≤ max_depth }
+        ensures same { self.new.words ≡ self.old.words }
+        ensures read { LayersRead self.old.words.now self.old.at depth self.new.at result }
+    {
+        for j in 0..depth {
+            self.layer(j)?;
         }
-        j += 1;
+        Ok(())
     }
-    Step::To(next)
-}
 
-// The end word at a place, and nothing after it.
-fn end_at(ws: &[u32], at: usize) -> Answer
-    ensures { EndRead ws.now at result }
-{
-    if !word_is(ws, at, END, at) {
-        return Answer::Wrong(at);
+    // The end word, and nothing after it.
+    fn end(&mut self) -> Result<(), TableError>
+        ensures { EndRead self.old.words.now self.old.at result }
+    {
+        self.word(END, self.at)?;
+        if self.at < self.words.len() {
+            return Err(TableError::Wrong(self.at));
+        }
+        Ok(())
     }
-    if at + 1 < ws.len() {
-        return Answer::Wrong(at + 1);
-    }
-    Answer::Whole
-}
-
-// The reader at another place of its list.
-fn moved<'a>(r: TableReader<'a>, at: usize) -> TableReader<'a>
-    ensures { (result.words ≡ r.entry.words) × (result.at ≡ at) }
-{
-    TableReader { words: r.words, at }
-}
-
-// All layers of a table of this depth, from the reader's next word on.
-fn layers<'a>(r: TableReader<'a>, depth: usize) -> Step
-    requires { depth ≤ max_depth }
-    ensures { LayersRead r.entry.words.now r.entry.at depth result }
-{
-    layers_from(r.words, r.at, depth)
-}
-
-// The end word next, and nothing after it.
-fn end<'a>(r: TableReader<'a>) -> Answer
-    ensures { EndRead r.entry.words.now r.entry.at result }
-{
-    end_at(r.words, r.at)
-}
-
-// The end of a table where reading its layers has led.
-fn finish<'a>(r: TableReader<'a>, s: Step) -> Answer
-    ensures { FinishRead r.entry.words.now s result }
-{
-    match s {
-        Step::To(c) => end(moved(r, c.at)),
-        Step::Wrong(i) => Answer::Wrong(i),
-    }
-}
-
-// Reads a table of a depth that fits: its layers from the first word on, then its end.
-fn whole(ws: &[u32], depth: usize) -> Answer
-    requires { depth ≤ max_depth }
-    ensures { result ≡ run depth 0 (layered depth 0) ws.now }
-{
-    let r = reader_at(ws, 0);
-    finish(r, layers(r, depth))
 }
 
 // Reads a table of this depth.
-pub fn read(ws: &[u32], depth: usize) -> Answer
+pub fn read(ws: &[u32], depth: usize) -> Result<(), TableError>
     ensures { result ≡ read_of depth ws.now }
 {
     if !depth_fits(depth) {
-        return Answer::Depth;
+        return Err(TableError::Depth);
     }
-    whole(ws, depth)
+    let mut reader = TableReader { words: ws, at: 0 };
+    reader.layers(depth)?;
+    reader.end()
 }

@@ -1,18 +1,22 @@
 -- `member_fits` meets its contract: one case for each test.
-use native.Mathlib.Omega.{arith}
-use Rattle.table_reader.proofs.Steps.{member-low, member_mid, member_is, member-over}
+use Rattle.std.proofs.Common.{arith}
+use Rattle.std.proofs.lemmas.Grind.{common_steps}
+use Rattle.octets.specs.Choice.{pick}
+use Rattle.parity_table.specs.Reader.{member_fits}
 use Rattle.table_reader.proofs.member_fits.Goals as goal
 
 pub returns-then-x-low : goal.returns-then-x-low
-returns-then-x-low c = let a = c.args in member-low a.last a.count a.low a.x c.if-x-low.true
+unfolding member_fits pick
+returns-then-x-low c = grind (arith, common_steps)
 
-pub returns-then-x-last : goal.returns-then-x-last
-returns-then-x-last c = let a = c.args in member_mid a.last a.count a.low a.x (omega arith) (omega arith)
+pub returns-in-Less : goal.returns-in-Less
+unfolding member_fits pick
+returns-in-Less c = grind (arith, common_steps)
 
-pub returns-then-x-last-2 : goal.returns-then-x-last-2
-returns-then-x-last-2 c = let a = c.args in member_is a.last a.count a.low a.x (omega arith) (omega arith)
+pub returns-in-Equal : goal.returns-in-Equal
+unfolding member_fits pick
+returns-in-Equal c = grind (arith, common_steps)
 
-pub returns : goal.returns
-returns c =
-    let a = c.args in
-    member-over a.last a.count a.low a.x (omega arith) (omega arith) c.if-x-last-2.false
+pub returns-in-Greater : goal.returns-in-Greater
+unfolding member_fits pick
+returns-in-Greater c = grind (arith, common_steps)
