@@ -1,7 +1,7 @@
 -- Words as bytes and back: the loops between the two forms, and the tests of a length.
 use mathlib.Core.Path.{◌≡◌, refl, sym, ap, ◌∙◌}
-use mathlib.Core.Bool.{Bool, true, false, ◌&&◌}
-use mathlib.Core.List.{List, [], ◌∷◌, ◌++◌, append_assoc}
+use mathlib.Core.Bool.{true}
+use mathlib.Core.List.{List, [], ◌∷◌, ◌++◌, append_assoc, append-nil}
 use Prim.Native.Nat.{ℕ, zero, suc, ◌+◌, ◌*◌, ◌/◌, ◌%◌, ◌≤◌, ◌<◌, min}
 use native.Mathlib.Numerals.{add-one}
 use native.Mathlib.Decide.{dec_lt}
@@ -9,22 +9,12 @@ use native.Mathlib.Omega.{arith}
 use lib.ListN.{length, get_or, take, drop, set, drop_of_length-le}
 use lib.Seq.{drop-cons, set-append_seam, take_all, take-append_seam, take_at, take-take}
 use lib.Dec.{leb, eqb}
-use borrow.Author.Tests.{eqb-false, eqb-true, leb-true, le-leb, lt-leb}
+use borrow.Author.Tests.{eqb-false, eqb-true, leb-true}
 use Rattle.octets.specs.BigEndian.{be, word_at, words, bytes_of}
 use Rattle.octets.proofs.Bytes.{length-words}
 use Rattle.parity_table.specs.Parse.{over}
 use Rattle.table_bytes.specs.Bytes.{max_bytes, length_fits, words_of, front_words}
 use Rattle.octets.proofs.Choice.{and_yes, by_test}
-
--- ---- a length
-
-pub length_long : (n : ℕ) → max_bytes < n → false ≡ length_fits n
-unfolding length_fits
-length_long n h = sym (ap (λ (b : Bool). b && eqb (n % 4) 0) (lt-leb n max_bytes h))
-
-pub length-short : (n : ℕ) → n ≤ max_bytes → eqb (n % 4) 0 ≡ length_fits n
-unfolding length_fits
-length-short n h = sym (ap (λ (b : Bool). b && eqb (n % 4) 0) (le-leb n max_bytes h))
 
 -- ---- words of bytes
 
@@ -41,6 +31,10 @@ words-next b lent i h =
     ∙ set-append_seam (words b i) (get_or lent i 0) (drop (suc i) lent) (word_at b (i * 4))
     ∙ sym (append_assoc (words b i) (word_at b (i * 4) ∷ []) (drop (suc i) lent))
     ∙ ap (λ (n : ℕ). words b n ++ drop n lent) (sym (add-one i))
+
+-- none is left
+pub words-filled : (b lent : List ℕ) (i : ℕ) → length lent ≤ i → words b i ++ drop i lent ≡ words b i
+words-filled b lent i h = rw (drop_of_length-le lent {i = i} h, append-nil)
 
 -- the first n words, where there are so many
 words_take : (b : List ℕ) (m n : ℕ) → m ≤ n → take m (words b n) ≡ words b m

@@ -3,19 +3,17 @@ use mathlib.Core.Path.{◌≡◌, refl, sym, ap, ◌∙◌}
 use mathlib.Core.Bool.{Bool, true}
 use mathlib.Core.List.{List, [], ◌∷◌, ◌++◌}
 use Prim.Native.Nat.{ℕ, zero, suc, ◌+◌, ◌*◌, ◌/◌, ◌%◌, ◌^◌, ◌≤◌, ◌<◌}
-use native.Mathlib.Nat.{div-add-mod', div-div-eq-div-mul, mod-eq_of_lt}
 use native.Mathlib.Omega.{arith}
 use lib.ListN.{length, get_or, take, length-append}
 use lib.Seq.{take-suc, take-length}
 use lib.Dec.{ltb}
 use borrow.Author.Tests.{ltb-true, lt-ltb, le-leb, eq-eqb}
 use Rattle.octets.specs.BigEndian.{be, word_at, words, bytes_of}
-use Rattle.octets.proofs.Bytes.{length-bytes_of}
-use Rattle.parity_table.specs.declared.Answer.TheVariants.{Whole}
+use Rattle.octets.proofs.Bytes.{be-read, length-bytes_of}
 use Rattle.parity_table.specs.Shape.{max_depth, depth_fits, k_of}
 use Rattle.parity_table.specs.Members.{every}
 use Rattle.parity_table.specs.Table.{TableOk, layer_word, equation_word, end_word, equations_words, layers_words, table_words}
-use Rattle.parity_table.specs.Reader.{read_of}
+use Rattle.parity_table.specs.Reader.{Whole, read_of}
 use Rattle.table_bytes.specs.Bytes.{max_bytes, length_fits, words_of}
 use Rattle.parity_table.specs.Parse.{table_of}
 use Rattle.octets.proofs.Choice.{and_yes, yes_and}
@@ -29,26 +27,9 @@ use Rattle.parity_table.proofs.Accepts.{formed-accepted}
 abbrev pub Words : List ℕ → Type 0
 Words ws = every (λ x. ltb x (2 ^ 32)) ws ≡ true
 
--- four bytes of a word, added up
-digits : (x : ℕ) → x < 2 ^ 32 → x / 16777216 % 256 * 16777216 + x / 65536 % 256 * 65536 + x / 256 % 256 * 256 + x / 1 % 256 ≡ x
-digits x h =
-    let low : x / 256 * 256 + x / 1 % 256 ≡ x = ap (λ (n : ℕ). x / 256 * 256 + n % 256) (div-one x) ∙ div-add-mod' x 256 in
-    let mid : x / 65536 * 256 + x / 256 % 256 ≡ x / 256 =
-    ap (λ (n : ℕ). n * 256 + x / 256 % 256) (sym (div-div-eq-div-mul x 256 256)) ∙ div-add-mod' (x / 256) 256 in
-    let top : x / 16777216 % 256 ≡ x / 16777216 = mod-eq_of_lt {n = x / 16777216} {m = 256} (omega arith) in
-    let high : x / 16777216 % 256 * 256 + x / 65536 % 256 ≡ x / 65536 =
-    ap (λ (n : ℕ). n * 256 + x / 65536 % 256) (top ∙ sym (div-div-eq-div-mul x 65536 256)) ∙ div-add-mod' (x / 65536) 256 in
-    sum x (x / 256) (x / 65536) (x / 16777216 % 256) (x / 1 % 256) (x / 256 % 256) (x / 65536 % 256) low mid high
-  where
-    div-one : (x : ℕ) → x / 1 ≡ x
-    div-one x = omega arith
-
-    sum : (x a b c r s t : ℕ) → a * 256 + r ≡ x → b * 256 + s ≡ a → c * 256 + t ≡ b → c * 16777216 + t * 65536 + s * 256 + r ≡ x
-    sum x a b c r s t p q u = omega arith
-
 word_first : (x : ℕ) (b : List ℕ) → x < 2 ^ 32 → word_at (be 4 x ++ b) 0 ≡ x
 unfolding word_at be
-word_first x b h = digits x h
+word_first x b h = be-read x h
 
 past_four : (a b c d : ℕ) (l : List ℕ) (n m : ℕ) → n ≡ 4 + m → get_or (a ∷ b ∷ c ∷ d ∷ l) n 0 ≡ get_or l m 0
 past_four a b c d l n m h =

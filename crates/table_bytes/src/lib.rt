@@ -1,7 +1,7 @@
 // A table as bytes, four to a word, the highest first: the form in which it comes from C.
 #![tactic(auto)]
 
-ghost use Rattle.std.specs.Prelude.{◌≡◌, ◌*◌, min, length};
+ghost use Rattle.std.specs.Prelude.{◌≡◌, ◌*◌, length};
 ghost use Rattle.octets.specs.BigEndian.{bytes_of};
 ghost use Rattle.parity_table.specs.Parse.{over};
 ghost use Rattle.table_bytes.specs.Bytes.{length_fits, front_words};
@@ -17,23 +17,11 @@ pub const MAX_BYTES: usize = 4 * MAX_WORDS;
 pub const SHALLOW_WORDS: usize = 9 * SHALLOW_EQUATIONS + SHALLOW + 1;
 
 // A table may have this many bytes.
+#[tactic(auto, unfolding(crate::specs::Bytes::length_fits))]
 pub fn length_fits(n: usize) -> bool
     ensures { result ≡ length_fits n }
 {
-    if n > MAX_BYTES {
-        return false;
-    }
-    n % 4 == 0
-}
-
-// The lesser of two numbers.
-fn lesser(a: usize, b: usize) -> usize
-    ensures { result ≡ min a b }
-{
-    if a < b {
-        return a;
-    }
-    b
+    n <= MAX_BYTES && n % 4 == 0
 }
 
 // Fills ws, from the front, with the words of the bytes, as many as it has room for; how many.
@@ -41,11 +29,10 @@ pub fn words_from(b: &[u8], ws: &mut [u32]) -> usize
     ensures { (result ≡ length (front_words b.now (length ws.old)))
         × (ws.new ≡ over (front_words b.now (length ws.old)) ws.old) }
 {
-    let n = lesser(b.len() / 4, ws.len());
-    let mut i: usize = 0;
-    while i < n {
-        ws[i] = octets::word_at(b, i * 4);
-        i += 1;
+    let n = ws.len().min(b.len() / 4);
+    let front = &mut ws[..n];
+    for (i, w) in front.iter_mut().enumerate() {
+        *w = octets::word_at(b, i * 4);
     }
     n
 }
@@ -55,9 +42,7 @@ pub fn bytes_from(ws: &[u32], b: &mut [u8])
     requires { length b.old ≡ length ws.now * 4 }
     ensures { b.new ≡ bytes_of ws.now }
 {
-    let mut i: usize = 0;
-    while i < ws.len() {
-        octets::put_word(b, i * 4, ws[i]);
-        i += 1;
+    for (i, &w) in ws.iter().enumerate() {
+        octets::put_word(b, i * 4, w);
     }
 }
