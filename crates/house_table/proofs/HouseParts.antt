@@ -5,20 +5,19 @@ use Prim.Native.Nat.{ℕ, zero, suc, ◌+◌, ◌-◌, ◌*◌, ◌%◌, ◌^◌
 use native.Mathlib.Nat.{add-zero}
 use native.Mathlib.Numerals.{add-one}
 use native.Mathlib.Omega.{arith}
-use lib.ListN.{length, replicate, set, length-set, length-append, length-replicate}
+use lib.ListN.{length, set, length-set, length-append}
 use lib.Seq.{sets}
 use lib.Dec.{eqb}
 use lib.Pow.{pow_mono}
 use borrow.Author.Tests.{eq-eqb, ne_eqb}
 use mathlib.Core.Bool.{true, false}
 use Rattle.octets.specs.Choice.{pick}
-use Rattle.parity_table.specs.declared.Answer.{Answer}
-use Rattle.parity_table.specs.declared.Answer.TheVariants.{Depth, Length, Wrong, Whole}
+use Rattle.parity_table.specs.Reader.{Answer, Depth, Length, Wrong, Whole}
 use Rattle.parity_table.specs.Shape.{max_depth, depth_fits, k_of}
 use Rattle.parity_table.specs.Table.{word, equations_words, layers_words, table_words}
-use Rattle.house_table.specs.House.{data_one, data_two, house_equation, house_equations, house_layers, house_table, house_words, house_row, house_layer, house_answer, house_out}
+use Rattle.house_table.specs.House.{data_one, data_two, house_equation, house_equations, house_layers, house_table, house_words, house_row, house_layer, house_answer}
 use Rattle.octets.proofs.Choice.{pick_yes, pick_no, pick_ind}
-use Rattle.parity_table.proofs.Shape.{depth_low, shift_is, shift_small}
+use Rattle.parity_table.proofs.Shape.{shift_is, shift_small}
 use Rattle.house_table.proofs.HouseRules.{house-count}
 use Rattle.octets.proofs.Writes.{Putting, sets-whole}
 
@@ -54,10 +53,6 @@ four o i a b c d =
     ap (λ (n : ℕ). set (set (set (set o i a) n b) (i + 2) c) (i + 3) d) (omega arith)
     ∙ ap (λ (n : ℕ). set (set (set (set o i a) (suc i) b) n c) (i + 3) d) (omega arith)
     ∙ ap (λ (n : ℕ). set (set (set (set o i a) (suc i) b) (suc (suc i)) c) n d) (omega arith)
-
-pub five : (o : List ℕ) (i a b c d e : ℕ)
-    → set (set (set (set (set o i a) (i + 1) b) (i + 2) c) (i + 3) d) (i + 4) e ≡ sets o i (a ∷ b ∷ c ∷ d ∷ e ∷ [])
-five o i a b c d e = ap (λ (l : List ℕ). set l (i + 4) e) (four o i a b c d) ∙ ap (λ (n : ℕ). set (sets o i (a ∷ b ∷ c ∷ d ∷ [])) n e) (omega arith)
 
 -- ---- what is left of a layer, and of the table
 
@@ -165,17 +160,11 @@ pub house_small : (d : ℕ) → d ≤ max_depth → length (house_words d) ≤ 6
 house_small d h = omega (arith, size_is d h, shift_small d h)
 
 -- .. no more than one of depth b, where its depth is at most that
-pub house-room : (d b : ℕ) → (depth_fits d ≡ true → d ≤ b) → b ≤ max_depth → depth_fits d ≡ true
-    → length (house_words d) ≤ length (replicate {A = ℕ} (60 * (2 ^ b - 1) + 1) 0)
+pub house-room : (d b : ℕ) → (depth_fits d ≡ true → d ≤ b) → b ≤ max_depth → depth_fits d ≡ true → length (house_words d) ≤ 60 * (2 ^ b - 1) + 1
 house-room d b up_to_lem h f =
     let g = up_to_lem f in
     let p : 2 ^ d ≤ 2 ^ b = pow_mono {i = d} {j = b} g in
-    omega (arith, size_is d (omega arith), shift_is d (omega arith), length-replicate {A = ℕ} (60 * (2 ^ b - 1) + 1) 0)
-
--- what is answered, and left, at depth 0
-pub none_written : (n m : ℕ) (table lent : List ℕ) (r : Answer) → r ≡ house_answer 0 n m → (r ≡ Depth) × (house_out r table lent ≡ lent)
-none_written n m table lent r e =
-    let z : r ≡ Depth = e ∙ sym (answer-depth 0 n m (sym (depth_low 0 (omega arith)))) in (z, ap (λ (a : Answer). house_out a table lent) z)
+    omega (arith, size_is d (omega arith), shift_is d (omega arith))
 
 pub answer_not_wrong : (d n m i : ℕ) → house_answer d n m ≡ Wrong i → ⊥
 unfolding house_answer

@@ -1,10 +1,9 @@
 -- The house table, by its formula: 01, "House table". Definitions only.
-use Rattle.std.specs.Prelude.{List, [], ◌∷◌, ◌++◌, ℕ, zero, suc, ◌+◌, ◌*◌, ◌/◌, ◌%◌, min, max, eqb}
+use Rattle.std.specs.Prelude.{List, [], ◌∷◌, ◌++◌, ℕ, zero, suc, ◌+◌, ◌*◌, ◌/◌, ◌%◌, min, max, eqb, Ok, Err}
 use Rattle.octets.specs.Choice.{pick}
-use Rattle.parity_table.specs.declared.Answer.{Answer}
-use Rattle.parity_table.specs.declared.Answer.TheVariants.{Depth, Length, Wrong, Whole}
 use Rattle.parity_table.specs.Shape.{depth_fits, k_of}
 use Rattle.parity_table.specs.Table.{layer_word, equation_word, equations_words, table_words}
+use Rattle.parity_table.specs.Reader.{Answer, Depth, Length, Whole}
 
 -- "equation e has data members e mod k and (e+1+⌊e/k⌋) mod k"
 abbrev pub data_one : ℕ → ℕ → ℕ
@@ -47,10 +46,8 @@ house_answer d n m = pick (depth_fits d) (pick (eqb n m) Whole Length) Depth
 
 -- what the buffer holds afterwards
 abbrev pub house_out : Answer → List ℕ → List ℕ → List ℕ
-house_out Depth table lent = lent
-house_out Length table lent = lent
-house_out (Wrong i) table lent = lent
-house_out Whole table lent = table
+house_out (Ok _) table lent = table
+house_out (Err e) table lent = lent
 
 -- the words that it writes one after the other: an equation, and a layer
 abbrev pub house_row : ℕ → ℕ → List ℕ

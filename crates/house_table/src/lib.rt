@@ -1,15 +1,14 @@
 // The house table, as words and as bytes.
 #![tactic(auto)]
 
-ghost use Rattle.std.specs.Prelude.{◌≡◌, true, ◌+◌, ◌*◌, ◌<◌, ◌≤◌, ◌^◌, max, length};
+ghost use Rattle.std.specs.Prelude.{◌≡◌, true, ◌+◌, ◌*◌, ◌<◌, ◌≤◌, ◌^◌, length};
 ghost use Rattle.std.proofs.lemmas.List.Edits.{sets};
 ghost use Rattle.octets.specs.BigEndian.{bytes_of};
 ghost use Rattle.parity_table.specs.Shape.{max_depth, depth_fits};
 ghost use Rattle.house_table.specs.House.{house_words, house_row, house_layer, house_answer, house_out};
 
-use octets::lesser;
 use parity_table::{
-    Answer, END, EQUATION, LAYER, MAX_DEPTH, SHALLOW, data_count, depth_fits, is_deep,
+    END, EQUATION, LAYER, MAX_DEPTH, SHALLOW, TableError, data_count, depth_fits, is_deep,
 };
 use table_bytes::bytes_from;
 
@@ -17,13 +16,6 @@ use table_bytes::bytes_from;
 const HOUSE_WORDS: usize = 60 * ((1 << MAX_DEPTH) - 1) + 1;
 
 const SHALLOW_HOUSE_WORDS: usize = 60 * ((1 << SHALLOW) - 1) + 1;
-
-// The higher of two numbers.
-fn high(a: u32, b: u32) -> u32
-    ensures { result ≡ max a b }
-{
-    if a < b { b } else { a }
-}
 
 // Writes equation e of a layer with k data symbols from word at on; answers where it ends.
 fn put_row(out: &mut [u32], at: usize, k: u32, e: u32) -> usize
@@ -34,17 +26,12 @@ fn put_row(out: &mut [u32], at: usize, k: u32, e: u32) -> usize
 {
     let a = e % k;
     let b = (e + 1 + e / k) % k;
-    let l = lesser(a, b);
-    let h = high(a, b);
-    out[at] = EQUATION + e;
-    out[at + 1] = l;
-    out[at + 2] = h;
+    let (low, high) = (a.min(b), a.max(b));
     if e == 0 {
-        out[at + 3] = k;
+        out[at..at + 4].copy_from_slice(&[EQUATION + e, low, high, k]);
         return at + 4;
     }
-    out[at + 3] = k + e - 1;
-    out[at + 4] = k + e;
+    out[at..at + 5].copy_from_slice(&[EQUATION + e, low, high, k + e - 1, k + e]);
     at + 5
 }
 
@@ -57,10 +44,8 @@ fn put_layer(out: &mut [u32], at: usize, j: u32, k: u32) -> usize
 {
     out[at] = LAYER + j;
     let mut p = at + 1;
-    let mut e: u32 = 0;
-    while e < 3 * k {
+    for e in 0..3 * k {
         p = put_row(out, p, k, e);
-        e += 1;
     }
     p
 }
@@ -80,28 +65,26 @@ fn put_table(out: &mut [u32], depth: usize)
     ensures { out.new ≡ house_words depth }
 {
     let mut at: usize = 0;
-    let mut j: usize = 0;
-    while j < depth {
+    for j in 0..depth {
         let k = data_count(j);
         at = put_layer(out, at, j as u32, k as u32);
-        j += 1;
     }
     out[at] = END + at as u32;
 }
 
 // Writes the house table of this depth as words, into exactly as many as it has.
-pub fn write(out: &mut [u32], depth: usize) -> Answer
+pub fn write(out: &mut [u32], depth: usize) -> Result<(), TableError>
     ensures { (result ≡ house_answer depth (length out.old) (length (house_words depth)))
         × (out.new ≡ house_out result (house_words depth) out.old) }
 {
     if !depth_fits(depth) {
-        return Answer::Depth;
+        return Err(TableError::Depth);
     }
     if out.len() != word_count(depth) {
-        return Answer::Length;
+        return Err(TableError::Length);
     }
     put_table(out, depth);
-    Answer::Whole
+    Ok(())
 }
 
 // Writes the house table as bytes, into as many as it has, by way of words.
@@ -116,45 +99,42 @@ fn put_bytes(out: &mut [u8], depth: usize, words: &mut [u32])
 }
 
 // write_bytes, by way of words that have room for the table.
-fn write_in(out: &mut [u8], depth: usize, words: &mut [u32]) -> Answer
+fn write_in(out: &mut [u8], depth: usize, words: &mut [u32]) -> Result<(), TableError>
     requires { depth_fits depth ≡ true → length (house_words depth) ≤ length words.old }
     ensures { (result ≡ house_answer depth (length out.old) (length (house_words depth) * 4))
         × (out.new ≡ house_out result (bytes_of (house_words depth)) out.old) }
 {
     if !depth_fits(depth) {
-        return Answer::Depth;
+        return Err(TableError::Depth);
     }
     if out.len() != word_count(depth) * 4 {
-        return Answer::Length;
+        return Err(TableError::Length);
     }
     put_bytes(out, depth, words);
-    Answer::Whole
+    Ok(())
 }
 
-// write_bytes for a deeper tree. It is entered at a depth that fits, so it never calls itself: but the compiler takes no function that does into
-// another's frame, so that these words are on the stack of a deeper call alone.
-fn write_deep(out: &mut [u8], depth: usize) -> Answer
+// write_bytes, by way of an array of WORDS words. It is never taken into another's frame, so that the words of a deeper tree are on the stack of a
+// deeper call alone.
+#[inline(never)]
+fn write_by<const WORDS: usize>(out: &mut [u8], depth: usize) -> Result<(), TableError>
+    requires room { depth_fits depth ≡ true → length (house_words depth) ≤ WORDS }
+    requires few { WORDS ≤ 60 * 2 ^ max_depth }
     ensures { (result ≡ house_answer depth (length out.old) (length (house_words depth) * 4))
         × (out.new ≡ house_out result (bytes_of (house_words depth)) out.old) }
 {
-    let mut words = [0u32; HOUSE_WORDS];
-    let answer = write_in(out, depth, &mut words);
-    if let Answer::Depth = answer {
-        if 0 < depth {
-            return write_deep(out, 0);
-        }
-    }
-    answer
+    let mut words = [0u32; WORDS];
+    write_in(out, depth, &mut words)
 }
 
 // Writes the house table of this depth as bytes, into exactly as many as it has.
-pub fn write_bytes(out: &mut [u8], depth: usize) -> Answer
+pub fn write_bytes(out: &mut [u8], depth: usize) -> Result<(), TableError>
     ensures { (result ≡ house_answer depth (length out.old) (length (house_words depth) * 4))
         × (out.new ≡ house_out result (bytes_of (house_words depth)) out.old) }
 {
     if is_deep(depth) {
-        return write_deep(out, depth);
+        write_by::<HOUSE_WORDS>(out, depth)
+    } else {
+        write_by::<SHALLOW_HOUSE_WORDS>(out, depth)
     }
-    let mut words = [0u32; SHALLOW_HOUSE_WORDS];
-    write_in(out, depth, &mut words)
 }

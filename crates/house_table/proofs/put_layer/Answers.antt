@@ -25,9 +25,6 @@ put_row-p-requires c =
           (rows_room a.out.now a.at a.j a.k (word 1 a.j) c.requires.3),
     )
 
-pub overflow_add-e : goal.overflow_add-e
-overflow_add-e c = omega (arith, c.requires.1)
-
 pub loop-e-preserved : goal.loop-e-preserved
 loop-e-preserved c =
     let a = c.args in
