@@ -1,28 +1,21 @@
 -- Heads: their words read and written, and that the two are inverse.
 use mathlib.Core.Path.{◌≡◌, refl, sym, ap, ap₂, ◌∙◌}
-use mathlib.Core.Bool.{true, false, ◌&&◌}
+use mathlib.Core.Bool.{true}
 use mathlib.Core.List.{List, [], ◌∷◌, ◌++◌}
 use Prim.Native.Nat.{ℕ, zero, suc, ◌+◌, ◌*◌, ◌/◌, ◌%◌, ◌^◌, ◌≤◌, ◌<◌}
-use native.Mathlib.Nat.{div-div-eq-div-mul, mod-eq_of_lt, div-add-mod'}
+use native.Mathlib.Nat.{div-add-mod'}
 use native.Mathlib.Omega.{arith}
 use lib.ListN.{length, get_or, drop, length-drop}
 use lib.Seq.{sets, sets-eq, drop-cons, drop-drop}
-use lib.Dec.{ltb, eqb}
-use borrow.Author.Tests.{eq-eqb, ne_eqb, ltb-true}
+use lib.Dec.{ltb}
+use borrow.Author.Tests.{ltb-true}
 use Rattle.octets.specs.BigEndian.{be, word_at}
+use Rattle.octets.proofs.Bytes.{be-read}
 use Rattle.octets.proofs.Choice.{and_yes}
 use Rattle.parity_table.specs.Members.{every}
 use Rattle.parity_table.specs.Parse.{over}
 use Rattle.parity_table.specs.Table.{word}
 use Rattle.heads.specs.Heads.{head, kind_at, value_at}
-
--- ---- a test of a word
-
-pub names_kind : (b : List ℕ) (i kind bound k : ℕ) → k ≡ kind_at b i → (k ≡ kind → ⊥) → false ≡ (eqb (kind_at b i) kind && ltb (value_at b i) bound)
-names_kind b i kind bound k e n = rw (sym e, ne_eqb k kind n)
-
-pub names_value : (b : List ℕ) (i kind bound k v : ℕ) → k ≡ kind_at b i → k ≡ kind → v ≡ value_at b i → ltb v bound ≡ (eqb (kind_at b i) kind && ltb (value_at b i) bound)
-names_value b i kind bound k v e n ev = rw (sym e, eq-eqb k kind n, ev)
 
 -- ---- a head that is written
 
@@ -45,21 +38,6 @@ head_put k j e x out a b c room ea eb ec =
     ∙ ap (λ (l : List ℕ). u ++ (v ++ l)) (stored (drop 8 out) (word 3 x) (omega (arith, length-drop 8 out)) ∙ ap (λ (l : List ℕ). w ++ l) (drop-drop 4 8 out))
 
 -- ---- a word
-
--- four bytes of a word, added up
-be-read : (x : ℕ) → x < 2 ^ 32 → x / 16777216 % 256 * 16777216 + x / 65536 % 256 * 65536 + x / 256 % 256 * 256 + x / 1 % 256 ≡ x
-be-read x h =
-    let one : x / 1 ≡ x = omega arith in
-    let low : x / 256 * 256 + x / 1 % 256 ≡ x = ap (λ (n : ℕ). x / 256 * 256 + n % 256) one ∙ div-add-mod' x 256 in
-    let mid : x / 65536 * 256 + x / 256 % 256 ≡ x / 256 =
-    ap (λ (n : ℕ). n * 256 + x / 256 % 256) (sym (div-div-eq-div-mul x 256 256)) ∙ div-add-mod' (x / 256) 256 in
-    let top : x / 16777216 % 256 ≡ x / 16777216 = mod-eq_of_lt {n = x / 16777216} {m = 256} (omega arith) in
-    let high : x / 16777216 % 256 * 256 + x / 65536 % 256 ≡ x / 65536 =
-    ap (λ (n : ℕ). n * 256 + x / 65536 % 256) (top ∙ sym (div-div-eq-div-mul x 65536 256)) ∙ div-add-mod' (x / 65536) 256 in
-    sum x (x / 256) (x / 65536) (x / 16777216 % 256) (x / 1 % 256) (x / 256 % 256) (x / 65536 % 256) low mid high
-  where
-    sum : (x a b c r s t : ℕ) → a * 256 + r ≡ x → b * 256 + s ≡ a → c * 256 + t ≡ b → c * 16777216 + t * 65536 + s * 256 + r ≡ x
-    sum x a b c r s t p q u = omega arith
 
 module _ (b : List ℕ) (i kind : ℕ) where
   module _ (v : ℕ) (e : word_at b (4 * i) ≡ word kind v) (small : v < 2 ^ 30) where

@@ -10,7 +10,8 @@ use parity_table::{END as KIND_11, EQUATION as KIND_10};
 // How many values a word may have: the low 30 bits. The top two are the kind.
 const VALUES: u32 = 1 << 30;
 
-// The kind of word i of a head.
+// The kind of word i of a head. It stays the number of its two bits, which say other things in a proof, in a record and in a table.
+#[tactic(auto, unfolding(crate::specs::Heads::kind_at))]
 pub fn kind_at(b: &[u8], i: usize) -> u32
     requires { 4 * i + 4 ≤ length b.now }
     ensures { result ≡ kind_at b.now i }
@@ -19,6 +20,7 @@ pub fn kind_at(b: &[u8], i: usize) -> u32
 }
 
 // Its value.
+#[tactic(auto, unfolding(crate::specs::Heads::value_at))]
 pub fn value_at(b: &[u8], i: usize) -> usize
     requires { 4 * i + 4 ≤ length b.now }
     ensures { result ≡ value_at b.now i }
@@ -31,10 +33,7 @@ pub fn names(b: &[u8], i: usize, kind: u32, bound: usize) -> bool
     requires { 4 * i + 4 ≤ length b.now }
     ensures { result ≡ (eqb (kind_at b.now i) kind && ltb (value_at b.now i) bound) }
 {
-    if kind_at(b, i) != kind {
-        return false;
-    }
-    value_at(b, i) < bound
+    kind_at(b, i) == kind && value_at(b, i) < bound
 }
 
 // Writes a head with these values, its first word of this kind, to the front of out.
