@@ -7,8 +7,7 @@ use native.Mathlib.Omega.{arith}
 use native.Mathlib.Decide.{ℕ_discrete}
 use lib.ListN.{length, take, drop, replicate, length-append}
 use lib.Seq.{take_at, drop_at, drop-drop}
-use lib.Bits.{xor_comm, xor_self, xor_zero_r}
-use Rattle.octets.proofs.Bits.{xor_assoc}
+use lib.Bits.{xor_assoc, xor_comm, xor_self, xor_zero_r}
 use Rattle.octets.specs.ByteLists.{xors}
 use Rattle.model.specs.Symbols.{joined, zeros}
 

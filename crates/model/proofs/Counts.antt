@@ -8,12 +8,13 @@ use native.Mathlib.Omega.{arith}
 use native.Mathlib.Numerals.{add-one}
 use lib.ListN.{length, get_or, drop, drop_of_length-le}
 use lib.Dec.{ltb, eqb}
-use borrow.Author.Tests.{ltb-true, eqb-true, eqb-false, eq-eqb, ne_eqb}
+use borrow.Author.Tests.{ltb-true, ltb-false, lt-ltb, le-ltb, eqb-true, eqb-false, eq-eqb, ne_eqb}
+use Rattle.std.proofs.Common.{Option, None, Some, MatchOption}
 use Rattle.parity_table.specs.Members.{every, ascending, last_of, IsMember}
 use Rattle.octets.proofs.Choice.{by_test, pick_yes, pick_no, pick_ind, and_yes, yes_and, both}
 use Rattle.octets.specs.ByteLists.{xors}
 use Rattle.octets.specs.Choice.{pick}
-use Rattle.model.specs.Symbols.{xor_of, others, bit, count, first_of, lowest}
+use Rattle.model.specs.Symbols.{xor_of, others, bit, count, first_of, lowest, found}
 use Rattle.model.proofs.Bytes.{xors-left_comm}
 use Rattle.model.proofs.Members.{from-here}
 
@@ -239,6 +240,28 @@ unfolding lowest
 lowest-same p q i zero h = refl
 lowest-same p q i (suc f) h =
     ap₂ (λ (b : Bool) (r : ℕ). pick b i r) (h i (omega arith) (omega arith)) (lowest-same p q (suc i) f (λ x a b. h x (omega arith) (omega arith)))
+
+-- the lowest below n, as a search answers it
+pub found_first : (p : ℕ → Bool) (n : ℕ) (r : Option ℕ)
+    → MatchOption r ((k : ℕ) → k < n → p k ≡ false) (λ i. (i < n) × (p i ≡ true) × ((k : ℕ) → k < i → p k ≡ false))
+    → r ≡ found p n
+found_first p n None none =
+    let l = lowest-is p 0 n in
+    let out : n ≤ lowest p 0 n = by_test (ltb (lowest p 0 n) n) (λ t. let h = ltb-true _ _ t in both (l.found (omega arith)) (none _ h)) (λ t. ltb-false _ _ t) in
+    sym (pick_no (ltb (lowest p 0 n) n) (Some (lowest p 0 n)) None (le-ltb _ _ out))
+found_first p n (Some i) (inside, passes, before) =
+    let l = lowest-is p 0 n in
+    let low : lowest p 0 n ≤ i = by_test (ltb i (lowest p 0 n)) (λ t. both passes (l.before i (omega arith) (ltb-true _ _ t))) (λ t. ltb-false _ _ t) in
+    let high : i ≤ lowest p 0 n = by_test (ltb (lowest p 0 n) i) (λ t. let h = ltb-true _ _ t in both (l.found (omega arith)) (before _ h)) (λ t. ltb-false _ _ t) in
+    let e : i ≡ lowest p 0 n = omega arith in
+    ap Some e ∙ sym (pick_yes (ltb (lowest p 0 n) n) (Some (lowest p 0 n)) None (lt-ltb _ _ (omega arith)))
+
+-- whether there is one
+pub found-some : (p : ℕ → Bool) (n i : ℕ) → found p n ≡ Some i → ltb (lowest p 0 n) n ≡ true
+found-some p n i e = by_test (ltb (lowest p 0 n) n) (λ t. t) (λ t. let no = sym (pick_no (ltb (lowest p 0 n) n) (Some (lowest p 0 n)) None t) ∙ e in cc)
+
+pub found-none : (p : ℕ → Bool) (n : ℕ) → found p n ≡ None → ltb (lowest p 0 n) n ≡ false
+found-none p n e = by_test (ltb (lowest p 0 n) n) (λ t. let yes = sym (pick_yes (ltb (lowest p 0 n) n) (Some (lowest p 0 n)) None t) ∙ e in cc) (λ t. t)
 
 -- ---- from element i on, as a loop meets them
 

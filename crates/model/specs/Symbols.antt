@@ -1,5 +1,5 @@
 -- Symbols, their exclusive-or, and where a hash stands: 01, "Layers" and "Parity table". Definitions only.
-use Rattle.std.specs.Prelude.{Bool, true, false, List, [], ◌∷◌, ◌++◌, ℕ, zero, suc, ◌+◌, ◌*◌, ◌/◌, ◌%◌, take, drop, replicate, eqb}
+use Rattle.std.specs.Prelude.{Bool, true, false, Option, None, Some, List, [], ◌∷◌, ◌++◌, ℕ, zero, suc, ◌+◌, ◌*◌, ◌/◌, ◌%◌, take, drop, replicate, eqb, ltb}
 use Rattle.std.proofs.Math.Seq.{paste}
 use Rattle.octets.specs.ByteLists.{xors}
 use Rattle.octets.specs.Choice.{pick}
@@ -48,6 +48,10 @@ first_of p (x ∷ xs) = pick (p x) x (first_of p xs)
 unfoldable pub lowest : (ℕ → Bool) → ℕ → ℕ → ℕ
 lowest p x zero = x
 lowest p x (suc m) = pick (p x) x (lowest p (suc x) m)
+
+-- the lowest of the numbers below n that passes, if there is one
+abbrev pub found : (ℕ → Bool) → ℕ → Option ℕ
+found p n = pick (ltb (lowest p 0 n) n) (Some (lowest p 0 n)) None
 
 -- ---- hashes in a symbol or in the root
 
