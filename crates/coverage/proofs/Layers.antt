@@ -1,19 +1,22 @@
 -- An accepted table, layer after layer: where a loop over its layers stands, and what a layer comes to.
 use mathlib.Core.Path.{◌≡◌, refl, sym, ap, ◌∙◌, subst}
-use mathlib.Core.Bool.{true}
+use mathlib.Core.Bool.{Bool, true, cond}
+use Rattle.std.proofs.Common.{Some, None, position}
+use Rattle.std.specs.List.{position_or_len}
+use Rattle.std.proofs.lemmas.List.Quantifiers.{position-Some}
+use Rattle.std.proofs.lemmas.List.Sums.{position_or_len_is}
+use Rattle.std.proofs.lemmas.Option.{none-some}
 use mathlib.Core.List.{List, [], ◌∷◌, ◌++◌, append_assoc}
-use Prim.Native.Nat.{ℕ, suc, ◌+◌, ◌-◌, ◌≤◌, ◌<◌, ◌*◌, ◌^◌}
+use Prim.Native.Nat.{ℕ, suc, ◌+◌, ◌-◌, ◌≤◌, ◌<◌, ◌^◌}
 use native.Mathlib.Numerals.{add-one}
 use native.Mathlib.Omega.{arith}
-use lib.ListN.{length, get_or, take, drop, replicate, length-drop, length-replicate, get_or-replicate}
-use lib.Seq.{drop-cons, drop-drop, take-length}
+use lib.ListN.{length, get_or, drop, replicate, length-drop, length-replicate, get_or-replicate}
+use lib.Seq.{drop-cons, drop-drop}
 use lib.Dec.{ltb}
-use borrow.Author.Tests.{lt-ltb, le-ltb, le-leb}
-use Rattle.octets.proofs.Choice.{pick_yes, pick_no}
-use Rattle.octets.proofs.ListLaws.{front-zeros}
+use borrow.Author.Tests.{ltb-false, lt-ltb, le-ltb, le-leb}
+use Rattle.octets.proofs.Choice.{by_test, pick_yes, pick_no}
 use Rattle.parity_table.specs.Shape.{max_depth, k_of}
-use Rattle.parity_table.specs.declared.Answer.TheVariants.{Whole}
-use Rattle.parity_table.specs.Reader.{read_of}
+use Rattle.parity_table.specs.Reader.{Whole, read_of}
 use Rattle.parity_table.specs.Table.{layer_of, layer_word, end_word, equations_words, layers_words, table_words, TableOk}
 use Rattle.parity_table.specs.Parse.{table_of}
 use Rattle.parity_table.proofs.Accepts.{accepted-depth, accepted-formed, accepted-table}
@@ -23,16 +26,16 @@ use Rattle.parity_table.proofs.Parse.{formed-words}
 use Rattle.parity_table.proofs.Rules.{LayersOk, table-layers}
 use Rattle.parity_table.proofs.Shape.{k-low}
 use Rattle.model.specs.Symbols.{lowest}
-use Rattle.model.proofs.Counts.{lowest-same, lowest_hit, lowest_pass, lowest-none}
+use Rattle.model.proofs.Counts.{lowest-is, lowest-same, lowest_hit, lowest_pass, lowest-none}
 use Rattle.coverage.specs.Counting.{ends_layer, has_end, Below, Tally, tallied, tally, is_thin, LayerCounted}
-use Rattle.coverage.specs.declared.Coverage.TheVariants.{Covered, Uncovered}
-use Rattle.coverage.specs.Coverage.{times, lowest_thin, has_thin, first_thin, coverage_of}
+use Rattle.coverage.specs.Coverage.{Covered, UncoveredAt, times, lowest_thin, has_thin, first_thin, coverage_of}
 use Rattle.coverage.proofs.Tallies.{ends-layer, ends-equation, end_after, end-here, Comes, Pass, pass_end, pass_equations}
 
 -- ---- a pass that begins with no symbol seen
 
-pub none_below : (s : List ℕ) (n : ℕ) → s ≡ replicate (length s) 0 → Below s n
-none_below s n e i h = omega (arith, ap (λ (l : List ℕ). get_or l i 0) e ∙ get_or-replicate {A = ℕ} (length s) i 0 0 h)
+pub none_below : (s : List ℕ) (k n : ℕ) → s ≡ replicate k 0 → Below s n
+none_below s k n e i h =
+    omega (arith, ap (λ (l : List ℕ). get_or l i 0) e ∙ get_or-replicate {A = ℕ} k i 0 0 (omega (arith, ap length e, length-replicate {A = ℕ} k 0)))
 
 -- so few words that each count has room in 16 bits
 pub few_words : (d : ℕ) (ws : List ℕ) → read_of d ws ≡ Whole → length ws < 2 ^ 16
@@ -40,31 +43,35 @@ few_words d ws r =
     let (some, most) = accepted-depth d ws r in
     omega (arith, accepted-short d ws r, longest_grows d 9 some (omega arith), longest_nine)
 
--- the entries of a layer's data symbols, of an array of zeros for the lowest
-module _ (j : ℕ) (hj : j < max_depth) (seen : List ℕ) (e : seen ≡ replicate (4 * 2 ^ (max_depth - 1)) 0) (k : ℕ) (ek : k ≡ k_of j) where
-  front : take k seen ≡ replicate k 0
-  front = ap (take k) e ∙ front-zeros (4 * 2 ^ (max_depth - 1)) k (omega (arith, k-low j hj))
+-- the lowest symbol that was seen fewer than two times, as the search finds it
+module _ (seen : List ℕ) where
+  thin_first : position_or_len (λ x. ltb x 2) seen ≡ lowest (is_thin seen) 0 (length seen)
+  unfolding is_thin
+  thin_first =
+      let l = lowest-is (is_thin seen) 0 (length seen) in
+      position_or_len_is (λ x. ltb x 2) seen (lowest (is_thin seen) 0 (length seen)) 0 (omega (arith, l.upto)) (λ k h. l.before k (omega arith) h) (λ h. l.found (omega arith))
 
-  pub front_length : length (take k seen) ≡ k_of j
-  front_length = ap length front ∙ length-replicate {A = ℕ} k 0 ∙ ek
+  pub thin_some : (i : ℕ) → position (λ x. ltb x 2) seen ≡ Some i → (i < length seen) × (i ≡ lowest (is_thin seen) 0 (length seen))
+  thin_some i e =
+      let (h, passes, before) = position-Some (λ x. ltb x 2) seen i 0 e in
+      (h, sym (position_or_len_is (λ x. ltb x 2) seen i 0 (omega arith) before (λ _. passes)) ∙ thin_first)
 
-  pub front-none : take k seen ≡ replicate (length (take k seen)) 0
-  front-none = front ∙ ap (λ (n : ℕ). replicate n 0) (sym (front_length ∙ sym ek))
+  pub thin_none : position (λ x. ltb x 2) seen ≡ None → length seen ≡ lowest (is_thin seen) 0 (length seen)
+  thin_none e =
+      by_test (ltb (position_or_len (λ x. ltb x 2) seen) (length seen))
+      (λ t.
+      let some = ap (λ (b : Bool). cond b (Some (position_or_len (λ x. ltb x 2) seen)) None) t in
+      absurd (none-some _ (sym e ∙ some)))
+      (λ t. omega (arith, ltb-false _ _ t, thin_first, (lowest-is (is_thin seen) 0 (length seen)).upto))
 
 -- the pass, then the search
-pub counted : (ws s₀ seen : List ℕ) (at end low : ℕ) → s₀ ≡ replicate (length s₀) 0 → end ≤ length ws → tallied seen (drop end ws) ≡ tally s₀ (drop at ws)
-    → low ≡ lowest (is_thin seen) 0 (length seen) → LayerCounted ws at (length s₀) end low
-counted ws s₀ seen at end low none h e l =
-    let p : tallied seen (drop end ws) ≡ tally (replicate (length s₀) 0) (drop at ws) = e ∙ ap (λ (s : List ℕ). tally s (drop at ws)) none in (
-      h,
-      ap (λ (y : Tally). y.rest) p,
-      l ∙ ap (λ (y : Tally). lowest (is_thin y.seen) 0 (length y.seen)) p,
-    )
-
--- all is 0 again where the search finds none
-pub forgotten : (s₀ z : List ℕ) (low : ℕ) → s₀ ≡ replicate (length s₀) 0 → length z ≡ length s₀ → take low z ≡ replicate low 0 → low ≡ length s₀ → z ≡ s₀
-forgotten s₀ z low none n e l =
-    sym (take-length z) ∙ ap (λ (x : ℕ). take x z) (n ∙ sym l) ∙ e ∙ ap (λ (x : ℕ). replicate x 0) l ∙ sym none
+pub counted : (ws seen : List ℕ) (at k end low : ℕ) → end ≤ length ws → tallied seen (drop end ws) ≡ tally (replicate k 0) (drop at ws)
+    → low ≡ lowest (is_thin seen) 0 (length seen) → LayerCounted ws at k end low
+counted ws seen at k end low h p l = (
+  h,
+  ap (λ (y : Tally). y.rest) p,
+  l ∙ ap (λ (y : Tally). lowest (is_thin y.seen) 0 (length y.seen)) p,
+)
 
 -- after a layer's equations stands the word that opens the next one, or the end word
 record Begins (X : List ℕ) : Type 0 where
@@ -221,12 +228,12 @@ module _ (d : ℕ) (tbl : List (List (List ℕ))) where
   from_first = ap (lowest (has_thin tbl) 0) (omega arith)
 
   module _ (j : ℕ) (f : From j) where
-    pub thin_found : j < d → lowest_thin tbl j < k_of j → Uncovered j (lowest_thin tbl j) ≡ coverage_of d tbl
+    pub thin_found : j < d → lowest_thin tbl j < k_of j → UncoveredAt j (lowest_thin tbl j) ≡ coverage_of d tbl
     unfolding coverage_of has_thin
     thin_found h l =
         let e : j ≡ first_thin d tbl = lowest_hit (has_thin tbl) d j (first_thin d tbl) f h (lt-ltb (lowest_thin tbl j) (k_of j) l) in
-        ap (λ (x : ℕ). Uncovered x (lowest_thin tbl x)) e
-        ∙ sym (pick_yes (ltb (first_thin d tbl) d) (Uncovered (first_thin d tbl) (lowest_thin tbl (first_thin d tbl))) Covered (lt-ltb (first_thin d tbl) d (omega arith)))
+        ap (λ (x : ℕ). UncoveredAt x (lowest_thin tbl x)) e
+        ∙ sym (pick_yes (ltb (first_thin d tbl) d) (UncoveredAt (first_thin d tbl) (lowest_thin tbl (first_thin d tbl))) Covered (lt-ltb (first_thin d tbl) d (omega arith)))
 
     pub none_thin : j < d → k_of j ≤ lowest_thin tbl j → From (j + 1)
     unfolding has_thin
@@ -236,4 +243,4 @@ module _ (d : ℕ) (tbl : List (List (List ℕ))) where
     unfolding coverage_of
     all_covered h =
         let e : d ≡ first_thin d tbl = lowest-none (has_thin tbl) d j (first_thin d tbl) f h in
-        sym (pick_no (ltb (first_thin d tbl) d) (Uncovered (first_thin d tbl) (lowest_thin tbl (first_thin d tbl))) Covered (le-ltb (first_thin d tbl) d (omega arith)))
+        sym (pick_no (ltb (first_thin d tbl) d) (UncoveredAt (first_thin d tbl) (lowest_thin tbl (first_thin d tbl))) Covered (le-ltb (first_thin d tbl) d (omega arith)))

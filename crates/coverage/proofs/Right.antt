@@ -15,9 +15,10 @@ use Rattle.parity_table.specs.Table.{layer_of, equation_of, TableOk}
 use Rattle.parity_table.specs.Coverage.{Mentions, InTwo, Covered, FirstUncovered}
 use Rattle.model.specs.Symbols.{lowest}
 use Rattle.model.proofs.Counts.{lowest-is}
-use Rattle.coverage.specs.declared.Coverage.{Coverage}
-use Rattle.coverage.specs.declared.Coverage.TheVariants as found
-use Rattle.coverage.specs.Coverage.{times, lowest_thin, has_thin, first_thin, coverage_of, Right}
+use Rattle.std.specs.Prelude.{Ok, Err}
+use Rattle.coverage.specs.declared.Uncovered.{Uncovered}
+use Rattle.coverage.specs.Coverage as found
+use Rattle.coverage.specs.Coverage.{Coverage, UncoveredAt, times, lowest_thin, has_thin, first_thin, coverage_of, Right}
 use Rattle.coverage.proofs.Times.{twice, two-equations, lowest-low}
 
 module _ (d : ℕ) (tbl : List (List (List ℕ))) (o : TableOk d tbl) where
@@ -122,20 +123,21 @@ module _ (d : ℕ) (tbl : List (List (List ℕ))) where
       )
 
   pub right_unique : (a b : Coverage) → Right d tbl a → Right d tbl b → a ≡ b
-  right_unique found.Covered found.Covered p q = refl
-  right_unique found.Covered (found.Uncovered j i) p q = absurd (not_covered j i q p)
-  right_unique (found.Uncovered j i) found.Covered p q = absurd (not_covered j i p q)
-  right_unique (found.Uncovered j i) (found.Uncovered l x) p q = let (e, f) = first_unique j i l x p q in ap₂ found.Uncovered e f
+  right_unique (Ok _) (Ok _) p q = refl
+  right_unique (Ok _) (Err u) p q = absurd (not_covered u.layer u.symbol q p)
+  right_unique (Err u) (Ok _) p q = absurd (not_covered u.layer u.symbol p q)
+  right_unique (Err u) (Err v) p q = let (e, f) = first_unique u.layer u.symbol v.layer v.symbol p q in ap₂ UncoveredAt e f
 
 -- ---- what is found is a layer of the table and a data symbol of it
 
-pub found-low : (d : ℕ) (tbl : List (List (List ℕ))) (j i : ℕ) → coverage_of d tbl ≡ found.Uncovered j i → (j < d) × (i ≤ k_of j)
+pub found-low : (d : ℕ) (tbl : List (List (List ℕ))) (j i : ℕ) → coverage_of d tbl ≡ UncoveredAt j i → (j < d) × (i ≤ k_of j)
 unfolding coverage_of
 found-low d tbl j i =
-    pick_ind (λ (c : Coverage). c ≡ found.Uncovered j i → (j < d) × (i ≤ k_of j)) (ltb (first_thin d tbl) d)
+    pick_ind (λ (c : Coverage). c ≡ UncoveredAt j i → (j < d) × (i ≤ k_of j)) (ltb (first_thin d tbl) d)
     (λ t e.
-    let p : first_thin d tbl ≡ j = cc in
-    let q : lowest_thin tbl (first_thin d tbl) ≡ i = cc in
+    let s : ◌≡◌ {A = Uncovered} (record { layer = first_thin d tbl; symbol = lowest_thin tbl (first_thin d tbl) }) (record { layer = j; symbol = i }) = cc in
+    let p : first_thin d tbl ≡ j = ap (λ (u : Uncovered). u.layer) s in
+    let q : lowest_thin tbl (first_thin d tbl) ≡ i = ap (λ (u : Uncovered). u.symbol) s in
     (omega (arith, ltb-true (first_thin d tbl) d t), omega (arith, lowest-low tbl (first_thin d tbl), ap k_of p)))
     (λ t e. let z : ◌≡◌ {A = ℕ} 0 1 = cc in absurd (omega arith))
 

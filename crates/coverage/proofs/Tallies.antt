@@ -8,7 +8,7 @@ use native.Mathlib.Numerals.{add-one}
 use native.Mathlib.Omega.{arith}
 use native.Mathlib.Decide.{dec_lt}
 use lib.ListN.{length, get_or, drop, set, length-set, drop_of_length-le}
-use lib.Seq.{drop-cons, get_or-drop, get_or-set_same, get_or-set_other}
+use lib.Seq.{drop-cons, get_or-set_same, get_or-set_other}
 use lib.Dec.{leb, ltb, eqb}
 use borrow.Author.Tests.{lt-ltb, le-ltb, ltb-true, ltb-false, le-leb, lt-leb, leb-true, leb-false, eqb-true, eqb-false}
 use Rattle.octets.proofs.Choice.{by_test, pick_yes, pick_no, pick_ind, and_yes}
@@ -22,7 +22,7 @@ use Rattle.parity_table.proofs.Rules.{EquationsOk}
 use Rattle.parity_table.proofs.Shape.{k_small}
 use Rattle.model.specs.Symbols.{bit, count}
 use Rattle.model.proofs.Counts.{is_it}
-use Rattle.coverage.specs.Counting.{ends_layer, has_end, noted, Below, Tally, tallied, tally, is_thin}
+use Rattle.coverage.specs.Counting.{ends_layer, has_end, noted, Below, Tally, tallied, tally}
 use Rattle.coverage.specs.Coverage.{times}
 
 -- ---- a word that ends a layer
@@ -213,19 +213,3 @@ pass_equations j e (ms ∷ es) X Y c hj o h p =
     (λ i. omega arith)
     (pass_members ms (equations_words (suc e) es ++ X) Y (λ i. times i es + c i) small
     (pass_equations j (suc e) es X Y c hj o.1 (omega arith) p))))
-
--- ---- an entry that is low
-
-pub thin_yes : (seen : List ℕ) (i : ℕ) → get_or seen i 0 < 2 → is_thin seen i ≡ true
-unfolding is_thin
-thin_yes seen i h = lt-ltb (get_or seen i 0) 2 h
-
-pub thin_no : (seen : List ℕ) (i : ℕ) → 2 ≤ get_or seen i 0 → is_thin seen i ≡ false
-unfolding is_thin
-thin_no seen i h = le-ltb (get_or seen i 0) 2 h
-
--- lists that are the same from element i on have the same one there
-pub same_there : (a b : List ℕ) (i : ℕ) → drop i a ≡ drop i b → get_or a i 0 ≡ get_or b i 0
-same_there a b i e =
-    let z : i + 0 ≡ i = omega arith in
-    ap (λ (n : ℕ). get_or a n 0) (sym z) ∙ sym (get_or-drop i a 0 0) ∙ ap (λ (l : List ℕ). get_or l 0 0) e ∙ get_or-drop i b 0 0 ∙ ap (λ (n : ℕ). get_or b n 0) z

@@ -45,3 +45,7 @@ abbrev pub LayerCounted : List ℕ → ℕ → ℕ → ℕ → ℕ → Type 0
 LayerCounted ws at k end low =
     (end ≤ length ws) × (drop end ws ≡ (tally (replicate k 0) (drop at ws)).rest)
     × (low ≡ lowest (is_thin (tally (replicate k 0) (drop at ws)).seen) 0 (length (tally (replicate k 0) (drop at ws)).seen))
+
+-- .. ends somewhere, and `low` is that symbol
+abbrev pub LayerThin : List ℕ → ℕ → ℕ → ℕ → Type 0
+LayerThin ws at k low = (end : ℕ) × LayerCounted ws at k end low

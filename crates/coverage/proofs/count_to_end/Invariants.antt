@@ -7,9 +7,9 @@ use lib.ListN.{length, drop}
 use Rattle.coverage.specs.Counting.{has_end, Below, tally}
 use Rattle.coverage.proofs.count_to_end.Given as goal
 
-abbrev pub invariant-loop-at : goal.invariant-loop-at
-invariant-loop-at l =
+abbrev pub invariant-loop-end : goal.invariant-loop-end
+invariant-loop-end l =
     (has_end (drop l.end l.ws) ≡ true) × Below l.seen l.end × (length l.seen ≡ length l.initial.seen) × (tally l.seen (drop l.end l.ws) ≡ tally l.initial.seen (drop l.at l.ws))
 
-abbrev pub decreases-loop-at : goal.decreases-loop-at
-decreases-loop-at l = length l.ws - l.end
+abbrev pub decreases-loop-end : goal.decreases-loop-end
+decreases-loop-end l = length l.ws - l.end
