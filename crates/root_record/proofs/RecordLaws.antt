@@ -1,20 +1,17 @@
 -- Root records: what their tests find, and that reader and writer are inverse.
 use mathlib.Core.Path.{◌≡◌, refl, sym, ap, ap₂, ◌∙◌}
-use mathlib.Core.Bool.{Bool, true, false, not, ◌&&◌}
+use mathlib.Core.Bool.{Bool, true, false, ◌&&◌}
 use mathlib.Core.List.{List, ◌++◌}
 use Prim.Native.Nat.{ℕ, zero, suc, ◌+◌, ◌-◌, ◌*◌, ◌/◌, ◌^◌, ◌≤◌, ◌<◌}
 use native.Mathlib.Omega.{arith}
-use lib.ListN.{length, take, drop, length-append, length-drop, take-append-drop}
+use lib.ListN.{length, take, drop, length-append, take-append-drop}
 use lib.Seq.{take_at, drop_at, drop-drop}
 use lib.Dec.{leb, ltb, eqb}
 use borrow.Author.Tests.{leb-true, eqb-true, lt-ltb, ltb-true, le-leb, eq-eqb, ne_eqb}
 use Rattle.octets.specs.ByteLists.{same}
 use Rattle.octets.specs.Choice.{pick}
-use Rattle.octets.proofs.ListLaws.{length_part}
-use Rattle.octets.proofs.Choice.{by_test, both, and_yes, yes_and, not_yes, not_no}
+use Rattle.octets.proofs.Choice.{by_test, both, and_yes, yes_and}
 use Rattle.sha256.specs.Hash.{sha256}
-use Rattle.sha256.specs.Call.{longest, after}
-use Rattle.sha256.proofs.CallLaws.{written}
 use Rattle.sha256.proofs.DigestLaws.{length-sha256}
 use Rattle.parity_table.specs.Shape.{depth_fits, k_of}
 use Rattle.parity_table.specs.Members.{every}
@@ -163,18 +160,18 @@ module _ (d : ℕ) (r : List ℕ) where
   right-depth v e n = turned_down (λ t. n (e ∙ (head-parts d r t).1))
 
   module _ (k : ℕ) (ek : k ≡ k_of (d - 1)) (s : Bool) (es : s ≡ (eqb (kind_at r 1) 2 && ltb (value_at r 1) (256 * k + 1))) where
-    pub right-size : not s ≡ true → false ≡ head_right d r
+    pub right-size : s ≡ false → false ≡ head_right d r
     unfolding size_in
     right-size n =
         turned_down
         (λ t.
         let (_, _, second, size, _) = head-parts d r t in
-        both (es ∙ yes_and (eq-eqb (kind_at r 1) 2 second) (lt-ltb (value_at r 1) (256 * k + 1) (omega arith))) (not_yes s n))
+        both (es ∙ yes_and (eq-eqb (kind_at r 1) 2 second) (lt-ltb (value_at r 1) (256 * k + 1) (omega arith))) n)
 
-    pub right-last : (k₀ v k₂ : ℕ) → k₀ ≡ kind_at r 0 → k₀ ≤ 1 → v ≡ value_at r 0 → v ≡ d → not s ≡ false → k₂ ≡ kind_at r 2 → eqb k₂ 3 ≡ head_right d r
+    pub right-last : (k₀ v k₂ : ℕ) → k₀ ≡ kind_at r 0 → k₀ ≤ 1 → v ≡ value_at r 0 → v ≡ d → s ≡ true → k₂ ≡ kind_at r 2 → eqb k₂ 3 ≡ head_right d r
     unfolding head_right size_in
     right-last k₀ v k₂ e₀ o ev q n e₂ =
-        let (second, size) = and_yes (eqb (kind_at r 1) 2) (ltb (value_at r 1) (256 * k + 1)) (sym es ∙ not_no s n) in
+        let (second, size) = and_yes (eqb (kind_at r 1) 2) (ltb (value_at r 1) (256 * k + 1)) (sym es ∙ n) in
         let below : value_at r 1 ≤ 256 * k_of (d - 1) = omega (arith, ltb-true (value_at r 1) (256 * k + 1) size) in
         rw (le-leb (kind_at r 0) 1 (omega arith), eq-eqb (value_at r 0) d (sym ev ∙ q), second, le-leb (value_at r 1) (256 * k_of (d - 1)) below, e₂)
 
@@ -189,15 +186,13 @@ module _ (r table : List ℕ) (c : ℕ) (ec : c ≡ value_at r 2) where
 
 -- ---- what the writer leaves: r₁ with the head, then h in place of the 32 bytes behind it
 
-pub record_put : (kind : Kind) (k d n : ℕ) (table r r₁ h : List ℕ) → k ≡ kind_number kind → length table ≤ longest → length r ≡ 556 → r₁ ≡ over (head k d n (length table / 4)) r
-    → h ≡ after table (take 32 (drop 12 r₁)) → take 12 r₁ ++ (h ++ drop 32 (drop 12 r₁)) ≡ record_of kind d n table (root_in r)
+pub record_put : (kind : Kind) (k d n : ℕ) (table r r₁ h : List ℕ) → k ≡ kind_number kind → r₁ ≡ over (head k d n (length table / 4)) r
+    → h ≡ sha256 table → take 12 r₁ ++ (h ++ drop 32 (drop 12 r₁)) ≡ record_of kind d n table (root_in r)
 unfolding record_of root_in
-record_put kind k d n table r r₁ h ek few sized e₁ eh =
+record_put kind k d n table r r₁ h ek e₁ eh =
     let front : List ℕ = head (kind_number kind) d n (length table / 4) in
     let long : length front ≡ 12 = length-head (kind_number kind) d n (length table / 4) in
     let put : r₁ ≡ over front r = e₁ ∙ ap (λ (v : ℕ). over (head v d n (length table / 4)) r) ek in
     let behind : drop 12 r₁ ≡ drop 12 r = ap (drop 12) put ∙ drop_at front (drop (length front) r) 12 long ∙ ap (λ (k : ℕ). drop k r) long in
-    let hash : h ≡ sha256 table =
-    eh ∙ written table (take 32 (drop 12 r₁)) few (length_part r₁ 12 32 (omega (arith, ap length behind, length-drop 12 r, length-drop 12 r₁))) in
-    ap₂ (λ (a b : List ℕ). a ++ (b ++ drop 32 (drop 12 r₁))) (ap (take 12) put ∙ take_at front (drop (length front) r) 12 long) hash
+    ap₂ (λ (a b : List ℕ). a ++ (b ++ drop 32 (drop 12 r₁))) (ap (take 12) put ∙ take_at front (drop (length front) r) 12 long) eh
     ∙ ap (λ (l : List ℕ). front ++ (sha256 table ++ l)) (ap (drop 32) behind ∙ drop-drop 32 12 r)

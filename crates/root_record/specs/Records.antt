@@ -1,19 +1,16 @@
 -- The root record: 02, "Length and table written in the root record" and "Same bytes at another place". Definitions only. A table is its words as
 -- big-endian bytes.
-use Rattle.std.specs.Prelude.{Bool, ◌&&◌, List, ◌++◌, ℕ, ◌+◌, ◌-◌, ◌*◌, ◌/◌, length, take, drop, leb, eqb}
+use Rattle.std.specs.Prelude.{Bool, ◌&&◌, List, ◌++◌, ℕ, ◌-◌, ◌*◌, ◌/◌, length, take, drop, leb, eqb}
 use Rattle.octets.specs.ByteLists.{same}
 use Rattle.octets.specs.Choice.{pick}
 use Rattle.sha256.specs.Hash.{sha256}
 use Rattle.parity_table.specs.Shape.{k_of}
 use Rattle.heads.specs.Heads.{head, kind_at, value_at}
+pub use Rattle.symbol_hash.specs.Kinds.{kind_number}
 use Rattle.symbol_hash.specs.declared.Kind.{Kind}
 use Rattle.symbol_hash.specs.declared.Kind.TheVariants.{Plain, Placed}
 
--- The volume's kind, by the kind of the record's first word: "In a new record the first word's kind is 00"; "Kind 01 records remain readable".
-abbrev pub kind_number : Kind → ℕ
-kind_number Placed = 0
-kind_number Plain = 1
-
+-- The volume's kind, by the kind of the record's first word, which is the kind's number.
 unfoldable pub kind_of : ℕ → Kind
 kind_of number = pick (eqb number 0) Placed Plain
 

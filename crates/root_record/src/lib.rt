@@ -4,10 +4,13 @@
 ghost use Rattle.std.specs.Prelude.{◌≡◌, ◌/◌, ◌^◌, ◌≤◌, ◌<◌, length};
 ghost use Rattle.parity_table.specs.Shape.{max_depth};
 ghost use Rattle.sha256.specs.Call.{longest};
-ghost use Rattle.root_record.specs.Records.{record_of, kind_number, kind_of, kind_in, size_in, root_in, head_right, names_table};
+ghost use Rattle.root_record.specs.Records.{record_of, kind_of, kind_in, size_in, root_in, head_right, names_table};
 
 use parity_table::data_count;
 use symbol_hash::Kind;
+
+// How many kinds of volume there are: 00 and 01.
+const KINDS: u32 = 2;
 
 // The bytes of a record; those in front of the table's hash, and in front of the root.
 pub const BYTES: usize = 556;
@@ -16,41 +19,26 @@ const HASH_AT: usize = 12;
 
 pub const ROOT_AT: usize = 44;
 
-// The number of a kind: that of the record's first word.
-fn kind_number(kind: Kind) -> u32
-    ensures { result ≡ kind_number kind }
-{
-    match kind {
-        Kind::Placed => 0,
-        Kind::Plain => 1,
-    }
-}
-
 // The kind of this number, 0 or 1.
 pub fn kind_of(number: u64) -> Kind
     ensures { result ≡ kind_of number }
 {
-    if number == 0 {
-        return Kind::Placed;
+    match number {
+        0 => Kind::Placed,
+        _ => Kind::Plain,
     }
-    Kind::Plain
 }
 
 // Test 11: whether the head has its kinds, this depth, and a block's length that the base has room for.
+#[tactic(auto, using(parity_table::proofs::Shape::k_small))]
 pub fn head_right(depth: usize, root_record: &[u8]) -> bool
     requires { (1 ≤ depth) × (depth ≤ max_depth) × (length root_record.now ≡ 556) }
     ensures { result ≡ head_right depth root_record.now }
 {
-    if heads::kind_at(root_record, 0) > 1 {
-        return false;
-    }
-    if heads::value_at(root_record, 0) != depth {
-        return false;
-    }
-    if !heads::names(root_record, 1, 2, 256 * data_count(depth - 1) + 1) {
-        return false;
-    }
-    heads::kind_at(root_record, 2) == 3
+    heads::kind_at(root_record, 0) < KINDS
+        && heads::value_at(root_record, 0) == depth
+        && heads::names(root_record, 1, 2, 256 * data_count(depth - 1) + 1)
+        && heads::kind_at(root_record, 2) == 3
 }
 
 // The volume's kind.
@@ -58,7 +46,7 @@ pub fn kind(root_record: &[u8]) -> Kind
     requires { length root_record.now ≡ 556 }
     ensures { result ≡ kind_in root_record.now }
 {
-    kind_of(heads::kind_at(root_record, 0) as u64)
+    kind_of(u64::from(heads::kind_at(root_record, 0)))
 }
 
 // The length of the block.
@@ -74,12 +62,8 @@ pub fn names_table(root_record: &[u8], table: &[u8]) -> bool
     requires { (length root_record.now ≡ 556) × (length table.now ≤ longest) }
     ensures { result ≡ names_table root_record.now table.now }
 {
-    if heads::value_at(root_record, 2) != table.len() / 4 {
-        return false;
-    }
-    let mut hash = [0u8; 32];
-    sha256::digest(table, &mut hash);
-    octets::equal_at(&hash, root_record, HASH_AT)
+    heads::value_at(root_record, 2) == table.len() / 4
+        && octets::equal_at(&sha256::digest_of(table), root_record, HASH_AT)
 }
 
 // Writes what stands in front of the root: kind and depth, the block's length, and the table's word count and hash.
@@ -87,6 +71,6 @@ pub fn put(kind: Kind, depth: usize, size: usize, table: &[u8], root_record: &mu
     requires { (depth < 2 ^ 30) × (size < 2 ^ 30) × (length table.now ≤ longest) × (length root_record.old ≡ 556) }
     ensures { root_record.new ≡ record_of kind depth size table.now (root_in root_record.old) }
 {
-    heads::put(kind_number(kind), depth, size, table.len() / 4, root_record);
-    sha256::digest(table, &mut root_record[HASH_AT..ROOT_AT]);
+    heads::put(u32::from(kind), depth, size, table.len() / 4, root_record);
+    root_record[HASH_AT..ROOT_AT].copy_from_slice(&sha256::digest_of(table));
 }

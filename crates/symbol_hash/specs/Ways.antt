@@ -1,8 +1,8 @@
 -- What the check of a way up answers, as the model has it. Definitions only.
+use Rattle.std.specs.Prelude.{Result, Ok, Err}
 use Rattle.model.specs.Climb.{Climb, leads, breaks}
-use Rattle.symbol_hash.specs.declared.Way.{Way}
-use Rattle.symbol_hash.specs.declared.Way.TheVariants.{Leads, Breaks}
+use Rattle.symbol_hash.specs.declared.Broken.{Broken}
 
-abbrev pub climb_of : Way → Climb
-climb_of Leads = leads
-climb_of (Breaks j) = breaks j
+abbrev pub climb_of : Result Unit Broken → Climb
+climb_of (Ok _) = leads
+climb_of (Err b) = breaks b.layer

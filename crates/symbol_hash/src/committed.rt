@@ -11,6 +11,7 @@ use parity_table::data_count;
 
 // Whether a symbol has the hash that is committed for symbol m of layer j: in the root for layer 0, else in the symbol of the layer above
 // that stands in b from byte up on.
+#[tactic(auto, using(crate::proofs::CommittedLaws::slot_lt))]
 pub fn fits(kind: Kind, j: usize, m: usize, symbol: &[u8], root: &[u8], b: &[u8], up: usize) -> bool
     requires { (j < max_depth) × (length symbol.now ≡ 256) × (j ≡ 0 → 32 * suc m ≤ length root.now)
         × (0 < j → (m < shape.n j) × (up + 256 ≤ length b.now)) }

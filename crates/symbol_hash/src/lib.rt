@@ -4,27 +4,51 @@
 mod committed; // where the committed hash stands
 
 ghost use Rattle.std.specs.Prelude.{◌≡◌, length};
+ghost use Rattle.symbol_hash.specs.Kinds.{kind_number, Numbered};
 ghost use Rattle.symbol_hash.specs.SymbolHash.{place_word, symbol_hash};
 
 pub use committed::fits;
 use parity_table::LAYER as KIND_01;
 
 // How a volume's symbols are hashed.
-#[derive(Clone, Copy)]
+#[derive(Clone, Copy, Debug, PartialEq, Eq)]
 pub enum Kind {
     // SHA-256 of the symbol's bytes
-    Plain,
+    Plain = 1,
     // SHA-256 of a word with the symbol's layer and number, then its bytes
-    Placed,
+    Placed = 0,
 }
 
-// What the check of symbols on the way up to the root finds.
-#[derive(Clone, Copy)]
-pub enum Way {
-    // every hash leads to the root
-    Leads,
-    // the first layer, going up, of a symbol with another hash
-    Breaks(usize),
+impl From<Kind> for u32 {
+    ghost from_gives = { λ kind number. number ≡ kind_number kind };
+
+    fn from(kind: Kind) -> u32 {
+        kind as u32
+    }
+}
+
+// The number is of no kind.
+#[derive(Clone, Copy, Debug, PartialEq, Eq)]
+pub struct NoSuchKind;
+
+impl TryFrom<u64> for Kind {
+    type Error = NoSuchKind;
+
+    ghost try_from_gives = { Numbered };
+
+    fn try_from(number: u64) -> Result<Self, NoSuchKind> {
+        match number {
+            0 => Ok(Kind::Placed),
+            1 => Ok(Kind::Plain),
+            _ => Err(NoSuchKind),
+        }
+    }
+}
+
+// The way up to the root breaks: the first layer, going up, of a symbol with another hash than the committed one.
+#[derive(Clone, Copy, Debug, PartialEq, Eq)]
+pub struct Broken {
+    pub layer: usize,
 }
 
 // The word of a place: kind 01, six bits of the layer, and twenty-four of the number.
@@ -38,14 +62,12 @@ pub fn hash(kind: Kind, layer: usize, number: usize, symbol: &[u8]) -> [u8; 32]
     requires { length symbol.now ≡ 256 }
     ensures { result ≡ symbol_hash kind layer number symbol.now }
 {
-    let mut digest = [0u8; 32];
     match kind {
-        Kind::Plain => {
-            sha256::digest(symbol, &mut digest);
-        }
+        Kind::Plain => sha256::digest_of(symbol),
         Kind::Placed => {
+            let mut digest = [0u8; 32];
             sha256::digest_with_word(place_word(layer, number), symbol, &mut digest);
+            digest
         }
     }
-    digest
 }

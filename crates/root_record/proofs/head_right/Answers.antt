@@ -1,36 +1,37 @@
 -- `head_right` meets its contract: the words of the head, one after the other.
-use mathlib.Core.Path.{ap}
-use mathlib.Core.Bool.{not}
-use Prim.Native.Nat.{◌-◌}
+use mathlib.Core.Path.{sym, ◌∙◌}
 use native.Mathlib.Omega.{arith}
-use Rattle.parity_table.proofs.Shape.{k_small}
+use borrow.Author.Tests.{eqb-true, eq-eqb, le-ltb}
+use Rattle.octets.proofs.Choice.{both}
 use Rattle.root_record.proofs.RecordLaws.{right_kind, right-depth, right-size, right-last}
 use Rattle.root_record.proofs.head_right.Goals as goal
+use Rattle.root_record.proofs.head_right.Goals.{then-kind_at-lt-KINDS, else-kind_at-lt-KINDS, then-value_at-depth, else-value_at-depth}
 
-pub returns-then-kind_at-gt1 : goal.returns-then-kind_at-gt1
-returns-then-kind_at-gt1 c =
-    let a = c.args in
-    right_kind a.depth a.root_record.now c.kind_at.result c.kind_at.ensures c.if-kind_at-gt1.true
+pub returns-else-names : goal.returns-else-names
+returns-else-names c =
+    let r = c.args.root_record.now in
+    elim c.if-value_at-depth.branch [
+      | then-value_at-depth w ↦
+          c.if-names.false ∙ right-size _ r _ w.data_count.ensures _ w.names.ensures (sym w.value-is ∙ c.if-names.false)
+      | else-value_at-depth w ↦
+          c.if-names.false
+          ∙ elim c.if-kind_at-lt-KINDS.branch [
+            | then-kind_at-lt-KINDS v ↦
+                right-depth _ r _ v.value_at.ensures (λ e. both (eq-eqb _ _ e) (sym v.value-is ∙ w.if-value_at-depth.false))
+            | else-kind_at-lt-KINDS v ↦ right_kind _ r _ c.kind_at.ensures (omega arith)
+          ]
+    ]
 
-pub returns-then-value_at-depth : goal.returns-then-value_at-depth
-returns-then-value_at-depth c =
-    let a = c.args in
-    right-depth a.depth a.root_record.now c.value_at.result c.value_at.ensures c.if-value_at-depth.true
-
-pub overflow_mul-data_count : goal.overflow_mul-data_count
-overflow_mul-data_count c =
-    omega (arith, c.requires, c.data_count.ensures, k_small (c.args.depth - 1) (omega (arith, c.requires)))
-
-pub overflow_add-data_count : goal.overflow_add-data_count
-overflow_add-data_count c =
-    omega (arith, c.requires, c.data_count.ensures, k_small (c.args.depth - 1) (omega (arith, c.requires)))
-
-pub returns-then-not-names : goal.returns-then-not-names
-returns-then-not-names c =
-    let a = c.args in
-    right-size a.depth a.root_record.now c.data_count.result c.data_count.ensures c.names.result c.names.ensures (ap not c.if-not-names.true)
-
-pub returns : goal.returns
-returns c =
-    let a = c.args in
-    right-last a.depth a.root_record.now c.data_count.result c.data_count.ensures c.names.result c.names.ensures c.kind_at.result c.value_at.result c.kind_at-2.result c.kind_at.ensures c.if-kind_at-gt1.false c.value_at.ensures c.if-value_at-depth.false (ap not c.if-not-names.false) c.kind_at-2.ensures
+pub returns-then-names : goal.returns-then-names
+returns-then-names c =
+    let r = c.args.root_record.now in
+    elim c.if-value_at-depth.branch [
+      | then-value_at-depth w ↦
+          elim c.if-kind_at-lt-KINDS.branch [
+            | then-kind_at-lt-KINDS v ↦
+                right-last _ r _ w.data_count.ensures _ w.names.ensures _ _ _ c.kind_at.ensures (omega arith) v.value_at.ensures
+                (eqb-true _ _ (sym v.value-is ∙ w.if-value_at-depth.true)) (sym w.value-is ∙ c.if-names.true) c.kind_at-then-names.ensures
+            | else-kind_at-lt-KINDS v ↦ both (sym v.value-is ∙ w.if-value_at-depth.true) (le-ltb _ _ v.if-kind_at-lt-KINDS.false)
+          ]
+      | else-value_at-depth w ↦ both (sym w.value-is ∙ c.if-names.true) w.if-value_at-depth.false
+    ]

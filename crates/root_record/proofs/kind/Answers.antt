@@ -5,4 +5,4 @@ use Rattle.root_record.proofs.kind.Goals as goal
 
 pub returns : goal.returns
 unfolding kind_in
-returns c = c.kind_of.ensures ∙ ap kind_of c.kind_at.ensures
+returns c = c.kind_of.ensures ∙ ap kind_of (c.from.ensures ∙ c.kind_at.ensures)

@@ -1,9 +1,10 @@
 -- `kind_of` meets its contract: 0, or another number.
+use native.Mathlib.Omega.{arith}
 use Rattle.root_record.proofs.RecordLaws.{kind_zero, kind_other}
 use Rattle.root_record.proofs.kind_of.Goals as goal
 
-pub returns-then-number-eq0 : goal.returns-then-number-eq0
-returns-then-number-eq0 c = kind_zero _ c.if-number-eq0.true
+pub returns-in-0 : goal.returns-in-0
+returns-in-0 c = kind_zero _ c.in-0.is
 
-pub returns : goal.returns
-returns c = kind_other _ c.if-number-eq0.false
+pub returns-in_default : goal.returns-in_default
+returns-in_default c = kind_other _ (omega arith)

@@ -1,10 +1,8 @@
 -- `hash` meets its contract, by the kind.
-use mathlib.Core.Path.{refl, sym, ap, ◌∙◌}
+use mathlib.Core.Path.{sym, ap, ◌∙◌}
 use mathlib.Core.List.{◌++◌}
-use native.Mathlib.Omega.{arith}
 use Rattle.octets.specs.BigEndian.{be}
 use Rattle.sha256.specs.Hash.{sha256}
-use Rattle.sha256.proofs.CallLaws.{written}
 use Rattle.symbol_hash.specs.SymbolHash.{symbol_hash}
 use Rattle.symbol_hash.proofs.hash.Goals as goal
 
@@ -12,8 +10,7 @@ pub returns-in-Plain : goal.returns-in-Plain
 unfolding symbol_hash
 returns-in-Plain c =
     let a = c.args in
-    c.digest.ensures.1 ∙ written _ _ (omega arith) refl
-    ∙ sym (ap (λ k. symbol_hash k a.layer a.number a.symbol.now) c.in-Plain.is)
+    c.digest_of.ensures ∙ sym (ap (λ k. symbol_hash k a.layer a.number a.symbol.now) c.in-Plain.is)
 
 pub returns-in-Placed : goal.returns-in-Placed
 unfolding symbol_hash
