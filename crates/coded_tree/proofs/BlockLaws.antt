@@ -1,12 +1,12 @@
 -- The block in the base of a tree, as the code meets it: put there and filled up, read back, and its filling tested.
 use mathlib.Core.Path.{◌≡◌, refl, sym, ap, ap₂, ◌∙◌}
 use mathlib.Core.Bool.{Bool, ◌&&◌}
-use mathlib.Core.List.{List, [], ◌∷◌, ◌++◌, append-nil, append_assoc}
+use mathlib.Core.List.{List, [], ◌∷◌, ◌++◌, append_assoc}
 use Prim.Native.Nat.{ℕ, ◌+◌, ◌-◌, ◌*◌, ◌≤◌}
 use native.Mathlib.Nat.{add-zero}
 use native.Mathlib.Omega.{arith}
 use lib.Dec.{eqb}
-use lib.ListN.{length, take, drop, replicate, drop_of_length-le, length-append, length-drop, length-replicate}
+use lib.ListN.{length, take, drop, replicate, length-append, length-drop, length-replicate}
 use lib.Seq.{paste, length-paste, take-paste, take_all, take-length, take-take, drop-drop}
 use borrow.Rule.Slice.PartMut.{mid_of, put_mid}
 use Rattle.octets.specs.ByteLists.{same}
@@ -16,14 +16,8 @@ use Rattle.parity_table.specs.Shape.{k_of}
 use Rattle.model.specs.Shape.{tree, places, place}
 use Rattle.model.specs.Writer.{block_of, filled, zero_filled}
 use Rattle.model.proofs.Shapes.{tree_ok}
-use Rattle.model.proofs.Flat.{paste-right, take-drop-take}
+use Rattle.model.proofs.Flat.{paste-right}
 use Rattle.coded_tree.proofs.WriterLaws.{layer-room}
-
--- a copy that fills its buffer
-paste_all : (d s : List ℕ) → length s ≡ length d → paste d 0 s (length s) ≡ s
-paste_all d s l =
-    let z : 0 + length s ≡ length d = omega arith in
-    ap₂ ◌++◌ (take-length s) (ap (λ n. drop n d) z ∙ drop_of_length-le d {i = length d} (omega arith)) ∙ append-nil s
 
 -- u is t after a copy of s to it; the bytes behind s, up to m of them, become zeros
 module _ (t s u z : List ℕ) (at m k : ℕ) (fits : length s ≤ m) (room : at + m ≤ length t) (ek : k ≡ m - length s) (eu : u ≡ paste t at s (length s)) where
@@ -84,29 +78,14 @@ module _ (d base : ℕ) (t : List ℕ) (deep : 1 ≤ d) (eb : base ≡ places tr
       let e : w ≡ n = omega arith in
       sym (take-take w (256 * k_of (d - 1)) (drop (256 * base) t) (omega arith)) ∙ ap₂ take e (sym block_there)
 
-  pub block-read : (block out : List ℕ) → length block ≤ 256 * k_of (d - 1)
-      → (let part = take (256 * base + length block - 256 * base) (drop (256 * base) t) in out ≡ paste block 0 part (length part))
-      → out ≡ take (length block) (block_of tree d t)
-  block-read block out lb eo =
-      let n = 256 * base + length block - 256 * base in
-      let en : n ≡ length block = omega arith in
-      eo ∙ paste_all block (take n (drop (256 * base) t)) (length_part t (256 * base) n (omega (arith, base-room)) ∙ en) ∙ block_part (length block) lb
+  -- the whole of it, as the code finds it
+  pub block_there_at : (m : ℕ) → m ≡ k_of (d - 1) → take (256 * base + 256 * m - 256 * base) (drop (256 * base) t) ≡ block_of tree d t
+  block_there_at m em = let w : 256 * base + 256 * m - 256 * base ≡ 256 * k_of (d - 1) = omega arith in ap (λ (n : ℕ). take n (drop (256 * base) t)) w ∙ sym block_there
 
-  -- the base's data symbols from byte n on, and whether they are zero
-  module _ (n m : ℕ) (em : m ≡ k_of (d - 1)) (h : n ≤ 256 * k_of (d - 1)) where
-    abbrev rest : List ℕ
-    rest = take (256 * base + 256 * m - (256 * base + n)) (drop (256 * base + n) t)
-
-    rest_there : rest ≡ drop n (block_of tree d t)
-    rest_there =
-        let w = 256 * k_of (d - 1) - n in
-        let ew : 256 * base + 256 * m - (256 * base + n) ≡ w = omega arith in
-        let l : length (block_of tree d t) ≡ 256 * k_of (d - 1) = ap length block_there ∙ length_part t (256 * base) (256 * k_of (d - 1)) base-room in
-        ap₂ take ew (sym (drop-drop n (256 * base) t))
-        ∙ sym (take-drop-take w n (256 * k_of (d - 1)) (drop (256 * base) t) (omega arith))
-        ∙ ap (λ (q : List ℕ). take w (drop n q)) (sym block_there)
-        ∙ take_all w (drop n (block_of tree d t)) (omega (arith, l, length-drop n (block_of tree d t)))
-
-    pub rest_zero : same rest (replicate (length rest) 0) ≡ zero_filled tree d n t
-    unfolding zero_filled
-    rest_zero = ap (λ (l : List ℕ). same l (replicate (length l) 0)) rest_there ∙ sym (zeros-same (drop n (block_of tree d t)))
+-- what is behind its first n bytes, tested
+pub zero-rest : (d n : ℕ) (t s : List ℕ) → s ≡ block_of tree d t
+    → same (take (length s - n) (drop n s)) (replicate (length (take (length s - n) (drop n s))) 0) ≡ zero_filled tree d n t
+unfolding zero_filled
+zero-rest d n t s e =
+    let whole : take (length s - n) (drop n s) ≡ drop n s = take_all (length s - n) (drop n s) (omega (arith, length-drop n s)) in
+    ap (λ (l : List ℕ). same l (replicate (length l) 0)) (whole ∙ ap (drop n) e) ∙ sym (zeros-same (drop n (block_of tree d t)))

@@ -10,7 +10,7 @@ use lib.Seq.{paste, take-paste, take_all, take-length, length-paste}
 use Rattle.symbol_hash.specs.SymbolHash.{symbol_hash}
 use Rattle.symbol_hash.specs.declared.Kind.{Kind}
 use Rattle.symbol_hash.proofs.Laws.{length-symbol_hash}
-use Rattle.parity_table.specs.Shape.{k_of, n_of}
+use Rattle.parity_table.specs.Shape.{k_of, n_of, max_depth}
 use Rattle.model.specs.Shape.{tree, places, place}
 use Rattle.model.specs.Symbols.{joined, sym_at}
 use Rattle.model.specs.Coded.{root_of}
@@ -19,25 +19,28 @@ use Rattle.model.proofs.Shapes.{tree_ok}
 use Rattle.model.proofs.Hashes.{column_lt}
 use Rattle.coded_tree.proofs.ParityLaws.{sym_at_there}
 
--- the hash of symbol i of layer j + 1, which stands at place base + i, into layer j, which starts at place above
-pub hash_put : (kind : Kind) (t u h : List ℕ) (j i above base k n : ℕ) → above ≡ places tree j → base ≡ places tree (suc j) → k ≡ k_of j → n ≡ 256
-    → h ≡ symbol_hash kind (j + 1) i (take n (drop (256 * (base + i)) t))
+-- layer j, from place above on, and the layer below it, from place base on, are in the tree t, and symbol i is one of the latter's
+abbrev pub Hashed : List ℕ → ℕ → ℕ → ℕ → ℕ → ℕ → Type 0
+Hashed t above base k j i =
+    (above ≡ places tree j) × (base ≡ places tree (suc j)) × (k ≡ k_of j) × (j < max_depth) × (i < n_of (suc j)) × (256 * (base + n_of (suc j)) ≤ length t)
+
+-- its hash into layer j
+pub hash_put : (kind : Kind) (t s u h : List ℕ) (above base k j i : ℕ) → Hashed t above base k j i
+    → s ≡ take 256 (drop (256 * (base + i)) t) → h ≡ symbol_hash kind (j + 1) i s
     → u ≡ paste t (256 * (above + i % k) + 32 * (i / k)) h (length h) → u ≡ put_hash tree (symbol_hash kind) j i t
 unfolding put_hash hash_place place
-hash_put kind t u h j i above base k n ea eb ek en eh eu =
-    let s : h ≡ symbol_hash kind (suc j) i (sym_at tree t (suc j) i) =
-    eh ∙ ap₂ (λ l m. symbol_hash kind l i (take m (drop (256 * (base + i)) t))) (add-one j) en
-    ∙ ap (symbol_hash kind (suc j) i) (sym (sym_at_there t (suc j) base eb i)) in
-    let l : length h ≡ 32 = ap length s ∙ length-symbol_hash kind (suc j) i _ in
+hash_put kind t s u h above base k j i (ea, eb, ek, _, _, _) es eh eu =
+    let is : h ≡ symbol_hash kind (suc j) i (sym_at tree t (suc j) i) =
+    eh ∙ ap₂ (λ l v. symbol_hash kind l i v) (add-one j) (es ∙ sym (sym_at_there t (suc j) base eb i)) in
+    let l : length h ≡ 32 = ap length is ∙ length-symbol_hash kind (suc j) i _ in
     eu ∙ ap (λ m. paste t (256 * (above + i % k) + 32 * (i / k)) h m) l
     ∙ ap₂ (λ a c. paste t (256 * (a + i % c) + 32 * (i / c)) h 32) ea ek
-    ∙ ap (λ v. paste t (256 * (places tree j + i % k_of j) + 32 * (i / k_of j)) v 32) s
+    ∙ ap (λ v. paste t (256 * (places tree j + i % k_of j) + 32 * (i / k_of j)) v 32) is
 
 -- the hash stays in layer j, and 32 bytes are there for it
-pub hash-room : (t : List ℕ) (j i above base k : ℕ) → above ≡ places tree j → base ≡ places tree (suc j) → k ≡ k_of j → i < n_of (suc j)
-    → 256 * (base + n_of (suc j)) ≤ length t → (0 < k) × (256 * (above + i % k) + 32 * (i / k) + 32 ≤ length t) × (i % k < k) × (i / k < 8)
+pub hash-room : (t : List ℕ) (above base k j i : ℕ) → Hashed t above base k j i → (0 < k) × (256 * (above + i % k) + 32 * (i / k) + 32 ≤ length t) × (i % k < k) × (i / k < 8)
 unfolding places
-hash-room t j i above base k ea eb ek hi room =
+hash-room t above base k j i (ea, eb, ek, _, hi, room) =
     let p : 0 < k = omega (arith, tree_ok.shape.some j) in
     let c : i / k_of j < 8 = column_lt tree tree_ok j i hi in
     let q : i / k < 8 = omega (arith, ap (λ v. i / v) ek) in
@@ -74,19 +77,19 @@ joined_snoc g x (suc m) =
 abbrev pub top_hash : Kind → List ℕ → ℕ → List ℕ
 top_hash kind t i = symbol_hash kind 0 i (sym_at tree t 0 i)
 
-pub root_more : (kind : Kind) (t root u h : List ℕ) (i n : ℕ) → i < 16 → length root ≡ 512 → n ≡ 256 → take (32 * i) root ≡ joined (top_hash kind t) 0 i
-    → h ≡ symbol_hash kind 0 i (take n (drop (256 * i) t)) → u ≡ paste root (32 * i) h (length h)
+pub root_more : (kind : Kind) (t root s u h : List ℕ) (i : ℕ) → i < 16 → length root ≡ 512 → take (32 * i) root ≡ joined (top_hash kind t) 0 i
+    → s ≡ take 256 (drop (256 * i) t) → h ≡ symbol_hash kind 0 i s → u ≡ paste root (32 * i) h (length h)
     → (length u ≡ 512) × (take (32 * (i + 1)) u ≡ joined (top_hash kind t) 0 (i + 1))
 unfolding places
-root_more kind t root u h i n hi l en e eh eu =
+root_more kind t root s u h i hi l e es eh eu =
     let z : 0 + i ≡ i = omega arith in
-    let s : h ≡ top_hash kind t i =
-    eh ∙ ap₂ (λ m o. symbol_hash kind 0 i (take m (drop (256 * o) t))) en (sym z) ∙ ap (symbol_hash kind 0 i) (sym (sym_at_there t 0 0 refl i)) in
-    let lh : length h ≡ 32 = ap length s ∙ length-symbol_hash kind 0 i _ in
+    let is : h ≡ top_hash kind t i =
+    eh ∙ ap (symbol_hash kind 0 i) (es ∙ ap (λ o. take 256 (drop (256 * o) t)) (sym z) ∙ sym (sym_at_there t 0 0 refl i)) in
+    let lh : length h ≡ 32 = ap length is ∙ length-symbol_hash kind 0 i _ in
     let k : 32 * (i + 1) ≡ 32 * i + length h = omega arith in (
       ap length eu ∙ length-paste root (32 * i) h (length h) (omega arith) (omega arith) ∙ l,
       ap₂ take k eu ∙ take-paste root (32 * i) h (length h) (omega arith) (omega arith)
-          ∙ ap₂ ◌++◌ e (take-length h ∙ s ∙ ap (top_hash kind t) (sym z))
+          ∙ ap₂ ◌++◌ e (take-length h ∙ is ∙ ap (top_hash kind t) (sym z))
           ∙ sym (ap (joined (top_hash kind t) 0) (add-one i) ∙ joined_snoc (top_hash kind t) 0 i),
     )
 

@@ -11,13 +11,9 @@ use lib.Dec.{ltb}
 use Rattle.octets.specs.ByteLists.{xors}
 use Rattle.octets.proofs.ListLaws.{length_part}
 use Rattle.parity_table.specs.Shape.{k_of, n_of}
-use Rattle.parity_table.specs.declared.Answer.TheVariants.{Whole}
 use Rattle.parity_table.specs.Members.{every}
-use Rattle.parity_table.specs.Table.{layer_of, equation_of}
-use Rattle.parity_table.specs.Reader.{read_of}
-use Rattle.parity_table.specs.Parse.{table_of}
+use Rattle.parity_table.specs.Table.{TableOk, layer_of, equation_of}
 use Rattle.parity_table.proofs.Rules.{members-below}
-use Rattle.parity_table.proofs.Accepts.{accepted-table}
 use Rattle.model.specs.Shape.{Shape, tree, places, place}
 use Rattle.model.specs.Symbols.{symbol_in, zeros, xor_of, others, sym_at, put_at}
 use Rattle.model.specs.Writer.{parities}
@@ -107,24 +103,23 @@ pub parities-none : (j e : ℕ) (es : List (List ℕ)) (t : List ℕ) → length
 unfolding parities
 parities-none j e es t h = ap (λ q. parities tree j e q t) (drop_of_length-le es h)
 
--- ---- an equation of the table, where the code finds it
+-- ---- a layer and an equation of a table that keeps the rules
 
-module _ (d : ℕ) (ws : List ℕ) (r : read_of d ws ≡ Whole) (j e k : ℕ) (hj : j < d) (ek : k ≡ k_of j) (he : e < 3 * k_of j) (ms : List ℕ)
-    (em : ms ≡ equation_of (table_of ws) j e) where
-  pub members-inside : every (λ y. ltb y (n_of j)) ms ≡ true
-  members-inside = ap (every (λ y. ltb y (n_of j))) em ∙ members-below d (table_of ws) (accepted-table d ws r) j e hj he
+module _ (d : ℕ) (tbl : List (List (List ℕ))) (rules : TableOk d tbl) (j : ℕ) (hj : j < d) where
+  module _ (e k : ℕ) (ek : k ≡ k_of j) (he : e < 3 * k_of j) (ms : List ℕ) (em : ms ≡ equation_of tbl j e) where
+    pub members-inside : every (λ y. ltb y (n_of j)) ms ≡ true
+    members-inside = ap (every (λ y. ltb y (n_of j))) em ∙ members-below d tbl rules j e hj he
 
-  pub parity_inside : k + e < n_of j
-  unfolding n_of
-  parity_inside = omega arith
+    pub parity_inside : k + e < n_of j
+    unfolding n_of
+    parity_inside = omega arith
 
-  pub parity_step : (t u : List ℕ) → u ≡ put_at tree t j (k + e) (xor_of (sym_at tree t j) (others (k + e) ms))
-      → parities tree j e (drop e (layer_of (table_of ws) j)) t ≡ parities tree j (e + 1) (drop (e + 1) (layer_of (table_of ws) j)) u
-  unfolding equation_of
-  parity_step t u eu =
-      parities-next j e (layer_of (table_of ws) j) t u (omega (arith, (accepted-table d ws r).equations j hj))
-      (eu ∙ ap₂ (λ c l. put_at tree t j (c + e) (xor_of (sym_at tree t j) (others (c + e) l))) ek em)
+    pub parity_step : (t u : List ℕ) → u ≡ put_at tree t j (k + e) (xor_of (sym_at tree t j) (others (k + e) ms))
+        → parities tree j e (drop e (layer_of tbl j)) t ≡ parities tree j (e + 1) (drop (e + 1) (layer_of tbl j)) u
+    unfolding equation_of
+    parity_step t u eu =
+        parities-next j e (layer_of tbl j) t u (omega (arith, rules.equations j hj))
+        (eu ∙ ap₂ (λ c l. put_at tree t j (c + e) (xor_of (sym_at tree t j) (others (c + e) l))) ek em)
 
-pub layer-done : (d : ℕ) (ws : List ℕ) → read_of d ws ≡ Whole → (j e : ℕ) → j < d → 3 * k_of j ≤ e → (t : List ℕ)
-    → parities tree j e (drop e (layer_of (table_of ws) j)) t ≡ t
-layer-done d ws r j e hj he t = parities-none j e (layer_of (table_of ws) j) t (omega (arith, (accepted-table d ws r).equations j hj))
+  pub layer-done : (e : ℕ) → 3 * k_of j ≤ e → (t : List ℕ) → parities tree j e (drop e (layer_of tbl j)) t ≡ t
+  layer-done e he t = parities-none j e (layer_of tbl j) t (omega (arith, rules.equations j hj))

@@ -17,9 +17,7 @@ fn put_hash(kind: Kind, tree: &mut [u8], above: usize, base: usize, k: usize, j:
         × (256 * (base + n_of (suc j)) ≤ length tree.old) }
     ensures { tree.new ≡ put_hash shape (symbol_hash kind) j i tree.old }
 {
-    let from = 256 * (base + i);
-    let to = from + 256;
-    let h = symbol_hash::hash(kind, j + 1, i, &tree[from..to]);
+    let h = symbol_hash::hash(kind, j + 1, i, octets::symbol_at(tree, base + i));
     octets::copy_at(&h, tree, 256 * (above + i % k) + 32 * (i / k));
 }
 
@@ -41,10 +39,8 @@ pub fn put_root(kind: Kind, tree: &[u8], root: &mut [u8])
     requires { (256 * 16 ≤ length tree.now) × (length root.old ≡ 512) }
     ensures { root.new ≡ root_of shape (symbol_hash kind) (sym_at shape tree.now) }
 {
-    for i in 0..16usize {
-        let from = 256 * i;
-        let to = from + 256;
-        let h = symbol_hash::hash(kind, 0, i, &tree[from..to]);
+    for i in 0..16 {
+        let h = symbol_hash::hash(kind, 0, i, octets::symbol_at(tree, i));
         octets::copy_at(&h, root, 32 * i);
     }
 }

@@ -12,7 +12,7 @@ ghost use Rattle.model.specs.Shape.{tree as shape, places};
 
 pub use marks::first_absent;
 pub use parity::xor_others;
-pub use writer::{read_block, write, zero_filled};
+pub use writer::{block_in, read_block, write, zero_filled};
 
 // The place of the first symbol of layer j: 16·(2^j−1).
 pub fn first_place(j: usize) -> usize

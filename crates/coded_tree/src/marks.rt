@@ -2,21 +2,16 @@
 ghost use Rattle.std.specs.Prelude.{◌≡◌, ◌+◌, ◌≤◌, ◌<◌, length};
 ghost use Rattle.parity_table.specs.Shape.{max_depth};
 ghost use Rattle.model.specs.Shape.{tree as shape, places};
-ghost use Rattle.model.specs.Symbols.{lowest};
+ghost use Rattle.model.specs.Symbols.{found};
 ghost use Rattle.model.specs.Repair.{absent_at};
 
 use crate::first_place;
 
-// The lowest of the first n symbols of layer j that is not marked held; n where each is.
-pub fn first_absent(marks: &[u8], j: usize, n: usize) -> usize
+// The lowest of the first n symbols of layer j that isn't marked held, if there is one.
+pub fn first_absent(marks: &[u8], j: usize, n: usize) -> Option<usize>
     requires { (j < max_depth) × (places shape j + n ≤ length marks.now) }
-    ensures { result ≡ lowest (absent_at shape marks.now j) 0 n }
+    ensures { result ≡ found (absent_at shape marks.now j) n }
 {
     let base = first_place(j);
-    for i in 0..n {
-        if marks[base + i] != 1 {
-            return i;
-        }
-    }
-    n
+    marks[base..base + n].iter().position(|mark| *mark != 1)
 }

@@ -17,8 +17,8 @@ fn put_given(tree: &[u8], members: &[u32], x: usize, j: usize, out: &mut [u8], a
         ≡ splice out.old at (given_bytes shape (sym_at shape tree.now) j (others x members.now))) }
 {
     let mut p = at;
-    for i in 0..members.len() {
-        let y = members[i] as usize;
+    for &member in members {
+        let y = member as usize;
         if y != x {
             put_way(tree, j, y, out, p);
             p += 256 * (j + 1);

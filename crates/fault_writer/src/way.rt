@@ -13,9 +13,7 @@ pub fn put_symbol(tree: &[u8], l: usize, m: usize, out: &mut [u8], at: usize)
     requires { Layers l (suc m) tree.now × (at + 256 ≤ length out.old) }
     ensures { (S : Shape) → Hangs S l → out.new ≡ splice out.old at (sym_at S tree.now l m) }
 {
-    let from = 256 * (first_place(l) + m);
-    let to = from + 256;
-    octets::copy_at(&tree[from..to], out, at);
+    octets::copy_at(octets::symbol_at(tree, first_place(l) + m), out, at);
 }
 
 // Symbol i of layer j with its path.
@@ -23,12 +21,10 @@ pub fn put_way(tree: &[u8], j: usize, i: usize, out: &mut [u8], at: usize)
     requires { Layers j (suc i) tree.now × (at + 256 * suc j ≤ length out.old) }
     ensures { out.new ≡ splice out.old at (way_bytes shape (sym_at shape tree.now) j i) }
 {
-    let mut l = j;
     let mut m = i;
     let mut p = at;
-    put_symbol(tree, l, m, out, p);
-    while 0 < l {
-        l -= 1;
+    put_symbol(tree, j, m, out, p);
+    for l in (0..j).rev() {
         m %= data_count(l);
         p += 256;
         put_symbol(tree, l, m, out, p);

@@ -6,7 +6,6 @@ use Prim.Native.Nat.{ℕ, suc, ◌+◌, ◌-◌, ◌*◌, ◌≤◌, ◌<◌}
 use native.Mathlib.Omega.{arith}
 use lib.ListN.{take, drop}
 use Rattle.octets.specs.ByteLists.{same}
-use Rattle.octets.proofs.ListLaws.{part_ends}
 use Rattle.model.specs.Shape.{tree}
 use Rattle.model.specs.Symbols.{symbol_in}
 use Rattle.model.specs.Climb.{leads, breaks, climb}
@@ -28,13 +27,13 @@ has_above root s d j m =
     path-committed tree root (drop (256 * (2 * (d - j) - 1)) s) (sample_data d s) j m
     (λ u e. ap (λ o. take 256 (drop o s)) (symbol-above d j u e))
 
-pub fits-is : (H : ℕ → ℕ → List ℕ → List ℕ) (root s : List ℕ) (d i x j m : ℕ) (b : Bool) → j ≡ sample_layer d x → m ≡ sample_number tree d i x
-    → b ≡ same (H j m (take (256 * x + 256 - 256 * x) (drop (256 * x) s))) (path_hash tree root j m (drop (256 * (2 * (d - j) - 1)) s))
+pub fits-is : (H : ℕ → ℕ → List ℕ → List ℕ) (root s : List ℕ) (d i x j m : ℕ) (v : List ℕ) (b : Bool) → j ≡ sample_layer d x → m ≡ sample_number tree d i x
+    → v ≡ take 256 (drop (256 * x) s) → b ≡ same (H j m v) (path_hash tree root j m (drop (256 * (2 * (d - j) - 1)) s))
     → b ≡ sample_fits tree H root d i s x
 unfolding sample_fits symbol_in
-fits-is H root s d i x j m b ej em eb =
+fits-is H root s d i x j m v b ej em ev eb =
     eb
-    ∙ ap₂ (λ u v. same (H j m u) v) (part_ends s (256 * x) 256) (has_above root s d j m)
+    ∙ ap₂ (λ u v. same (H j m u) v) ev (has_above root s d j m)
     ∙ ap₂ (λ l n. same (H l n (take 256 (drop (256 * x) s))) (sample_has tree root d s l n)) ej em
 
 -- ---- the way up

@@ -8,12 +8,3 @@ pub mod symbols;
 
 pub use checker::check;
 pub use sampler::{first_absent, take};
-
-// What the search for a needed symbol that is absent finds.
-#[derive(Clone, Copy)]
-pub enum Found {
-    // the lowest index in the sample of such a symbol
-    At(usize),
-    // none: each is marked held
-    Nothing,
-}

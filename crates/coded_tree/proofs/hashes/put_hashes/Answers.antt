@@ -23,10 +23,6 @@ loop-i-init c = let e : 8 * c.data_count-k.result ≡ n_of (suc c.args.j) = omeg
     let z : 8 * c.data_count-k.result - 0 ≡ n_of (suc c.args.j) = omega arith in
     (omega arith, e, c.data_count-k.ensures, c.first_place-above.ensures, c.first_place-base.ensures ∙ ap (places shape) (add-one c.args.j), refl, ap (λ n. put_hashes shape (symbol_hash c.args.kind) c.args.j 0 n c.args.tree.now) z)
 
-pub put_hash-requires : goal.put_hash-requires
-put_hash-requires c =
-    (c.loop-i.invariant.3, c.loop-i.invariant.4, c.loop-i.invariant.2, omega arith, omega arith, omega (arith, c.loop-i.invariant.4, c.requires.1))
-
 pub loop-i-preserved : goal.loop-i-preserved
 loop-i-preserved c =
     (omega arith, c.loop-i.invariant.1, c.loop-i.invariant.2, c.loop-i.invariant.3, c.loop-i.invariant.4, search rules, hashes-step c.args.kind c.args.j c.loop-i.i _ c.loop-i.tree _ _ (omega arith) c.put_hash.ensures c.loop-i.invariant.6)

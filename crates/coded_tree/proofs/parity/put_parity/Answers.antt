@@ -1,7 +1,6 @@
 -- `put_parity` meets its contract: the other members gathered, and stored.
 use mathlib.Core.Path.{refl}
-use native.Mathlib.Omega.{arith}
-use Rattle.coded_tree.proofs.ParityLaws.{length-others, parity_put}
+use Rattle.coded_tree.proofs.ParityLaws.{parity_put}
 use Rattle.model.specs.Symbols.{zeros}
 use Rattle.parity_table.specs.Shape.{n_of}
 use Rattle.coded_tree.proofs.parity.put_parity.Goals as goal
@@ -10,23 +9,6 @@ pub xor_others-requires : goal.xor_others-requires
 unfolding zeros
 xor_others-requires c =
     (refl, (n_of c.args.j, c.requires.1, c.requires.3))
-
-pub overflow_add-base : goal.overflow_add-base
-overflow_add-base c =
-    let pre = c.requires in
-    omega (arith, pre.1, pre.2)
-
-pub overflow_mul-base : goal.overflow_mul-base
-overflow_mul-base c =
-    let pre = c.requires in
-    omega (arith, pre.1, pre.2)
-
-pub copy_at-requires : goal.copy_at-requires
-copy_at-requires c =
-    let a = c.args in
-    let full = length-others a.tree.now _ a.j a.base a.x a.members.now c.requires.0 c.requires.1 c.requires.3
-    c.xor_others.ensures in
-    omega (arith, full, c.requires.1, c.requires.2)
 
 pub returns : goal.returns
 returns c =

@@ -10,11 +10,6 @@ use Rattle.fault_writer.proofs.ProofLaws.{given-length, proof-length, proof_put}
 use Rattle.fault_writer.proofs.WayLaws.{layers_fewer}
 use Rattle.fault_writer.proofs.proof.put_proof.Goals as goal
 
-pub put-requires : goal.put-requires
-put-requires c =
-    let pre = c.requires in
-    (omega arith, omega (arith, pre.0.layers.layer), pre.1, pre.2, omega (arith, pre.3))
-
 pub put_given-p-requires : goal.put_given-p-requires
 put_given-p-requires c =
     let n = given-length c.args.tree.now c.args.members.now c.args.j c.args.e c.args.x c.requires.0 in
@@ -24,11 +19,6 @@ pub put_path-requires : goal.put_path-requires
 put_path-requires c =
     let n = given-length c.args.tree.now c.args.members.now c.args.j c.args.e c.args.x c.requires.0 in
     (layers_fewer c.args.j c.requires.0.symbols 0 c.args.tree.now (omega arith) c.requires.0.layers, omega (arith, n, c.requires.3, c.put_given-p.ensures.0, c.put_given-p.auto.out, c.put.auto.out))
-
-pub overflow_add-result : goal.overflow_add-result
-overflow_add-result c =
-    let n = given-length c.args.tree.now c.args.members.now c.args.j c.args.e c.args.x c.requires.0 in
-    omega (arith, n, c.requires.3, c.put_given-p.ensures.0)
 
 pub returns : goal.returns
 returns c =

@@ -4,6 +4,3 @@ use Rattle.fault_writer.proofs.way.put_way.Given as goal
 
 abbrev pub invariant-loop-l : goal.invariant-loop-l
 invariant-loop-l l = WayAt l.tree l.j l.i l.at l.initial.out l.l l.m l.p l.out
-
-abbrev pub decreases-loop-l : goal.decreases-loop-l
-decreases-loop-l l = l.l

@@ -31,4 +31,4 @@ fits-requires c =
 pub returns : goal.returns
 returns c =
     let a = c.args in
-    fits-is (symbol_hash a.kind) a.root.now a.sample.now a.depth a.i a.x c.layer_of-j.result c.number_of-m.result c.fits.result c.layer_of-j.ensures c.number_of-m.ensures c.fits.ensures
+    fits-is (symbol_hash a.kind) a.root.now a.sample.now a.depth a.i a.x c.layer_of-j.result c.number_of-m.result _ c.fits.result c.layer_of-j.ensures c.number_of-m.ensures c.symbol_at.ensures.symbol c.fits.ensures

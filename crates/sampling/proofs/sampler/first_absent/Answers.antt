@@ -1,34 +1,15 @@
--- `first_absent` meets its contract. The loop keeps: every symbol before x is marked held.
-use mathlib.Core.Path.{refl}
-use native.Mathlib.Omega.{arith}
-use Rattle.sampling.proofs.SamplerLaws.{absent-here, held-here, all_held, held_start}
-use Rattle.sampling.proofs.SymbolLaws.{sample-place_lt}
+-- `first_absent` meets its contract: the first number of a symbol of the sample that is absent.
+use mathlib.Core.Bool.{false, true}
+use mathlib.Core.Path.{◌≡◌}
+use borrow.Author.Rules.{rules}
+use borrow.Author.Tests.{tests}
+use Rattle.std.proofs.lemmas.Iterator.{first_from_Range}
+use Rattle.sampling.specs.Absent.{absent}
+use Rattle.sampling.proofs.SamplerLaws.{first-is}
 use Rattle.sampling.proofs.sampler.first_absent.Goals as goal
-
-pub loop-x-init : goal.loop-x-init
-loop-x-init c = (omega arith, refl, held_start c.args.depth c.args.i c.args.marks.now)
-
-pub sample_place-p-requires : goal.sample_place-p-requires
-sample_place-p-requires c = (c.requires.0, (omega arith, omega arith))
-
-pub bounds-marks-p : goal.bounds-marks-p
-bounds-marks-p c =
-    omega
-    (arith, sample-place_lt c.args.depth c.args.i c.loop-x.x c.requires.0 (omega arith), c.sample_place-p.ensures)
-
-pub returns-then-marks-p-ne1 : goal.returns-then-marks-p-ne1
-returns-then-marks-p-ne1 c =
-    absent-here c.args.depth
-    c.args.i
-    c.args.marks.now c.loop-x.x
-    c.sample_place-p.result c.sample_place-p.ensures (omega arith)
-    c.loop-x.invariant.2 c.if-marks-p-ne1.true
-
-pub loop-x-preserved : goal.loop-x-preserved
-loop-x-preserved c =
-    (omega arith, c.loop-x.invariant.1, held-here c.args.depth c.args.i c.args.marks.now c.loop-x.x c.sample_place-p.result c.sample_place-p.ensures (omega arith) c.loop-x.invariant.2 c.if-marks-p-ne1.false)
 
 pub returns : goal.returns
 returns c =
-    all_held c.args.depth c.args.i
-    c.args.marks.now c.loop-x.x (omega arith) c.loop-x.invariant.2
+    let a = c.args in
+    first-is a.depth a.i a.marks.now c.find.result
+    (first_from_Range _ _ _ _ (λ x. absent a.depth a.i a.marks.now x ≡ true) (λ x. absent a.depth a.i a.marks.now x ≡ false) c.find.ensures.ran (λ x q k. search (rules, tests)) (λ x q k. search (rules, tests)))
