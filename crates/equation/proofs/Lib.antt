@@ -1,2 +1,3 @@
+pub mod AbsentLaws
 pub mod CommittedLaws
 pub mod TurnLaws

@@ -1,35 +1,39 @@
 -- One turn of (b) on the lent buffers: what each outcome comes to.
 use mathlib.Core.Bool.{false, true}
-use mathlib.Core.List.{List, [], ◌++◌, ◌∷◌}
+use mathlib.Core.List.{List, ◌++◌}
 use mathlib.Core.Path.{◌∙◌, ◌≡◌, ap, ap₂, refl, subst, sym}
 use Prim.Native.Nat.{◌*◌, ◌+◌, ◌-◌, ◌<◌, ◌^◌, ◌≤◌, suc, ℕ}
 use native.Mathlib.Nat.{mul-le-mul_right}
 use native.Mathlib.Omega.{arith}
 use lib.Dec.{eqb, ltb}
-use lib.ListN.{drop, get_or, length, length-drop, length-take, replicate, set, take}
+use lib.ListN.{drop, drop_of_length-le, get_or, length, length-drop, length-take, replicate, set, take}
 use lib.Seq.{paste}
-use borrow.Author.Tests.{eq-eqb, leb-true, ltb-true, ne_eqb}
-use Rattle.octets.proofs.Choice.{and_yes, pick_no, pick_yes}
-use Rattle.octets.proofs.ListLaws.{part_ends}
-use Rattle.octets.specs.ByteLists.{same}
+use borrow.Author.Tests.{eq-eqb, ltb-true, ne_eqb}
+use Rattle.std.proofs.Common.{Some}
+use Rattle.std.specs.List.{find}
+use Rattle.octets.proofs.Choice.{pick_no, pick_yes}
+use Rattle.octets.proofs.ListLaws.{length-xors, part_ends}
+use Rattle.octets.specs.ByteLists.{same, xors}
 use Rattle.parity_table.proofs.Parse.{members-take}
-use Rattle.parity_table.specs.Members.{every, last_of}
+use Rattle.parity_table.specs.Members.{last_of}
 use Rattle.parity_table.specs.Parse.{members_of, over}
 use Rattle.model.proofs.Counts.{every-member, every-others, first_member, first_of-passes, is_it, last-member, length-others}
-use Rattle.model.proofs.Members.{length-xor_of, last_get}
+use Rattle.model.proofs.Bytes.{length-zeros, sym_zeros, xors_assoc, xors_comm}
+use Rattle.model.proofs.Members.{every-below, from-here, last_get, length-xor_of}
 use Rattle.model.specs.Fault.{proof_bytes, proof_length}
 use Rattle.model.specs.Repair.{St, absent_at, act, fault, fits_at, form, refute, rest_of, store_sym, twins, use_eq, working, write_fault, write_twins}
 use Rattle.model.specs.Shape.{place, places, tree}
-use Rattle.model.specs.Symbols.{count, first_of, others, put_at, sym_at, symbol_in, xor_of, zeros}
+use Rattle.model.specs.Symbols.{count, others, put_at, sym_at, symbol_in, xor_of, zeros}
 use Rattle.symbol_hash.specs.SymbolHash.{symbol_hash}
 use Rattle.symbol_hash.specs.declared.Kind.{Kind}
-use Rattle.coded_tree.proofs.ParityLaws.{symbols-from}
+use Rattle.coded_tree.proofs.ParityLaws.{sym_at_there, symbols-from}
 use Rattle.fault_writer.proofs.Splices.{splice-more, splice-over}
 use Rattle.fault_writer.proofs.WayLaws.{layers_fewer, symbol-length}
 use Rattle.fault_writer.specs.Room.{Layers, Members, splice}
+use Rattle.equation.proofs.AbsentLaws.{found-first}
 use Rattle.equation.specs.Rooms.{Level, Marked, Rooted, Stands, Workable, members_at}
 use Rattle.equation.specs.States.{fits_in, state}
-use Rattle.equation.specs.Turns.{Refuted, Took, few}
+use Rattle.equation.specs.Turns.{Refuted, Took}
 use Rattle.equation.specs.declared.Turn.{Turn}
 use Rattle.equation.specs.declared.Turn.TheVariants.{Fault, Stored, Twins, Used}
 
@@ -87,33 +91,67 @@ pub last_in : (xs : List ℕ) → 1 ≤ length xs → 1 ≤ count (is_it (get_or
 last_in xs h = subst (λ (z : ℕ). 1 ≤ count (is_it z) xs) (last_get xs 0 h) (last-member xs 0 h)
 
 -- the first absent member is a member
-pub absent_in : (ms m : List ℕ) (j x : ℕ) → 0 < count (absent_at tree m j) ms → x ≡ first_of (absent_at tree m j) ms → 1 ≤ count (is_it x) ms
-absent_in ms m j x h e = subst (λ (z : ℕ). 1 ≤ count (is_it z) ms) (sym e) (first_member (absent_at tree m j) ms h)
+pub absent_in : (ms m : List ℕ) (j x : ℕ) → find (absent_at tree m j) ms ≡ Some x → 1 ≤ count (is_it x) ms
+absent_in ms m j x e =
+    let (some, first) = found-first (absent_at tree m j) ms x e in
+    subst (λ (z : ℕ). 1 ≤ count (is_it z) ms) (sym first) (first_member (absent_at tree m j) ms some)
 
 -- .. and absent
-pub first-is-absent : (ms m : List ℕ) (j x : ℕ) → 0 < count (absent_at tree m j) ms → x ≡ first_of (absent_at tree m j) ms → absent_at tree m j x ≡ true
-first-is-absent ms m j x h e = ap (absent_at tree m j) e ∙ first_of-passes (absent_at tree m j) ms h
+first-is-absent : (ms m : List ℕ) (j x : ℕ) → find (absent_at tree m j) ms ≡ Some x → absent_at tree m j x ≡ true
+first-is-absent ms m j x e =
+    let (some, first) = found-first (absent_at tree m j) ms x e in
+    ap (absent_at tree m j) first ∙ first_of-passes (absent_at tree m j) ms some
 
--- at most one member is absent, and not one: none is
-pub none-absent : (ms m : List ℕ) (j n : ℕ) → few j m ms ≡ true → n ≡ count (absent_at tree m j) ms → (n ≡ 1 → ⊥) → count (absent_at tree m j) ms ≡ 0
-none-absent ms m j n f e z = omega (arith, leb-true (count (absent_at tree m j) ms) 1 f, e, z)
+-- ---- the exclusive-or of all members, as a loop meets them
 
--- a number that is none of the members
-others-all : (n x : ℕ) (ms : List ℕ) → n ≤ x → every (λ y. ltb y n) ms ≡ true → others x ms ≡ ms
-unfolding others every
-others-all n x [] h a = refl
-others-all n x (y ∷ ys) h a =
-    let (b, c) = and_yes (ltb y n) (every (λ z. ltb z n) ys) a in
-    pick_no (eqb y x) _ _ (ne_eqb y x (λ q. omega (arith, ltb-true y n b))) ∙ ap (λ (l : List ℕ). y ∷ l) (others-all n x ys h c)
+module _ (t ms : List ℕ) (j : ℕ) where
+  -- what is left from member i on
+  abbrev left : ℕ → List ℕ
+  left i = xor_of (sym_at tree t j) (drop i ms)
 
--- whether an equation holds
-pub holds-is : (j x : ℕ) (t ms sum : List ℕ) (k : Members j t ms) → 2 ^ 30 ≤ x → sum ≡ xor_of (sym_at tree t j) (others x ms)
-    → same sum (replicate (length sum) 0) ≡ same (xor_of (sym_at tree t j) ms) zeros
-unfolding zeros
-holds-is j x t ms sum k h es =
-    let e : sum ≡ xor_of (sym_at tree t j) ms = es ∙ ap (xor_of (sym_at tree t j)) (others-all k.symbols x ms (omega (arith, k.numbered)) k.within) in
-    let l : length sum ≡ 256 = ap length e ∙ length-xor_of (sym_at tree t j) k.symbols (λ y b. symbol-length j k.symbols t k.layers y b) ms k.within in
-    ap₂ (λ (s : List ℕ) (n : ℕ). same s (replicate n 0)) e l
+  -- sum, with what is left from member i on, is the whole
+  pub record Summed (sum : List ℕ) (i : ℕ) : Type 0 where
+    pub sized : length sum ≡ 256
+    pub rest : xors sum (left i) ≡ xor_of (sym_at tree t j) ms
+
+  module _ (k : Members j t ms) where
+    every_full : (y : ℕ) → y < k.symbols → length (sym_at tree t j y) ≡ 256
+    every_full y h = symbol-length j k.symbols t k.layers y h
+
+    length-sum : length (xor_of (sym_at tree t j) ms) ≡ 256
+    length-sum = length-xor_of (sym_at tree t j) k.symbols every_full ms k.within
+
+    pub summed_start : (sum : List ℕ) → sum ≡ zeros → Summed sum 0
+    summed_start sum e =
+        record {
+          sized = ap length e ∙ length-zeros;
+          rest = ap (λ (s : List ℕ). xors s (left 0)) e ∙ xors_comm zeros (left 0) ∙ sym_zeros (left 0) length-sum;
+        }
+
+    pub member-room : (i base : ℕ) → i < length ms → base ≡ places tree j → 256 * (base + get_or ms i 0) + 256 ≤ length t
+    member-room i base h eb = omega (arith, every-below k.symbols ms k.within i h, k.layers.room)
+
+    pub summed_on : (i base : ℕ) (sum more : List ℕ) → i < length ms → base ≡ places tree j
+        → more ≡ xors sum (take (length sum) (drop (256 * (base + get_or ms i 0)) t)) → Summed sum i → Summed more (i + 1)
+    unfolding xor_of
+    summed_on i base sum more h eb em s =
+        let y : ℕ = get_or ms i 0 in
+        let e : more ≡ xors sum (sym_at tree t j y) =
+        em ∙ ap (λ (n : ℕ). xors sum (take n (drop (256 * (base + y)) t))) s.sized ∙ ap (xors sum) (sym (sym_at_there t j base eb y)) in
+        record {
+          sized = omega (arith, ap length e, length-xors sum (sym_at tree t j y), s.sized, every_full y (every-below k.symbols ms k.within i h));
+          rest =
+              ap (λ (v : List ℕ). xors v (left (i + 1))) e ∙ xors_assoc sum (sym_at tree t j y) (left (i + 1))
+              ∙ ap (λ (l : List ℕ). xors sum (xor_of (sym_at tree t j) l)) (sym (from-here ms i h))
+              ∙ s.rest;
+        }
+
+    -- whether the equation holds
+    pub holds-is : (i : ℕ) (sum : List ℕ) → length ms ≤ i → Summed sum i → same sum (replicate (length sum) 0) ≡ same (xor_of (sym_at tree t j) ms) zeros
+    unfolding zeros xor_of
+    holds-is i sum h s =
+        let none : xors sum (left i) ≡ sum = ap (λ (l : List ℕ). xors sum (xor_of (sym_at tree t j) l)) (drop_of_length-le ms h) ∙ sym_zeros sum s.sized in
+        ap₂ (λ (v : List ℕ) (n : ℕ). same v (replicate n 0)) (sym none ∙ s.rest) s.sized
 
 -- ---- the outcomes
 
@@ -122,12 +160,13 @@ module _ (kind : Kind) (root ms : List ℕ) (j e : ℕ) (t m o u : List ℕ) whe
   now s d = state t m o u s d working
 
   -- one member is absent, x, and v is the exclusive-or of the others
-  module _ (x : ℕ) (v : List ℕ) (some : 0 < count (absent_at tree m j) ms) (ex : x ≡ first_of (absent_at tree m j) ms) (ev : v ≡ xor_of (sym_at tree t j) (others x ms)) where
+  module _ (x : ℕ) (v : List ℕ) (ex : find (absent_at tree m j) ms ≡ Some x) (ev : v ≡ xor_of (sym_at tree t j) (others x ms)) where
     act_forms : (s d : ℕ) → act tree (symbol_hash kind) root j e ms (now s d) ≡ form tree (symbol_hash kind) root j e ms x v (now s d)
     unfolding act rest_of
     act_forms s d =
+        let (some, first) = found-first (absent_at tree m j) ms x ex in
         pick_no (eqb (count (absent_at tree m j) ms) 0) _ _ (ne_eqb (count (absent_at tree m j) ms) 0 (λ q. omega arith))
-        ∙ ap (λ (z : ℕ). form tree (symbol_hash kind) root j e ms z (xor_of (sym_at tree t j) (others z ms)) (now s d)) (sym ex)
+        ∙ ap (λ (z : ℕ). form tree (symbol_hash kind) root j e ms z (xor_of (sym_at tree t j) (others z ms)) (now s d)) (sym first)
         ∙ ap (λ (z : List ℕ). form tree (symbol_hash kind) root j e ms x z (now s d)) (sym ev)
 
     pub form-stores : (base : ℕ) (t' m' u' : List ℕ) → fits_in kind root t j x v ≡ true → base ≡ places tree j → length v ≡ 256
@@ -140,7 +179,7 @@ module _ (kind : Kind) (root ms : List ℕ) (j e : ℕ) (t m o u : List ℕ) whe
               act_forms s d ∙ pick_yes (fits_in kind root t j x v) _ _ f
               ∙ sym (ap₂ (λ (a b : List ℕ). state a b o u' (suc s) d working) (et ∙ ap₂ (λ (b n : ℕ). paste t (256 * (b + x)) v n) eb lv) mt
               ∙ ap (λ (a : List ℕ). state (put_at tree t j x v) (set m (place tree j x) 1) o a (suc s) d working) eu);
-          changed = (absent_in ms m j x some ex, first-is-absent ms m j x some ex, mt, eu);
+          changed = (absent_in ms m j x ex, first-is-absent ms m j x ex, mt, eu);
         }
 
     pub form_faults : (n : ℕ) (o' : List ℕ) → fits_in kind root t j x v ≡ false → n ≡ length (proof_bytes tree (sym_at tree t) j e x ms)

@@ -1,25 +1,23 @@
 // One turn of (b): an equation with at most one absent member is taken.
-ghost use Rattle.std.specs.Prelude.{◌≡◌, true, ◌<◌};
+ghost use Rattle.std.specs.Prelude.{◌≡◌, true};
+ghost use Rattle.std.specs.List.{find};
 ghost use Rattle.octets.specs.ByteLists.{same};
 ghost use Rattle.model.specs.Shape.{tree as shape};
-ghost use Rattle.model.specs.Symbols.{count, xor_of, zeros, sym_at};
+ghost use Rattle.model.specs.Symbols.{xor_of, zeros, sym_at};
 ghost use Rattle.model.specs.Repair.{absent_at};
 ghost use Rattle.fault_writer.specs.Room.{Members};
 ghost use Rattle.equation.specs.Rooms.{Workable, Turnable, Stands, members_at};
 ghost use Rattle.equation.specs.Turns.{Took, Refuted, few};
 
 use crate::Turn;
-use crate::absent::{count_absent, first_absent};
+use crate::absent::first_absent;
 use crate::committed::fits;
 use coded_tree::{first_place, xor_others};
 use fault_writer::{put_proof, put_symbol};
 use parity_table::index;
 use symbol_hash::Kind;
 
-// A number that no symbol has.
-const NONE: usize = 1 << 30;
-
-// "One absent: form it from the others; if its hash fits, store and mark it, else write a fault proof withholding it and stop."
+// "One absent: form it from the others; if its hash fits, store and mark it, else write a fault proof withholding it and stop." It is x.
 fn form(
     kind: Kind,
     root: &[u8],
@@ -30,14 +28,14 @@ fn form(
     used: &mut [u8],
     j: usize,
     e: usize,
+    x: usize,
 ) -> Turn
     requires { Turnable root.now members.now tree.old marks.old out.old used.old j e
-        × (0 < count (absent_at shape marks.old j) members.now) }
+        × (find (absent_at shape marks.old j) members.now ≡ Some x) }
     ensures { Took kind root.now members.now j e tree.old marks.old out.old
         used.old tree.new marks.new out.new used.new result }
 {
     let base = first_place(j);
-    let x = first_absent(members, marks, j);
     let mut v = [0u8; 256];
     xor_others(&mut v, tree, base, members, x);
     if fits(kind, root, tree, j, x, &v) {
@@ -82,8 +80,11 @@ pub fn holds(members: &[u32], tree: &[u8], j: usize) -> bool
     requires { Members j tree.now members.now }
     ensures { result ≡ same (xor_of (sym_at shape tree.now j) members.now) zeros }
 {
+    let base = first_place(j);
     let mut sum = [0u8; 256];
-    xor_others(&mut sum, tree, first_place(j), members, NONE);
+    for &y in members {
+        octets::xor_at(&mut sum, tree, 256 * (base + y as usize));
+    }
     octets::is_zero(&sum)
 }
 
@@ -104,8 +105,8 @@ fn settle(
     ensures { Took kind root.now members.now j e tree.old marks.old out.old
         used.old tree.new marks.new out.new used.new result }
 {
-    if count_absent(members, marks, j) == 1 {
-        return form(kind, root, members, tree, marks, out, used, j, e);
+    if let Some(x) = first_absent(members, marks, j) {
+        return form(kind, root, members, tree, marks, out, used, j, e, x);
     }
     if holds(members, tree, j) {
         used[e] = 1;
@@ -135,6 +136,16 @@ pub fn take(
         marks.old out.old used.old tree.new marks.new out.new used.new result }
 {
     let at = starts[number];
-    let end = at + index::count_members(words, at);
-    settle(kind, root, &words[at..end], tree, marks, out, used, j, e)
+    let size = index::count_members(words, at);
+    settle(
+        kind,
+        root,
+        &words[at..at + size],
+        tree,
+        marks,
+        out,
+        used,
+        j,
+        e,
+    )
 }

@@ -30,10 +30,5 @@ pub fn is_gap(kind: Kind, root: &[u8], tree: &[u8], marks: &[u8], j: usize, i: u
     ensures { result ≡ gap_at shape (symbol_hash kind) root.now tree.now marks.now tree.now j i }
 {
     let p = first_place(j) + i;
-    if marks[p] != 1 {
-        return true;
-    }
-    let from = 256 * p;
-    let to = from + 256;
-    !fits(kind, root, tree, j, i, &tree[from..to])
+    marks[p] != 1 || !fits(kind, root, tree, j, i, octets::symbol_at(tree, p))
 }

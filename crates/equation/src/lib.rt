@@ -9,8 +9,8 @@ pub use absent::count_absent;
 pub use cases::{holds, take};
 pub use committed::is_gap;
 
-// What a turn at an equation did.
-#[derive(Clone, Copy)]
+// What a turn at an equation did: no Option or Result, since two of the four end the peeling and two go on.
+#[derive(Clone, Copy, Debug, PartialEq, Eq)]
 pub enum Turn {
     // it holds
     Used,

@@ -7,12 +7,9 @@ use native.Mathlib.Numerals.{add-one}
 use lib.ListN.{length, get_or, take, drop}
 use Rattle.octets.specs.ByteLists.{xors}
 use Rattle.octets.proofs.ListLaws.{length_part, length-xors}
-use Rattle.symbol_hash.specs.declared.Way.{Way}
-use Rattle.symbol_hash.specs.declared.Way.TheVariants.{Leads, Breaks}
-use Rattle.symbol_hash.specs.Ways.{climb_of}
 use Rattle.model.specs.Shape.{tree}
 use Rattle.model.specs.Symbols.{symbol_in, zeros, others}
-use Rattle.model.specs.Climb.{Climb, Ways, all_lead, break_at, first_break}
+use Rattle.model.specs.Climb.{Climb, Ways, all_lead, break_at, breaks, first_break, leads}
 use Rattle.model.specs.Fault.{next, given_xor, way_check, path_check, ways_check}
 use Rattle.model.proofs.Bytes.{xors_comm, xors_assoc, sym_zeros, length-zeros}
 use Rattle.model.proofs.Members.{others_skip, others-take, others-end}
@@ -30,6 +27,18 @@ module _ (b : List ℕ) (j : ℕ) where
       let m : length (given_xor j ys (next j (drop from b))) ≡ 256 =
       ap (λ c. length (given_xor j ys c)) (next_at b j from) ∙ length_xor ys (from + 256 * (j + 1)) (omega arith) in
       omega (arith, length-xors (take 256 (drop from b)) (given_xor j ys (next j (drop from b))), l, m)
+
+-- ---- the way at position p, before others
+
+leads_on : (p : ℕ) (w : Climb) (later : Ways) → all_lead ≡ first_break p w all_lead → first_break p w later ≡ later
+unfolding first_break
+leads_on p leads later e = refl
+leads_on p (breaks l) later e = cc
+
+breaks_off : (p : ℕ) (w : Climb) (later : Ways) (l q : ℕ) → break_at l q ≡ first_break p w all_lead → break_at l q ≡ first_break p w later
+unfolding first_break
+breaks_off p leads later l q e = cc
+breaks_off p (breaks m) later l q e = e
 
 -- ---- the members other than x, from member i on, which stand in b from byte `from` on
 
@@ -106,28 +115,25 @@ module _ (b ms : List ℕ) (j x : ℕ) where
       abbrev way : (ℕ → ℕ → List ℕ → List ℕ) → List ℕ → Climb
       way H root = way_check tree H root j (get_or ms i 0) (drop from b)
 
-      module _ (H : ℕ → ℕ → List ℕ → List ℕ) (root : List ℕ) (at p : ℕ) (r : Way) (er : climb_of r ≡ way H root) (s : Led H root at i from p) where
-        found-one : (to : ℕ) → to ≡ from + 256 * (j + 1) → first_break p (climb_of r) (found H root (i + 1) to (suc p)) ≡ found H root 0 at 0
+      -- w, what the check of its way finds
+      module _ (H : ℕ → ℕ → List ℕ → List ℕ) (root : List ℕ) (at p : ℕ) (w : Climb) (ew : w ≡ way H root) (s : Led H root at i from p) where
+        found-one : (to : ℕ) → to ≡ from + 256 * (j + 1) → first_break p w (found H root (i + 1) to (suc p)) ≡ found H root 0 at 0
         unfolding ways_check
         found-one to et =
-            ap₂ (λ w c. first_break p w (ways_check tree H root j x (suc p) (others x (drop (i + 1) ms)) c)) er (sym (next_to to et))
+            ap₂ (λ v c. first_break p v (ways_check tree H root j x (suc p) (others x (drop (i + 1) ms)) c)) ew (sym (next_to to et))
             ∙ ap (λ q. ways_check tree H root j x p q (drop from b)) (sym one)
             ∙ s.rest
 
-        pub led_on : (to q : ℕ) → to ≡ from + 256 * (j + 1) → q ≡ p + 1 → r ≡ Leads → Led H root at (i + 1) to q
-        unfolding first_break
-        led_on to q et eq t =
+        pub led_on : (to q : ℕ) → to ≡ from + 256 * (j + 1) → q ≡ p + 1 → all_lead ≡ first_break p w all_lead → Led H root at (i + 1) to q
+        led_on to q et eq e =
             record {
               few = omega (arith, s.few);
               room = rest-room to et (256 * j) s.room;
-              rest = ap (found H root (i + 1) to) (eq ∙ add-one p) ∙ ap (λ w. first_break p w (found H root (i + 1) to (suc p))) (ap climb_of (sym t)) ∙ found-one to et;
+              rest = ap (found H root (i + 1) to) (eq ∙ add-one p) ∙ sym (leads_on p w (found H root (i + 1) to (suc p)) e) ∙ found-one to et;
             }
 
-        pub led_off : (l : ℕ) → r ≡ Breaks l → break_at l p ≡ found H root 0 at 0
-        unfolding first_break
-        led_off l t =
-            let to : ℕ = from + 256 * (j + 1) in
-            ap (λ w. first_break p w (found H root (i + 1) to (suc p))) (ap climb_of (sym t)) ∙ found-one to refl
+        pub led_off : (l q : ℕ) → break_at l q ≡ first_break p w all_lead → break_at l q ≡ found H root 0 at 0
+        led_off l q e = let to : ℕ = from + 256 * (j + 1) in breaks_off p w (found H root (i + 1) to (suc p)) l q e ∙ found-one to refl
 
       pub gathered_on : (at to : ℕ) (acc sum : List ℕ) → to ≡ from + 256 * (j + 1) → sum ≡ xors acc (take (length acc) (drop from b)) → Gathered at acc i from
           → Gathered at sum (i + 1) to
@@ -151,19 +157,10 @@ module _ (b ms : List ℕ) (j x : ℕ) where
     pub path_room : from + 256 * j ≤ length b
     path_room = omega (arith, ap (λ q. length q * suc j) (others-end x ms i h), s.room)
 
-    -- r, what the check of x's path finds
-    module _ (r : Way) (er : climb_of r ≡ path_check tree H root j x (drop from b)) where
-      led-last : first_break p (climb_of r) all_lead ≡ found H root 0 at 0
-      unfolding ways_check
-      led-last = ap (λ w. first_break p w all_lead) er ∙ sym (ap (λ q. ways_check tree H root j x p q (drop from b)) (others-end x ms i h)) ∙ s.rest
-
-      pub led-end : r ≡ Leads → all_lead ≡ found H root 0 at 0
-      unfolding first_break
-      led-end t = ap (λ w. first_break p w all_lead) (ap climb_of (sym t)) ∙ led-last
-
-      pub led-last_off : (l : ℕ) → r ≡ Breaks l → break_at l p ≡ found H root 0 at 0
-      unfolding first_break
-      led-last_off l t = ap (λ w. first_break p w all_lead) (ap climb_of (sym t)) ∙ led-last
+    -- w, what the check of x's path finds
+    pub led-end : (w : Climb) → w ≡ path_check tree H root j x (drop from b) → first_break p w all_lead ≡ found H root 0 at 0
+    unfolding ways_check
+    led-end w ew = ap (λ v. first_break p v all_lead) ew ∙ sym (ap (λ q. ways_check tree H root j x p q (drop from b)) (others-end x ms i h)) ∙ s.rest
 
   pub gathered_end : (at : ℕ) (acc : List ℕ) (i from : ℕ) → length ms ≤ i → Gathered at acc i from → acc ≡ left 0 at
   unfolding given_xor

@@ -8,19 +8,19 @@ use native.Mathlib.Nat.{mul-le-mul_right}
 use lib.ListN.{length, drop}
 use lib.Dec.{leb, ltb, eqb}
 use borrow.Author.Tests.{leb-true, ltb-true, eq-eqb, ne_eqb}
+use Rattle.std.proofs.Common.{Err, Ok, Result}
 use Rattle.octets.specs.Choice.{pick}
 use Rattle.octets.specs.ByteLists.{same}
-use Rattle.octets.proofs.Choice.{and_yes, pick_yes, pick_no, not_no}
+use Rattle.octets.proofs.Choice.{and_yes, pick_yes, pick_no}
 use Rattle.heads.specs.Heads.{kind_at, value_at}
 use Rattle.model.specs.Shape.{Shape, Hangs, tree}
 use Rattle.model.specs.Symbols.{count, others}
-use Rattle.model.specs.Climb.{Ways as FoundWays}
+use Rattle.model.specs.Climb.{Ways}
 use Rattle.model.specs.Fault.{proof_withheld, proof_length, body, given_xor, after_given, Verdict, accepted, wrong_head, wrong_length, broken, no_fault, ruling, path_hash, ways_check}
 use Rattle.model.proofs.Counts.{is_it, count_le, every-member, ascending_once, length-others}
 use Rattle.model.proofs.Ways.{after_at}
 use Rattle.model.proofs.Hung.{path_hash-hung, ways_check-hung}
-use Rattle.fault_proof.specs.declared.Ways.{Ways}
-use Rattle.fault_proof.specs.declared.Ways.TheVariants.{Lead, Break}
+use Rattle.fault_proof.specs.declared.Break.{Break}
 use Rattle.fault_proof.specs.Verdicts.{ways_of}
 use Rattle.fault_proof.specs.Lent.{Members}
 use Rattle.fault_proof.specs.Ruled.{withholds, ruled, judged}
@@ -73,7 +73,7 @@ module _ (H : ℕ → ℕ → List ℕ → List ℕ) (root : List ℕ) (j x : �
 
     -- ---- the hashes
 
-    abbrev ways : FoundWays
+    abbrev ways : Ways
     ways = ways_check tree H root j x 0 (others x ms) (drop 12 b)
 
     abbrev fit : Bool
@@ -87,16 +87,16 @@ module _ (H : ℕ → ℕ → List ℕ → List ℕ) (root : List ℕ) (j x : �
         ∙ ap (λ c. ruling ways (same (H j x (given_xor j (others x ms) (drop 12 b))) (path_hash tree root j x c))) path_there
 
     -- w, what the check of the ways finds
-    module _ (w : Ways) (ew : ways_of w ≡ ways) where
+    module _ (w : Result Unit Break) (ew : ways_of w ≡ ways) where
       by_ways : ruling (ways_of w) fit ≡ ruled tree H root j x ms b
       by_ways = ap (λ z. ruling z fit) ew ∙ sym by_length
 
-      pub way_broken : (l p : ℕ) → w ≡ Break l p → broken l p ≡ ruled tree H root j x ms b
+      pub way_broken : (v : Break) → w ≡ Err v → broken v.layer v.position ≡ ruled tree H root j x ms b
       unfolding ruling
-      way_broken l p t = ap (λ z. ruling (ways_of z) fit) (sym t) ∙ by_ways
+      way_broken v t = ap (λ z. ruling (ways_of z) fit) (sym t) ∙ by_ways
 
       -- s, the exclusive-or of the given members, and whether its hash is the committed one
-      module _ (t : w ≡ Lead) (s : List ℕ) (es : s ≡ given_xor j (others x ms) (drop 12 b)) (f : Bool)
+      module _ (t : w ≡ Ok tt) (s : List ℕ) (es : s ≡ given_xor j (others x ms) (drop 12 b)) (f : Bool)
           (ef : f ≡ same (H j x s) (path_hash tree root j x (drop (length b - 256 * j) b))) where
         by_fit : pick f no_fault accepted ≡ ruled tree H root j x ms b
         unfolding ruling
@@ -127,15 +127,15 @@ module _ (S : Shape) (H : ℕ → ℕ → List ℕ → List ℕ) (root : List �
 
 -- w, whether the proof withholds one of the members
 module _ (H : ℕ → ℕ → List ℕ → List ℕ) (root : List ℕ) (j : ℕ) (ms b : List ℕ) (w : Bool) (ew : w ≡ withholds b ms) where
-  pub judged-head : not w ≡ true → wrong_head ≡ judged tree H root j ms b
+  pub judged-head : w ≡ false → wrong_head ≡ judged tree H root j ms b
   unfolding judged
-  judged-head t = sym (pick_yes (not (withholds b ms)) wrong_head _ (ap not (sym ew) ∙ t))
+  judged-head t = sym (pick_yes (not (withholds b ms)) wrong_head _ (ap not (sym ew ∙ t)))
 
-  pub judged_on : not w ≡ false → (x : ℕ) → x ≡ value_at b 2 → (v : Verdict) → v ≡ ruled tree H root j x ms b → v ≡ judged tree H root j ms b
+  pub judged_on : w ≡ true → (x : ℕ) → x ≡ value_at b 2 → (v : Verdict) → v ≡ ruled tree H root j x ms b → v ≡ judged tree H root j ms b
   unfolding judged proof_withheld
-  judged_on t x ex v ev = ev ∙ ap (λ y. ruled tree H root j y ms b) ex ∙ sym (pick_no (not (withholds b ms)) wrong_head _ (ap not (sym ew) ∙ t))
+  judged_on t x ex v ev = ev ∙ ap (λ y. ruled tree H root j y ms b) ex ∙ sym (pick_no (not (withholds b ms)) wrong_head _ (ap not (sym ew ∙ t)))
 
-  pub withheld_there : not w ≡ false → (x : ℕ) → x ≡ value_at b 2 → 1 ≤ count (is_it x) ms
+  pub withheld_there : w ≡ true → (x : ℕ) → x ≡ value_at b 2 → 1 ≤ count (is_it x) ms
   unfolding withholds proof_withheld
   withheld_there t x ex =
-      rw ex (leb-true 1 (count (is_it (value_at b 2)) ms) (and_yes (eqb (kind_at b 2) 3) (leb 1 (count (is_it (value_at b 2)) ms)) (sym ew ∙ not_no w t)).1)
+      rw ex (leb-true 1 (count (is_it (value_at b 2)) ms) (and_yes (eqb (kind_at b 2) 3) (leb 1 (count (is_it (value_at b 2)) ms)) (sym ew ∙ t)).1)

@@ -1,6 +1,6 @@
 -- The way up from a symbol, as it stands in a proof: symbol by symbol.
 use mathlib.Core.Path.{◌≡◌, refl, sym, ap, ap₂, ◌∙◌}
-use mathlib.Core.Bool.{Bool, true, false, not}
+use mathlib.Core.Bool.{Bool, true, false}
 use mathlib.Core.List.{List}
 use Prim.Native.Nat.{ℕ, zero, suc, ◌+◌, ◌-◌, ◌*◌, ◌%◌, ◌≤◌, ◌<◌}
 use native.Mathlib.Numerals.{add-one}
@@ -9,7 +9,6 @@ use lib.ListN.{length, take, drop}
 use lib.Seq.{drop-drop}
 use Rattle.octets.specs.ByteLists.{same}
 use Rattle.octets.proofs.ListLaws.{part_ends}
-use Rattle.octets.proofs.Choice.{not_yes, not_no}
 use Rattle.parity_table.specs.Shape.{k_of}
 use Rattle.model.specs.Shape.{tree}
 use Rattle.model.specs.Symbols.{symbol_in, committed}
@@ -39,9 +38,11 @@ module _ (H : ℕ → ℕ → List ℕ → List ℕ) (root b : List ℕ) (at j i
   -- the way has reached symbol x, which has number m
   module _ (x m : ℕ) (in-way : x ≤ j) (em : m ≡ reached tree j i x) where
     -- the number that it reaches in the layer above
-    pub reached-next : (k : ℕ) → k ≡ k_of (j - (x + 1)) → m % k ≡ reached tree j i (x + 1)
+    pub reached-next : (k : ℕ) → k ≡ k_of (j - x - 1) → m % k ≡ reached tree j i (x + 1)
     unfolding reached
-    reached-next k e = ap₂ (λ n d. n % d) em e ∙ ap (λ y. reached tree j i x % k_of (j - y)) (add-one x) ∙ ap (reached tree j i) (sym (add-one x))
+    reached-next k e =
+        let up : j - x - 1 ≡ j - suc x = omega arith in
+        ap₂ (λ n d. n % d) em (e ∙ ap k_of up) ∙ ap (reached tree j i) (sym (add-one x))
 
     above : (u : ℕ) → suc u ≡ j - x → symbol_in (drop (at + 256 * x + 256) b) 0 ≡ symbol_in (drop at b) (j - u)
     unfolding symbol_in
@@ -61,14 +62,14 @@ module _ (H : ℕ → ℕ → List ℕ → List ℕ) (root b : List ℕ) (at j i
           (path-committed tree root (drop (at + 256 * x + 256) b) (λ u. symbol_in (drop at b) (j - u)) (j - x) m above)
           ∙ ap (λ n. same (H (j - x) n (symbol_in (drop at b) x)) (committed tree root (λ u v. symbol_in (drop at b) (j - u)) (j - x) n)) em
 
-      pub breaks-here : not r ≡ true → breaks (j - x) ≡ way_check tree H root j i (drop at b)
-      breaks-here t = sym (climb-breaks fit (λ y. j - y) (suc j) x (omega arith) (sym fit_is ∙ not_yes r t)) ∙ before
+      pub breaks-here : r ≡ false → breaks (j - x) ≡ way_check tree H root j i (drop at b)
+      breaks-here t = sym (climb-breaks fit (λ y. j - y) (suc j) x (omega arith) (sym fit_is ∙ t)) ∙ before
 
-      pub fits-here : not r ≡ false → FitBefore (x + 1)
-      fits-here t = climb-next fit (λ y. j - y) (suc j) x (omega arith) (sym fit_is ∙ not_no r t) ∙ before
+      pub fits-here : r ≡ true → FitBefore (x + 1)
+      fits-here t = climb-next fit (λ y. j - y) (suc j) x (omega arith) (sym fit_is ∙ t) ∙ before
 
-      pub leads-here : not r ≡ false → x ≡ j → leads ≡ way_check tree H root j i (drop at b)
-      leads-here t e = sym (climb-ends fit (λ y. j - y) (suc j) (x + 1) (omega arith)) ∙ fits-here t
+  pub leads_all : (x : ℕ) → j < x → FitBefore x → leads ≡ way_check tree H root j i (drop at b)
+  leads_all x h before = sym (climb-ends fit (λ y. j - y) (suc j) x (omega arith)) ∙ before
 
 -- ---- what the comparison with the committed hash asks
 

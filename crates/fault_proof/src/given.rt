@@ -9,9 +9,8 @@ pub fn gather(acc: &mut [u8], j: usize, members: &[u32], x: usize, b: &[u8], at:
     ensures { acc.new ≡ given_xor j (others x members.now) (drop at b.now) }
 {
     let mut from = at;
-    for i in 0..members.len() {
-        let y = members[i] as usize;
-        if y != x {
+    for &y in members {
+        if y as usize != x {
             octets::xor_at(acc, b, from);
             from += 256 * (j + 1);
         }

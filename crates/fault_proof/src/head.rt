@@ -7,12 +7,7 @@ ghost use Rattle.fault_proof.specs.Ruled.{withholds as withholds_one};
 fn is_member(members: &[u32], x: usize) -> bool
     ensures { result ≡ leb 1 (count (λ y. eqb y x) members.now) }
 {
-    for i in 0..members.len() {
-        if members[i] as usize == x {
-            return true;
-        }
-    }
-    false
+    members.iter().any(|&y| y as usize == x)
 }
 
 // Whether the third word has its kind, with the number of one of the members.
@@ -20,8 +15,5 @@ pub fn withholds(proof: &[u8], members: &[u32]) -> bool
     requires { 12 ≤ length proof.now }
     ensures { result ≡ withholds_one proof.now members.now }
 {
-    if heads::kind_at(proof, 2) != 3 {
-        return false;
-    }
-    is_member(members, heads::value_at(proof, 2))
+    heads::kind_at(proof, 2) == 3 && is_member(members, heads::value_at(proof, 2))
 }

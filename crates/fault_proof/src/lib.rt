@@ -7,13 +7,14 @@ mod head; // the withheld member, which the head names
 mod members; // all members in proof order, with their paths
 mod way; // a symbol and its path
 
+ghost use Rattle.std.specs.Prelude.{◌≡◌};
+ghost use Rattle.fault_proof.specs.declared.Refusal.TheVariants.{Broken};
+
 pub use checker::{check, judge};
 
-// What a proof is found to be.
-#[derive(Clone, Copy)]
-pub enum Verdict {
-    // a fault is shown
-    Accepted,
+// Why a proof is turned down.
+#[derive(Clone, Copy, Debug, PartialEq, Eq)]
+pub enum Refusal {
     // wrong kind, layer or equation, or no member
     WrongHead,
     // the length isn't the one that the head demands
@@ -24,11 +25,20 @@ pub enum Verdict {
     NoFault,
 }
 
-// What the ways of a proof come to, one after another.
-#[derive(Clone, Copy)]
-pub enum Ways {
-    // each leads to the root
-    Lead,
-    // the first that doesn't: the layer where it breaks, and its position, the withheld member's being the last
-    Break { layer: usize, position: usize },
+// The first of a proof's ways that doesn't lead to the root: the layer where it breaks, and its position, the withheld member's being the last.
+#[derive(Clone, Copy, Debug, PartialEq, Eq)]
+pub struct Break {
+    pub layer: usize,
+    pub position: usize,
+}
+
+impl From<Break> for Refusal {
+    ghost from_gives = { λ b refusal. refusal ≡ Broken b.layer b.position };
+
+    fn from(b: Break) -> Refusal {
+        Refusal::Broken {
+            layer: b.layer,
+            position: b.position,
+        }
+    }
 }

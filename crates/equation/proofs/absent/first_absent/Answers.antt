@@ -1,45 +1,33 @@
--- `first_absent` meets its contract. The loop keeps: the members before i are held.
-use mathlib.Core.Path.{◌∙◌, refl, sym}
+-- `first_absent` meets its contract: the closure tests a member's mark, which is one of the marks.
 use native.Mathlib.Omega.{arith}
-use Rattle.coded_tree.proofs.MarkLaws.{absent-is, held-is}
-use Rattle.model.proofs.Counts.{first-end, first-here, first_skip}
-use Rattle.model.proofs.Members.{every-below}
-use Rattle.model.specs.Repair.{absent_at}
-use Rattle.model.specs.Shape.{tree as shape}
+use lib.ListN.{get_or, length}
+use mathlib.Core.List.{List}
+use mathlib.Core.Path.{◌∙◌, ap, sym}
+use Prim.Native.Nat.{◌+◌, ◌<◌, ℕ}
+use Rattle.std.proofs.Common.{rules, tests}
+use Rattle.std.specs.List.{find}
+use Rattle.std.proofs.lemmas.List.{map-id}
+use Rattle.std.proofs.lemmas.Iterator.{YieldsList-from_map, YieldsList-from_slice}
+use Rattle.std.proofs.lemmas.Iterator.Adapters.{option_map_id, serves_from_places}
+use Rattle.std.proofs.lemmas.Iterator.Search.{find_from_yields_List}
+use Rattle.equation.proofs.AbsentLaws.{absent-found, mark-there, unmarked}
 use Rattle.equation.proofs.absent.first_absent.Goals as goal
 
-pub first_place-base-requires : goal.first_place-base-requires
-first_place-base-requires c = omega (arith, c.requires.layer)
-
-pub loop-i-init : goal.loop-i-init
-loop-i-init c = (omega arith, refl, c.first_place-base.ensures, refl)
-
-pub overflow_cast-y : goal.overflow_cast-y
-overflow_cast-y c = omega (arith, c.type_inv.members c.loop-i.i)
-
-pub overflow_add-base : goal.overflow_add-base
-overflow_add-base c =
-    let y = every-below c.requires.symbols c.args.members.now c.requires.within c.loop-i.i (omega arith) in
-    omega (arith, c.loop-i.invariant.2, y, c.requires.room)
-
-pub bounds-marks-base : goal.bounds-marks-base
-bounds-marks-base c =
-    let y = every-below c.requires.symbols c.args.members.now c.requires.within c.loop-i.i (omega arith) in
-    omega (arith, c.loop-i.invariant.2, y, c.requires.room)
-
-pub returns-then-marks-base-ne1 : goal.returns-then-marks-base-ne1
-returns-then-marks-base-ne1 c =
-    let l = c.loop-i in
-    let p = absent_at shape c.args.marks.now c.args.j in
-    sym (first-here p c.args.members.now l.i (omega arith) (absent-is c.args.marks.now c.args.j _ l.invariant.2 _ c.if-marks-base-ne1.true)) ∙ l.invariant.3
-
-pub loop-i-preserved : goal.loop-i-preserved
-loop-i-preserved c =
-    let l = c.loop-i in
-    let p = absent_at shape c.args.marks.now c.args.j in
-    (omega arith, l.invariant.1, l.invariant.2, sym (first_skip p c.args.members.now l.i (omega arith) (held-is c.args.marks.now c.args.j _ l.invariant.2 _ c.if-marks-base-ne1.false)) ∙ l.invariant.3)
+pub find-requires-clause-callable : goal.find-requires-clause-callable
+find-requires-clause-callable c =
+    let a = c.args in
+    serves_from_places (YieldsList-from_map _ (λ (y : ℕ). y) (YieldsList-from_slice a.members.now cc) c.map.ensures.closure (λ x r q k. search rules))
+    (λ x q r. search (rules, tests))
+    (λ x i h e y q.
+    let same = map-id a.members.now in
+    let inside : i < length a.members.now = omega (arith, h, ap length same) in
+    let there = mark-there a.marks.now a.members.now a.j c.first_place-base.result c.first_place-base.ensures c.requires i x inside in
+    let here : c.first_place-base.result + y.now < length a.marks.now = omega (arith, there, q ∙ e ∙ ap (λ (l : List ℕ). get_or l i x) same) in
+    (λ _ _ _ _ n _ _ _. omega (arith, here, n.0), λ _ _ _ _ _ _ _ _ _. here))
 
 pub returns : goal.returns
 returns c =
-    let l = c.loop-i in
-    sym (first-end (absent_at shape c.args.marks.now c.args.j) c.args.members.now l.i (omega arith)) ∙ l.invariant.3
+    let a = c.args in
+    let found = find_from_yields_List (unmarked a.marks.now a.members.now a.j c.first_place-base.result c.first_place-base.ensures) _ _ c.find.result c.find.ensures.ran
+    (YieldsList-from_map _ (λ (y : ℕ). y) (YieldsList-from_slice a.members.now cc) c.map.ensures.closure (λ x r q k. search rules)) (λ x b q k. search (rules, tests)) in
+    sym (option_map_id c.find.result) ∙ found ∙ ap (find _) (map-id a.members.now) ∙ absent-found a.marks.now a.members.now a.j c.first_place-base.result c.first_place-base.ensures

@@ -8,12 +8,6 @@ use Rattle.model.proofs.Hung.{tree_hangs}
 use Rattle.equation.proofs.TurnLaws.{above, absent_in, form_faults, form-stores, mark-inside, member-low, member-rooted, member_there, proof-room, rest-length, xor_there}
 use Rattle.equation.proofs.cases.form.Goals as goal
 
-pub first_place-base-requires : goal.first_place-base-requires
-first_place-base-requires c = omega (arith, c.requires.0.marked.layer)
-
-pub first_absent-x-requires : goal.first_absent-x-requires
-first_absent-x-requires c = c.requires.0.marked
-
 pub xor_others-requires : goal.xor_others-requires
 unfolding zeros
 xor_others-requires c =
@@ -25,7 +19,7 @@ fits-requires c =
     let p = c.first_place-base in
     let a = c.args in
     let k = c.requires.0.work in
-    let x = absent_in a.members.now a.marks.now a.j _ c.requires.1 c.first_absent-x.ensures in
+    let x = absent_in a.members.now a.marks.now a.j _ c.requires.1 in
     let v = xor_there a.tree.now a.members.now _ a.j _ _ p.ensures c.xor_others.ensures in
     (above a.root.now a.members.now a.tree.now a.out.now a.j a.e k, member-rooted a.root.now a.members.now a.tree.now a.out.now a.j a.e k _ x, ap length v ∙ rest-length a.root.now a.members.now a.tree.now a.out.now a.j a.e k _)
 
@@ -34,7 +28,7 @@ overflow_add-p c =
     let p = c.first_place-base in
     let a = c.args in
     let k = c.requires.0.work in
-    let x = absent_in a.members.now a.marks.now a.j _ c.requires.1 c.first_absent-x.ensures in
+    let x = absent_in a.members.now a.marks.now a.j _ c.requires.1 in
     omega (arith, mark-inside a.marks.now a.members.now a.j p.result _ c.requires.0.marked p.ensures x)
 
 pub overflow_mul-p : goal.overflow_mul-p
@@ -42,7 +36,7 @@ overflow_mul-p c =
     let p = c.first_place-base in
     let a = c.args in
     let k = c.requires.0.work in
-    let x = absent_in a.members.now a.marks.now a.j _ c.requires.1 c.first_absent-x.ensures in
+    let x = absent_in a.members.now a.marks.now a.j _ c.requires.1 in
     omega (arith, p.ensures, (member_there a.root.now a.members.now a.tree.now a.out.now a.j a.e k _ x).room)
 
 pub copy_at-requires : goal.copy_at-requires
@@ -50,7 +44,7 @@ copy_at-requires c =
     let p = c.first_place-base in
     let a = c.args in
     let k = c.requires.0.work in
-    let x = absent_in a.members.now a.marks.now a.j _ c.requires.1 c.first_absent-x.ensures in
+    let x = absent_in a.members.now a.marks.now a.j _ c.requires.1 in
     let v = xor_there a.tree.now a.members.now _ a.j _ _ p.ensures c.xor_others.ensures in
     omega (arith, p.ensures, (member_there a.root.now a.members.now a.tree.now a.out.now a.j a.e k _ x).room, ap length v ∙ rest-length a.root.now a.members.now a.tree.now a.out.now a.j a.e k _)
 
@@ -59,11 +53,8 @@ bounds-marks-p c =
     let p = c.first_place-base in
     let a = c.args in
     let k = c.requires.0.work in
-    let x = absent_in a.members.now a.marks.now a.j _ c.requires.1 c.first_absent-x.ensures in
+    let x = absent_in a.members.now a.marks.now a.j _ c.requires.1 in
     omega (arith, mark-inside a.marks.now a.members.now a.j p.result _ c.requires.0.marked p.ensures x)
-
-pub bounds-used-e : goal.bounds-used-e
-bounds-used-e c = omega (arith, c.requires.0.listed)
 
 pub returns-then-fits : goal.returns-then-fits
 returns-then-fits c =
@@ -71,7 +62,7 @@ returns-then-fits c =
     let a = c.args in
     let k = c.requires.0.work in
     let v = xor_there a.tree.now a.members.now _ a.j _ _ p.ensures c.xor_others.ensures in
-    form-stores a.kind a.root.now a.members.now a.j a.e a.tree.now a.marks.now a.out.now a.used.now _ _ c.requires.1 c.first_absent-x.ensures v p.result _ _ _
+    form-stores a.kind a.root.now a.members.now a.j a.e a.tree.now a.marks.now a.out.now a.used.now _ _ c.requires.1 v p.result _ _ _
     (sym c.fits.ensures ∙ c.if-fits.true) p.ensures (ap length v ∙ rest-length a.root.now a.members.now a.tree.now a.out.now a.j a.e k _) c.copy_at.ensures refl refl
 
 pub put_proof-size-requires : goal.put_proof-size-requires
@@ -79,7 +70,7 @@ put_proof-size-requires c =
     let p = c.first_place-base in
     let a = c.args in
     let k = c.requires.0.work in
-    let x = absent_in a.members.now a.marks.now a.j _ c.requires.1 c.first_absent-x.ensures in
+    let x = absent_in a.members.now a.marks.now a.j _ c.requires.1 in
     (k.members, k.low, member-low a.root.now a.members.now a.tree.now a.out.now a.j a.e k _ x, proof-room a.root.now a.members.now a.tree.now a.out.now a.j a.e k _ x)
 
 pub returns : goal.returns
@@ -88,5 +79,5 @@ returns c =
     let a = c.args in
     let v = xor_there a.tree.now a.members.now _ a.j _ _ p.ensures c.xor_others.ensures in
     let w = c.put_proof-size.ensures tree (tree_hangs _) in
-    form_faults a.kind a.root.now a.members.now a.j a.e a.tree.now a.marks.now a.out.now a.used.now _ _ c.requires.1 c.first_absent-x.ensures v _ _
+    form_faults a.kind a.root.now a.members.now a.j a.e a.tree.now a.marks.now a.out.now a.used.now _ _ c.requires.1 v _ _
     (sym c.fits.ensures ∙ c.if-fits.false) w.0 w.1

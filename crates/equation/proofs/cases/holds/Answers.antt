@@ -2,21 +2,24 @@
 use mathlib.Core.Path.{◌∙◌, refl}
 use native.Mathlib.Omega.{arith}
 use Rattle.model.specs.Symbols.{zeros}
-use Rattle.equation.proofs.TurnLaws.{holds-is, xor_there}
+use Rattle.equation.proofs.TurnLaws.{holds-is, member-room, summed_on, summed_start}
 use Rattle.equation.proofs.cases.holds.Goals as goal
 
-pub first_place-requires : goal.first_place-requires
-first_place-requires c = omega (arith, c.requires.layers.layer)
-
-pub xor_others-requires : goal.xor_others-requires
+pub loop-y-init : goal.loop-y-init
 unfolding zeros
-xor_others-requires c =
-    let k = c.requires in
-    (refl, (k.symbols, omega (arith, c.first_place.ensures, k.layers.room), k.within))
+loop-y-init c = summed_start c.args.tree.now c.args.members.now c.args.j c.requires _ refl
+
+pub xor_at-requires : goal.xor_at-requires
+xor_at-requires c =
+    let l = c.loop-y in
+    omega (arith, member-room c.args.tree.now c.args.members.now c.args.j c.requires l.y-index c.first_place-base.result (omega arith) c.first_place-base.ensures, l.invariant.sized)
+
+pub loop-y-preserved : goal.loop-y-preserved
+loop-y-preserved c =
+    let l = c.loop-y in
+    summed_on c.args.tree.now c.args.members.now c.args.j c.requires l.y-index c.first_place-base.result l.sum _ (omega arith) c.first_place-base.ensures c.xor_at.ensures l.invariant
 
 pub returns : goal.returns
 returns c =
-    let p = c.first_place in
-    let a = c.args in
-    c.is_zero.ensures
-    ∙ holds-is a.j _ a.tree.now a.members.now _ c.requires (omega arith) (xor_there a.tree.now a.members.now _ a.j _ _ p.ensures c.xor_others.ensures)
+    let l = c.loop-y in
+    c.is_zero.ensures ∙ holds-is c.args.tree.now c.args.members.now c.args.j c.requires l.y-index l.sum (omega arith) l.invariant

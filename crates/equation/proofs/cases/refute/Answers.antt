@@ -10,15 +10,6 @@ use Rattle.model.proofs.Hung.{tree_hangs}
 use Rattle.equation.proofs.TurnLaws.{above, full, last_in, member_below, member-low, member-rooted, member_there, proof-room, refute_faults, refute-twins, rest-length, twins_put, xor_there}
 use Rattle.equation.proofs.cases.refute.Goals as goal
 
-pub overflow_sub-x : goal.overflow_sub-x
-overflow_sub-x c = omega (arith, c.requires.some)
-
-pub overflow_cast-x : goal.overflow_cast-x
-overflow_cast-x c = omega (arith, c.type_inv.members (length c.args.members.now - 1))
-
-pub first_place-requires : goal.first_place-requires
-first_place-requires c = omega (arith, c.requires.members.layers.layer)
-
 pub xor_others-requires : goal.xor_others-requires
 unfolding zeros
 xor_others-requires c =

@@ -14,12 +14,6 @@ pub returns-then-j-eq0 : goal.returns-then-j-eq0
 returns-then-j-eq0 c =
     c.fits.ensures ∙ fits-top c.args.kind c.args.root.now c.args.tree.now c.args.s.now c.args.i c.args.j c.if-j-eq0.true
 
-pub first_place-requires : goal.first_place-requires
-first_place-requires c = omega (arith, c.requires.0.layer)
-
-pub data_count-requires : goal.data_count-requires
-data_count-requires c = omega (arith, c.requires.0.layer)
-
 pub nonzero_rem-up : goal.nonzero_rem-up
 nonzero_rem-up c = omega (arith, c.data_count.ensures, tree_ok.shape.some (c.args.j - 1))
 

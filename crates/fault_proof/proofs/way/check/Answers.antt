@@ -1,54 +1,57 @@
 -- `check` meets its contract. The loop keeps: symbol x of the way has number m, and every symbol before it fits.
-use mathlib.Core.Bool.{not}
-use mathlib.Core.Path.{refl, ap}
+use mathlib.Core.Path.{◌∙◌, refl}
 use Prim.Native.Nat.{◌+◌, ◌-◌}
 use native.Mathlib.Omega.{arith}
 use borrow.Author.Rules.{rules}
 use Rattle.symbol_hash.specs.SymbolHash.{symbol_hash}
 use Rattle.model.specs.Fault.{reached}
 use Rattle.model.proofs.Shapes.{tree_ok}
-use Rattle.fault_proof.proofs.WayLaws.{way_inside, reached-next, fit_start, fits-here, breaks-here, leads-here}
+use Rattle.fault_proof.proofs.WayLaws.{way_inside, reached-next, fit_start, fits-here, breaks-here, leads_all}
 use Rattle.fault_proof.proofs.way.check.Goals as goal
+use Rattle.fault_proof.proofs.way.check.Goals.{then-x-j, else-x-j}
 
-pub loop-kind-init : goal.loop-kind-init
+pub loop-x-init : goal.loop-x-init
 unfolding reached
-loop-kind-init c =
+loop-x-init c =
     let a = c.args in
-    (omega arith, refl, fit_start (symbol_hash a.kind) a.root.now a.b.now a.at a.j a.i)
+    (λ z. refl, fit_start (symbol_hash a.kind) a.root.now a.b.now a.at a.j a.i)
 
 pub fits-requires : goal.fits-requires
 fits-requires c =
     let a = c.args in
     let pre = c.requires in
-    let l = c.loop-kind in
-    let inside = way_inside a.root.now a.j a.i l.x l.m l.invariant.0 l.invariant.1 pre.1 pre.2 in
+    let l = c.loop-x in
+    let inside = way_inside a.root.now a.j a.i l.x l.m (omega arith) (l.invariant.0 (omega arith)) pre.1 pre.2 in
     (omega (arith, pre.0), search rules, inside.0, λ h. (inside.1 h, omega (arith, pre.3, h)))
 
 pub returns-then-not-fits : goal.returns-then-not-fits
 returns-then-not-fits c =
     let a = c.args in
-    let l = c.loop-kind in
-    breaks-here (symbol_hash a.kind) a.root.now a.b.now a.at a.j a.i l.x l.m l.invariant.0 l.invariant.1 c.fits.result c.fits.ensures l.invariant.2 (ap not c.if-not-fits.true)
+    let l = c.loop-x in
+    breaks-here (symbol_hash a.kind) a.root.now a.b.now a.at a.j a.i l.x l.m (omega arith) (l.invariant.0 (omega arith)) c.fits.result c.fits.ensures l.invariant.1 c.if-not-fits.true
 
-pub returns-then-x-j : goal.returns-then-x-j
-returns-then-x-j c =
+pub loop-x-preserved : goal.loop-x-preserved
+loop-x-preserved c =
     let a = c.args in
-    let l = c.loop-kind in
-    leads-here (symbol_hash a.kind) a.root.now a.b.now a.at a.j a.i l.x l.m l.invariant.0 l.invariant.1 c.fits.result c.fits.ensures l.invariant.2 (ap not c.if-not-fits.false) c.if-x-j.true
-
-pub data_count-m-requires : goal.data_count-m-requires
-data_count-m-requires c =
-    let pre = c.requires in
-    omega (arith, pre.0)
+    let l = c.loop-x in
+    let before = fits-here (symbol_hash a.kind) a.root.now a.b.now a.at a.j a.i l.x l.m (omega arith) (l.invariant.0 (omega arith)) c.fits.result c.fits.ensures l.invariant.1 c.if-not-fits.false in
+    elim c.if-x-j.branch [
+      | then-x-j w ↦ (λ h. w.m-is ∙ reached-next (symbol_hash a.kind) a.root.now a.b.now a.at a.j a.i l.x l.m (omega arith) (l.invariant.0 (omega arith)) w.data_count-m.result w.data_count-m.ensures, before)
+      | else-x-j w ↦ (λ h. absurd (omega arith), before)
+    ]
 
 pub nonzero_rem-m : goal.nonzero_rem-m
-nonzero_rem-m c =
-    let a = c.args in
-    let l = c.loop-kind in
-    omega (arith, c.data_count-m.ensures, tree_ok.shape.some (a.j - (l.x + 1)))
+nonzero_rem-m c = omega (arith, c.data_count-m.ensures, tree_ok.shape.some (c.args.j - c.loop-x.x - 1))
 
-pub loop-kind-preserved : goal.loop-kind-preserved
-loop-kind-preserved c =
+pub returns-after-x-j : goal.returns-after-x-j
+returns-after-x-j c =
     let a = c.args in
-    let l = c.loop-kind in
-    (omega (arith, l.invariant.0, c.if-x-j.false), reached-next (symbol_hash a.kind) a.root.now a.b.now a.at a.j a.i l.x l.m l.invariant.0 l.invariant.1 c.data_count-m.result c.data_count-m.ensures, fits-here (symbol_hash a.kind) a.root.now a.b.now a.at a.j a.i l.x l.m l.invariant.0 l.invariant.1 c.fits.result c.fits.ensures l.invariant.2 (ap not c.if-not-fits.false))
+    let l = c.loop-x in
+    leads_all (symbol_hash a.kind) a.root.now a.b.now a.at a.j a.i (l.x + 1) (omega arith)
+    (fits-here (symbol_hash a.kind) a.root.now a.b.now a.at a.j a.i l.x l.m (omega arith) (l.invariant.0 (omega arith)) c.fits.result c.fits.ensures l.invariant.1 c.if-not-fits.false)
+
+pub returns : goal.returns
+returns c =
+    let a = c.args in
+    let l = c.loop-x in
+    leads_all (symbol_hash a.kind) a.root.now a.b.now a.at a.j a.i l.x (omega arith) l.invariant.1
