@@ -2,64 +2,23 @@
 use mathlib.Core.Path.{◌≡◌, sym, ap, ap₂, subst, ◌∙◌}
 use mathlib.Core.Bool.{Bool, true, false, ◌&&◌}
 use mathlib.Core.List.{List}
-use Prim.Native.Nat.{ℕ, zero, suc, ◌+◌, ◌*◌, ◌/◌, ◌%◌, ◌^◌, ◌≤◌, ◌<◌}
+use Prim.Native.Nat.{ℕ, zero, suc, ◌+◌, ◌*◌, ◌/◌, ◌%◌, ◌≤◌, ◌<◌}
 use native.Mathlib.Decide.{ℕ_discrete}
 use native.Mathlib.Omega.{arith}
-use lib.ListN.{drop, get_or, get_or-replicate, length, length-replicate, length-set, replicate, set}
+use lib.ListN.{get_or, get_or-replicate, length, length-replicate, length-set, replicate, set}
 use lib.Seq.{get_or-set_other, get_or-set_same}
 use lib.Dec.{eqb, ltb}
 use borrow.Author.Tests.{eq-eqb, eqb-true, le-ltb, lt-ltb, ne_eqb}
 use Rattle.octets.proofs.Choice.{both, pick_no, pick_yes}
-use Rattle.octets.proofs.ListLaws.{get_d_part}
-use Rattle.parity_table.proofs.Parse.{members-take}
 use Rattle.model.proofs.Members.{every-below}
-use Rattle.equation.proofs.TurnLaws.{members_fit}
 use Rattle.equation.specs.Rooms.{members_at}
 use Rattle.incidence.specs.Incidence.{Threadable, Threaded, ThreadedTo, below, holds_at}
 
--- member i of an equation, in the words
-member-word : (ws starts : List ℕ) (q i : ℕ) → i < length (members_at ws starts q) → get_or (members_at ws starts q) i 0 ≡ get_or ws (get_or starts q 0 + i) 0
-member-word ws starts q i h =
-    ap (λ (l : List ℕ). get_or l i 0) (members-take (drop (get_or starts q 0) ws)) ∙ get_d_part ws (get_or starts q 0) (length (members_at ws starts q)) i h
-
 module _ (ws starts : List ℕ) (from : ℕ) where
-  -- fewer equations
-  pub threadable_fewer : (n m symbols slots : ℕ) → m ≤ n → Threadable ws starts from n symbols slots → Threadable ws starts from m symbols slots
-  threadable_fewer n m symbols slots h k =
-      record {
-        listed = record { stands = λ e l. k.listed.stands e (omega arith); within = λ e l. k.listed.within e (omega arith) };
-        narrow = λ e l. k.narrow e (omega arith);
-        room = omega arith;
-        low = omega arith;
-      }
-
-  -- ---- member i of equation e
-
-  -- its word, and its slot, among `slots`
-  pub record Slot (e i symbols slots : ℕ) : Type 0 where
-    pub few : i < 8
-    pub member : i < length (members_at ws starts (from + e))
-    pub inside : get_or starts (from + e) 0 + i < length ws
-    pub same : get_or ws (get_or starts (from + e) 0 + i) 0 ≡ get_or (members_at ws starts (from + e)) i 0
-    pub symbol : get_or ws (get_or starts (from + e) 0 + i) 0 < symbols
-    pub room : 8 * e + i < slots
-    pub low : 8 * e + i + 1 < 2 ^ 32
-
   module _ (e symbols slots : ℕ) (k : Threadable ws starts from (e + 1) symbols slots) where
-    pub slot_of : (i size : ℕ) → size ≡ length (members_at ws starts (from + e)) → i < size → Slot e i symbols slots
-    slot_of i size z h =
-        let l : i < length (members_at ws starts (from + e)) = omega arith in
-        let few : i < 8 = omega (arith, k.narrow e (omega arith)) in
-        let w = member-word ws starts (from + e) i l in
-        record {
-          few = few;
-          member = l;
-          inside = omega (arith, members_fit ws starts (from + e) (k.listed.stands e (omega arith)));
-          same = sym w;
-          symbol = omega (arith, w, every-below symbols (members_at ws starts (from + e)) (k.listed.within e (omega arith)) i l);
-          room = omega arith;
-          low = omega arith;
-        }
+    -- its members are among the symbols
+    pub member_small : (i : ℕ) → i < length (members_at ws starts (from + e)) → get_or (members_at ws starts (from + e)) i 0 < symbols
+    member_small i h = every-below symbols (members_at ws starts (from + e)) (k.listed.within e (omega arith)) i h
 
   -- ---- what slot 8 e + i holds
 

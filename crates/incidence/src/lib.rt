@@ -20,8 +20,9 @@ fn add_equation(
 {
     let at = starts[from + e];
     let size = index::count_members(words, at);
-    for i in 0..size {
-        let y = words[at + i] as usize;
+    let members = &words[at..at + size];
+    for (i, &x) in members.iter().enumerate() {
+        let y = x as usize;
         let s = 8 * e + i;
         next[s] = last[y];
         last[y] = (s + 1) as u32;
@@ -41,7 +42,7 @@ pub fn fill(
     requires { Threadable words.now starts.now from n (length last.old) (length next.old) }
     ensures { Threaded words.now starts.now from n last.new next.new }
 {
-    octets::fill_words(last, 0);
+    last.fill(0);
     for e in 0..n {
         add_equation(words, starts, from, e, last, next);
     }

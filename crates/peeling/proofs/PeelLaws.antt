@@ -9,6 +9,7 @@ use native.Mathlib.Omega.{arith}
 use lib.Dec.{ltb}
 use lib.ListN.{length, set}
 use borrow.Author.Tests.{ltb-true}
+use Rattle.std.proofs.Common.{Err, Ok}
 use Rattle.parity_table.specs.Table.{equation_of}
 use Rattle.model.proofs.Counts.{count_le, every-member, is_it}
 use Rattle.model.proofs.Hung.{peel-hung}
@@ -22,13 +23,12 @@ use Rattle.equation.specs.Rooms.{Level, Turnable, members_at}
 use Rattle.equation.specs.States.{state}
 use Rattle.equation.specs.Turns.{Took, can, end_by, stored_by}
 use Rattle.equation.specs.declared.Turn.{Turn}
-use Rattle.equation.specs.declared.Turn.TheVariants.{Fault, Stored, Twins, Used}
+use Rattle.equation.specs.declared.Turn.TheVariants.{Stored, Used}
 use Rattle.peeling.proofs.SweepLaws.{level_keep}
-use Rattle.peeling.proofs.TurnLaws.{ended, fewer, none_left, step_is, unused}
+use Rattle.peeling.proofs.TurnLaws.{ended, fewer, none_left, refuted_turn, step_is, unused}
 use Rattle.peeling.specs.Levels.{Lent, Reads}
-use Rattle.peeling.specs.States.{Came, end_of}
-use Rattle.peeling.specs.declared.Outcome.{Outcome}
-use Rattle.peeling.specs.declared.Outcome.TheVariants as outcome
+use Rattle.peeling.specs.States.{Came, Outcome, gain_of}
+use Rattle.peeling.specs.declared.Refutation.{Refutation}
 
 -- Peeling of layer j began with t₀ m₀ o₀ u₀ and s₀ symbols stored. What is left to do is a turn for each unused equation, with the turns that u₀ left
 -- over.
@@ -72,7 +72,7 @@ module _ {kind : Kind} {root ws starts : List ℕ} {from j : ℕ} {t₀ m₀ o�
 
   -- no equation is left
   pub peel-over : ((x : ℕ) → x < length u₀ → can j m u x (members_at ws starts (from + x)) ≡ false)
-      → Ends kind root ws starts from j t₀ m₀ o₀ u₀ s₀ t m o u s outcome.Peeled
+      → Ends kind root ws starts from j t₀ m₀ o₀ u₀ s₀ t m o u s (Ok tt)
   unfolding takeable
   peel-over none S hung tbl rd =
       record {
@@ -108,23 +108,15 @@ module _ {kind : Kind} {root ws starts : List ℕ} {from j : ℕ} {t₀ m₀ o�
 
     -- ---- an end
 
-    ends : (z : Outcome) → end_by j e r ≡ end_of j z → stored_by r s ≡ s → going (end_by j e r) ≡ false
-        → Ends kind root ws starts from j t₀ m₀ o₀ u₀ s₀ t' m' o' u' s z
-    ends z ez es g S hung tbl rd =
+    pub refuted_ends : (z : Refutation) → gain_of e r ≡ Err z → Ends kind root ws starts from j t₀ m₀ o₀ u₀ s₀ t' m' o' u' s (Err z)
+    refuted_ends z q S hung tbl rd =
+        let (ez, es, g) = refuted_turn j e r z q in
         record {
           goes = λ d.
               peel-hung S j hung (symbol_hash kind) root tbl (length u₀) (state t₀ m₀ o₀ u₀ s₀ d working) ∙ sym (onward tbl rd d)
               ∙ ended kind root tbl j (unused (set u e 1) + (length u₀ - unused u₀)) (state t' m' o' u' (stored_by r s) d (end_by j e r)) g
-              ∙ ap₂ (λ (q : ℕ) (y : End). state t' m' o' u' q d y) es ez;
+              ∙ ap₂ (λ (q : ℕ) (y : End). state t' m' o' u' q d y) (es s) ez;
         }
-
-    pub fault-ends : (x z : ℕ) → r ≡ Fault x z → Ends kind root ws starts from j t₀ m₀ o₀ u₀ s₀ t' m' o' u' s (outcome.Fault e x z)
-    unfolding going
-    fault-ends x z er = ends (outcome.Fault e x z) (ap (end_by j e) er) (ap (λ (q : Turn). stored_by q s) er) (ap (λ (q : Turn). going (end_by j e q)) er)
-
-    pub twins-ends : (x : ℕ) → r ≡ Twins x → Ends kind root ws starts from j t₀ m₀ o₀ u₀ s₀ t' m' o' u' s (outcome.Twins x)
-    unfolding going
-    twins-ends x er = ends (outcome.Twins x) (ap (end_by j e) er) (ap (λ (q : Turn). stored_by q s) er) (ap (λ (q : Turn). going (end_by j e q)) er)
 
     -- ---- going on
 

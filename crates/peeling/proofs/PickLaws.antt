@@ -2,26 +2,27 @@
 use mathlib.Core.Bool.{Bool, ◌&&◌, false, true}
 use mathlib.Core.List.{List}
 use mathlib.Core.Path.{◌∙◌, ◌≡◌, ap, ap₂, sym, subst}
-use Prim.Native.Nat.{◌+◌, ◌-◌, ◌<◌, ◌≤◌, max, ℕ}
+use Prim.Native.Nat.{◌+◌, ◌<◌, ◌≤◌, max, ℕ}
 use native.Mathlib.Decide.{dec_lt}
 use native.Mathlib.Omega.{arith}
 use lib.Dec.{eqb, leb, ltb}
+use Rattle.std.proofs.Common.{MatchOption, None, Option, Some}
 use lib.ListN.{get_or, length, length-set, set}
 use lib.Seq.{get_or-set_other, get_or-set_same}
 use borrow.Author.Tests.{le-ltb, lt-ltb, ltb-true}
 use Rattle.octets.proofs.Choice.{and_yes, pick_no}
 use Rattle.tournament.specs.Tournament.{Entered, Least, entries}
-use Rattle.model.proofs.Counts.{Lowest, is_it, lowest-is}
+use Rattle.model.proofs.Counts.{is_it}
 use Rattle.model.specs.Repair.{absent_at}
 use Rattle.model.specs.Shape.{place, tree}
-use Rattle.model.specs.Symbols.{count, lowest}
+use Rattle.model.specs.Symbols.{count}
 use Rattle.equation.specs.Rooms.{members_at}
 use Rattle.equation.specs.Turns.{can}
 use Rattle.peeling.proofs.OrderLaws.{least_first, least-passes, order_same, order_set}
 use Rattle.peeling.proofs.SweepLaws.{and_false}
 use Rattle.peeling.proofs.TurnLaws.{count-stored}
 use Rattle.peeling.specs.Levels.{Peelable}
-use Rattle.peeling.specs.Search.{Counted, Lowered, Order, Ordered, Picked, Thread, ready}
+use Rattle.peeling.specs.Search.{Counted, Lowered, Next, Order, Ordered, Over, Picked, Thread, ready}
 
 module _ {ws starts : List ℕ} {from j : ℕ} {m a : List ℕ} (u : List ℕ) (q : Counted ws starts from j (length u) m a) where
   pub can-is : (x : ℕ) → x < length u → can j m u x (members_at ws starts (from + x)) ≡ ready u a x
@@ -44,14 +45,6 @@ module _ (u a : List ℕ) (e : ℕ) where
     resized : {order : List ℕ} → Order (length u) then order → Ordered (set u e 1) a (max at (e + 1)) order
     resized {order} = subst (λ (n : ℕ). Order n then order) (sym (length-set u e 1))
 
-    -- no equation was left: the order is empty, as when the cursor stands before them all
-    pub picked_over : {order : List ℕ} → Picked u a at e order → length u ≤ e → Ordered u a 0 order
-    picked_over {order} p h =
-        order_same (subst (λ (n : ℕ). Order n then order) (length-set u e 1) p.ordered) (λ x. ltb x 0 && ready u a x)
-        (λ x b.
-        ap (λ (c : Bool). c && ready u a x) (le-ltb x 0 (omega arith))
-        ∙ sym (ap₂ (λ (c d : Bool). c && d) (lt-ltb x (max at (e + 1)) (omega arith)) (used-other x (λ z. omega arith) ∙ p.none x (omega arith))))
-
 -- ---- the order's least entry
 
 module _ (u a : List ℕ) (at : ℕ) {order : List ℕ} (k : Ordered u a at order) {e : ℕ} (l : Least (entries order) e) where
@@ -65,49 +58,54 @@ module _ (u a : List ℕ) (at : ℕ) {order : List ℕ} (k : Ordered u a at orde
       let he : e < at = ltb-true e at b in
       let z : max at (e + 1) ≡ at = omega arith in
       record {
-        inside = omega arith;
+        inside = h;
         none = λ x lx. before x (omega arith) (least_first k l x lx (omega arith));
-        is-ready = λ i. r;
+        is-ready = r;
         ordered =
             resized u a e at
             (order_set k (then u a e at) e v after h (λ x lx d. ap₂ (λ (y : ℕ) (w : Bool). ltb x y && w) z (used-other u a e x d)) c
             (ev ∙ sym (pick_no (then u a e at e) e (length u) (and_false (ltb e (max at (e + 1))) (ready (set u e 1) a e) (used-here u a e h)))));
       }
 
-  -- is none: the equation is the next from the cursor on
-  module _ (h : length u ≤ e) (ha : at ≤ length u) {r : ℕ} (er : r ≡ lowest (ready u a) at (length u - at)) where
-    next : Lowest (ready u a) at (length u - at) r
-    next = subst (Lowest (ready u a) at (length u - at)) (sym er) (lowest-is (ready u a) at (length u - at))
-
+  -- is none: the equation is the next from the cursor on, if any
+  module _ (h : length u ≤ e) where
     empty : (x : ℕ) → x < length u → (ltb x at && ready u a x) ≡ false
     empty x b = least_first k l x (omega arith) b
 
-    below : (x : ℕ) → x < r → ready u a x ≡ false
-    below x b =
-        elim (dec_lt x at) [
-          | yes y ↦ before x y (empty x (omega arith))
-          | no y ↦ next.before x (omega arith) b
-        ]
-
-    gone : (x : ℕ) → x < length u → then u a r at x ≡ false
-    gone x b =
+    gone : (r : ℕ) → at ≤ r → r < length u → ((x : ℕ) → x < r → ready u a x ≡ false) → (x : ℕ) → x < length u → then u a r at x ≡ false
+    gone r hr hu below x b =
         elim (dec_lt x r) [
           | yes y ↦ and_false (ltb x (max at (r + 1))) (ready (set u r 1) a x) (used-other u a r x (λ z. omega arith) ∙ below x y)
           | no y ↦ elim (dec_lt r x) [
-            | yes z ↦ ap (λ (c : Bool). c && ready (set u r 1) a x) (le-ltb x (max at (r + 1)) (omega (arith, next.from)))
+            | yes z ↦ ap (λ (c : Bool). c && ready (set u r 1) a x) (le-ltb x (max at (r + 1)) (omega arith))
             | no z ↦
                 let i : x ≡ r = omega arith in
-                rw i (and_false (ltb r (max at (r + 1))) (ready (set u r 1) a r) (used-here u a r (omega arith)))
+                rw i (and_false (ltb r (max at (r + 1))) (ready (set u r 1) a r) (used-here u a r hu))
           ]
         ]
 
-    pub picked_after : Picked u a at r order
-    picked_after =
+    pub picked_after : (r : Option ℕ) → Next u a at r → MatchOption r (Over u a order) (λ (q : ℕ). Picked u a at q order)
+    picked_after None n =
+        let none : (x : ℕ) → x < length u → ready u a x ≡ false =
+        λ x b. elim (dec_lt x at) [
+          | yes y ↦ before x y (empty x b)
+          | no y ↦ n x (omega arith) b
+        ] in
         record {
-          inside = omega (arith, next.upto);
-          none = below;
-          is-ready = λ b. next.found (omega arith);
-          ordered = resized u a r at (order_same k (then u a r at) (λ x b. gone x b ∙ sym (empty x b)));
+          none = none;
+          ordered = order_same k (λ x. ltb x 0 && ready u a x) (λ x b. ap (λ (c : Bool). c && ready u a x) (le-ltb x 0 (omega arith)) ∙ sym (empty x b));
+        }
+    picked_after (Some r) n =
+        let none : (x : ℕ) → x < r → ready u a x ≡ false =
+        λ x b. elim (dec_lt x at) [
+          | yes y ↦ before x y (empty x (omega (arith, n.1)))
+          | no y ↦ n.3 x (omega arith) b
+        ] in
+        record {
+          inside = n.1;
+          none = none;
+          is-ready = n.2;
+          ordered = resized u a r at (order_same k (then u a r at) (λ x b. gone r n.0 n.1 none x b ∙ sym (empty x b)));
         }
 
 -- ---- the counts, once symbol x, which was absent, is stored

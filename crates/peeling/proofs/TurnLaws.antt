@@ -8,6 +8,7 @@ use native.Mathlib.Omega.{arith}
 use lib.Dec.{eqb, ltb}
 use lib.ListN.{get_or, length, set}
 use borrow.Author.Tests.{eqb-false, eqb-true, le-ltb, lt-ltb}
+use Rattle.std.proofs.Common.{Err, None, Ok, Some}
 use Rattle.octets.proofs.Choice.{and_yes, both, by_test, pick_yes, yes_and}
 use Rattle.parity_table.specs.Table.{equation_of, layer_of}
 use Rattle.model.proofs.Counts.{is_it}
@@ -18,9 +19,13 @@ use Rattle.model.specs.Shape.{place, tree}
 use Rattle.model.specs.Symbols.{bit, count}
 use Rattle.symbol_hash.specs.SymbolHash.{symbol_hash}
 use Rattle.symbol_hash.specs.declared.Kind.{Kind}
-use Rattle.equation.specs.Turns.{Took, can, few}
+use Rattle.equation.specs.Turns.{Took, can, end_by, few, stored_by}
 use Rattle.equation.specs.declared.Turn.{Turn}
+use Rattle.equation.specs.declared.Turn.TheVariants.{Fault, Stored, Twins, Used}
 use Rattle.peeling.proofs.SweepLaws.{and_false}
+use Rattle.peeling.specs.States.{gain_of, refuted}
+use Rattle.peeling.specs.declared.Refutation.{Refutation}
+use Rattle.peeling.specs.declared.Refutation.TheVariants as refutation
 
 -- the unused equations
 abbrev pub unused : List ℕ → ℕ
@@ -94,3 +99,30 @@ module _ (j : ℕ) (m : List ℕ) where
 pub seen : {kind : Kind} {root ms : List ℕ} {j e : ℕ} {t m o u t' m' o' u' : List ℕ} {r : Turn} → Took kind root ms j e t m o u t' m' o' u' r
     → (z : Turn) → r ≡ z → Took kind root ms j e t m o u t' m' o' u' z
 seen {kind} {root} {ms} {j} {e} {t} {m} {o} {u} {t'} {m'} {o'} {u'} k z er = subst (λ (q : Turn). Took kind root ms j e t m o u t' m' o' u' q) er k
+
+-- ---- what a turn came to
+
+pub used_turn : (e : ℕ) (r : Turn) → gain_of e r ≡ Ok None → r ≡ Used
+used_turn e Used q = refl
+used_turn e (Stored x) q = cc
+used_turn e (Fault x n) q = cc
+used_turn e (Twins x) q = cc
+
+pub stored_turn : (e x : ℕ) (r : Turn) → gain_of e r ≡ Ok (Some x) → r ≡ Stored x
+stored_turn e x Used q = cc
+stored_turn e x (Stored y) q = cc
+stored_turn e x (Fault y n) q = cc
+stored_turn e x (Twins y) q = cc
+
+-- a refutation ends the repair, and nothing is stored
+pub refuted_turn : (j e : ℕ) (r : Turn) (z : Refutation) → gain_of e r ≡ Err z
+    → (end_by j e r ≡ refuted j z) × ((s : ℕ) → stored_by r s ≡ s) × (going (end_by j e r) ≡ false)
+unfolding going
+refuted_turn j e Used z q = absurd (cc)
+refuted_turn j e (Stored x) z q = absurd (cc)
+refuted_turn j e (Fault x n) z q =
+    let i : refutation.Fault e x n ≡ z = cc in
+    (ap (refuted j) i, λ s. refl, refl)
+refuted_turn j e (Twins x) z q =
+    let i : refutation.Twins x ≡ z = cc in
+    (ap (refuted j) i, λ s. refl, refl)

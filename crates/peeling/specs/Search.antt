@@ -1,7 +1,7 @@
 -- The lists by which peeling finds its next equation: how many members of each equation are absent, and in a tournament the lowest equation to take
 -- of those before a cursor.
 -- Definitions only.
-use Rattle.std.specs.Prelude.{◌≡◌, Bool, ◌&&◌, false, true, List, ℕ, ◌+◌, ◌*◌, ◌^◌, ◌≤◌, ◌<◌, max, length, get_or, set, leb, ltb, eqb}
+use Rattle.std.specs.Prelude.{◌≡◌, Bool, ◌&&◌, false, true, List, MatchOption, Option, ℕ, ◌+◌, ◌*◌, ◌^◌, ◌≤◌, ◌<◌, max, length, get_or, set, leb, ltb, eqb}
 use Rattle.octets.specs.Choice.{pick}
 use Rattle.tournament.specs.Tournament.{Tournament, entries}
 use Rattle.parity_table.specs.Shape.{max_depth}
@@ -27,12 +27,23 @@ ready used absent e = eqb (get_or used e 0) 0 && leb (get_or absent e 0) 1
 abbrev pub Ordered : List ℕ → List ℕ → ℕ → List ℕ → Type 0
 Ordered used absent at order = Order (length used) (λ e. ltb e at && ready used absent e) order
 
--- equation e is the lowest of all that are so, or their number where there is none: once it is used, the order is right for a cursor past it
+-- the lowest equation from `at` on that is so, if any
+abbrev pub Next : List ℕ → List ℕ → ℕ → Option ℕ → Type 0
+Next used absent at r =
+    MatchOption r ((x : ℕ) → at ≤ x → x < length used → ready used absent x ≡ false)
+    (λ e. (at ≤ e) × (e < length used) × (ready used absent e ≡ true) × ((x : ℕ) → at ≤ x → x < e → ready used absent x ≡ false))
+
+-- equation e is the lowest of all that are so: once it is used, the order is right for a cursor past it
 pub record Picked (used absent : List ℕ) (at e : ℕ) (order : List ℕ) : Type 0 where
-  pub inside : e ≤ length used
+  pub inside : e < length used
   pub none : (x : ℕ) → x < e → ready used absent x ≡ false
-  pub is-ready : e < length used → ready used absent e ≡ true
+  pub is-ready : ready used absent e ≡ true
   pub ordered : Ordered (set used e 1) absent (max at (e + 1)) order
+
+-- none is so, and the order is right for a cursor before the first
+pub record Over (used absent order : List ℕ) : Type 0 where
+  pub none : (x : ℕ) → x < length used → ready used absent x ≡ false
+  pub ordered : Ordered used absent 0 order
 
 -- ---- the absent members
 

@@ -10,11 +10,9 @@ pub use peel::peel_layer;
 pub use search::prepare;
 pub use sweep::sweep_layer;
 
-// How the peeling of a layer ended.
-#[derive(Clone, Copy)]
-pub enum Outcome {
-    // no equation can be taken
-    Peeled,
+// What ends the peeling of a layer while equations can be taken.
+#[derive(Clone, Copy, Debug, PartialEq, Eq)]
+pub enum Refutation {
     // a fault proof was written
     Fault {
         equation: usize,
@@ -25,9 +23,9 @@ pub enum Outcome {
     Twins(usize),
 }
 
-// The outcome, and the symbols stored so far.
-#[derive(Clone, Copy)]
+// How the peeling of a layer ended (Ok: no equation can be taken any more), and the symbols stored so far.
+#[derive(Clone, Copy, Debug, PartialEq, Eq)]
 pub struct Run {
     pub stored: usize,
-    pub outcome: Outcome,
+    pub outcome: Result<(), Refutation>,
 }

@@ -1,16 +1,32 @@
 // (b): "Take the lowest unused equation with at most one absent member." It is the first of the order, which has those before a cursor, or else
 // the next from the cursor on. A turn changes the order only at the equation itself and at those that have the symbol that it stored.
-ghost use Rattle.std.specs.Prelude.{List, ℕ, ◌+◌, ◌^◌, ◌≤◌, length};
+ghost use Rattle.std.specs.Prelude.{◌≡◌, List, ℕ, ◌+◌, ◌^◌, ◌≤◌, length};
 ghost use Rattle.model.specs.Shape.{Shape, Hangs};
 ghost use Rattle.model.specs.Repair.{peel};
 ghost use Rattle.symbol_hash.specs.SymbolHash.{symbol_hash};
 ghost use Rattle.peeling.specs.Levels.{Peelable, Reads};
-ghost use Rattle.peeling.specs.States.{Came, Kept};
+ghost use Rattle.peeling.specs.States.{Came, Kept, gain_of};
 
-use crate::search::{lower, past, pick};
-use crate::{Outcome, Run};
+use crate::search::{lower, pick};
+use crate::{Refutation, Run};
 use equation::{Turn, take};
 use symbol_hash::Kind;
+
+// What a turn at equation e came to: the symbol that it stored, if any, or what refutes the layer.
+fn gain(turn: Turn, e: usize) -> Result<Option<usize>, Refutation>
+    ensures { result ≡ gain_of e turn }
+{
+    match turn {
+        Turn::Used => Ok(None),
+        Turn::Stored(x) => Ok(Some(x)),
+        Turn::Fault { withheld, size } => Err(Refutation::Fault {
+            equation: e,
+            withheld,
+            size,
+        }),
+        Turn::Twins(x) => Err(Refutation::Twins(x)),
+    }
+}
 
 // Peels layer j, whose equations' members start at the entries of starts from number `from` on, with so many symbols stored before. It has as many
 // equations as there are entries of used. Where none can be taken any more, absent and order are right for another call.
@@ -29,7 +45,7 @@ pub fn peel_layer(
     absent: &mut [u8],
     order: &mut [u32],
     j: usize,
-    stored: usize,
+    mut stored: usize,
 ) -> Run
     requires { Peelable root.now words.now starts.now last.now next.now tree.old marks.old out.old used.old absent.old
         order.old from j × (stored ≤ 2 ^ 20) }
@@ -42,52 +58,29 @@ pub fn peel_layer(
         × Kept words.now starts.now from j marks.new used.new absent.new order.new
         result.outcome }
 {
-    let n = used.len();
-    let mut got = stored;
-    let mut at: usize = 0;
-    loop {
-        let e = pick(used, absent, order, at);
-        if n <= e {
-            return Run {
-                stored: got,
-                outcome: Outcome::Peeled,
-            };
-        }
-        at = past(at, e);
-        match take(
-            kind,
-            root,
-            words,
-            starts,
-            from + e,
-            tree,
-            marks,
-            out,
-            used,
-            j,
-            e,
-        ) {
-            Turn::Used => {}
-            Turn::Stored(x) => {
-                got += 1;
+    let mut at = 0;
+    while let Some(e) = pick(used, absent, order, at) {
+        at = at.max(e + 1);
+        let number = from + e;
+        let turn = take(
+            kind, root, words, starts, number, tree, marks, out, used, j, e,
+        );
+        match gain(turn, e) {
+            Ok(None) => {}
+            Ok(Some(x)) => {
+                stored += 1;
                 lower(last, next, used, absent, order, at, x);
             }
-            Turn::Fault { withheld, size } => {
+            Err(found) => {
                 return Run {
-                    stored: got,
-                    outcome: Outcome::Fault {
-                        equation: e,
-                        withheld,
-                        size,
-                    },
-                };
-            }
-            Turn::Twins(x) => {
-                return Run {
-                    stored: got,
-                    outcome: Outcome::Twins(x),
+                    stored,
+                    outcome: Err(found),
                 };
             }
         }
+    }
+    Run {
+        stored,
+        outcome: Ok(()),
     }
 }

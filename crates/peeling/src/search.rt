@@ -1,11 +1,11 @@
 // The next equation to take: for each equation the number of its absent members, a cursor that goes over the equations once, and in a tournament those
 // before the cursor that are unused and have at most one. A stored symbol changes only the equations that it stands in.
-ghost use Rattle.std.specs.Prelude.{◌≡◌, List, ℕ, ◌+◌, ◌-◌, ◌*◌, ◌^◌, ◌≤◌, ◌<◌, max, length, get_or, set};
+ghost use Rattle.std.specs.Prelude.{◌≡◌, List, ℕ, ◌+◌, ◌-◌, ◌*◌, ◌^◌, ◌≤◌, ◌<◌, MatchOption, length, get_or, set};
 ghost use Rattle.model.specs.Shape.{tree as shape};
-ghost use Rattle.model.specs.Symbols.{count, lowest};
+ghost use Rattle.model.specs.Symbols.{count};
 ghost use Rattle.model.specs.Repair.{absent_at};
 ghost use Rattle.equation.specs.Rooms.{Marked, Stands, members_at};
-ghost use Rattle.peeling.specs.Search.{Countable, Counted, Lowerable, Lowered, Ordered, Picked, Thread, ready};
+ghost use Rattle.peeling.specs.Search.{Countable, Counted, Lowerable, Lowered, Next, Ordered, Over, Picked, Thread, ready};
 
 use equation::count_absent;
 use parity_table::index;
@@ -38,10 +38,9 @@ pub fn prepare(
     ensures { Counted words.now starts.now from j (length used.now) marks.now absent.new
         × Ordered used.now absent.new 0 order.new }
 {
-    let n = used.len();
-    octets::fill_words(order, n as u32);
-    for e in 0..n {
-        absent[e] = absent_in(words, starts, from + e, marks, j) as u8;
+    order.fill(used.len() as u32);
+    for (e, left) in absent.iter_mut().enumerate() {
+        *left = absent_in(words, starts, from + e, marks, j) as u8;
     }
 }
 
@@ -50,32 +49,22 @@ fn is_ready(used: &[u8], absent: &[u8], e: usize) -> bool
     requires { (e < length used.now) × (length absent.now ≡ length used.now) }
     ensures { result ≡ ready used.now absent.now e }
 {
-    if used[e] != 0 {
-        return false;
-    }
-    absent[e] <= 1
+    used[e] == 0 && absent[e] <= 1
 }
 
-// The lowest such equation from `at` on, and where there is none the number of equations.
-fn next_ready(used: &[u8], absent: &[u8], at: usize) -> usize
+// The lowest such equation from `at` on.
+fn next_ready(used: &[u8], absent: &[u8], at: usize) -> Option<usize>
     requires { (at ≤ length used.now) × (length absent.now ≡ length used.now) }
-    ensures { result ≡ lowest (ready used.now absent.now) at (length used.now - at) }
+    ensures { Next used.now absent.now at result }
 {
-    let n = used.len();
-    for e in at..n {
-        if is_ready(used, absent, e) {
-            return e;
-        }
-    }
-    n
+    (at..used.len()).find(|&e| is_ready(used, absent, e))
 }
 
-// The lowest equation that can be taken, and where there is none the number of equations: one before the cursor `at`, which leaves the order, or else the
-// next from there on.
-pub fn pick(used: &[u8], absent: &[u8], order: &mut [u32], at: usize) -> usize
+// The lowest equation that can be taken: one before the cursor `at`, which leaves the order, or else the next from there on.
+pub fn pick(used: &[u8], absent: &[u8], order: &mut [u32], at: usize) -> Option<usize>
     requires { Ordered used.now absent.now at order.old × (length absent.now ≡ length used.now) × (1 ≤ length used.now)
         × (length used.now ≤ 2 ^ 30) × (at ≤ length used.now) }
-    ensures { Picked used.now absent.now at result order.new }
+    ensures { MatchOption result (Over used.now absent.now order.new) (λ e. Picked used.now absent.now at e order.new) }
 {
     let n = used.len();
     let e = least(order) as usize;
@@ -83,18 +72,7 @@ pub fn pick(used: &[u8], absent: &[u8], order: &mut [u32], at: usize) -> usize
         return next_ready(used, absent, at);
     }
     set(order, e, n as u32);
-    e
-}
-
-// The cursor, once equation e is taken: past it.
-pub fn past(at: usize, e: usize) -> usize
-    requires { e < 2 ^ 30 }
-    ensures { result ≡ max at (e + 1) }
-{
-    if e < at {
-        return at;
-    }
-    e + 1
+    Some(e)
 }
 
 // Equation q has one absent member fewer. Where it is before the cursor and has one left, it enters the order; where it has none it was there already,
@@ -135,6 +113,7 @@ pub fn lower(
         → Thread words starts from (length used.now) last.now next.now x
         → Lowered words starts from (length used.now) x absent.old absent.new) }
 {
+    // each slot says the next: there is nothing to iterate over
     let mut slot = last[x] as usize;
     while 0 < slot {
         let s = slot - 1;

@@ -6,7 +6,7 @@ use Prim.Native.Nat.{◌*◌, ◌+◌, ◌-◌, ◌<◌, ◌≤◌, suc, ℕ}
 use native.Mathlib.Omega.{arith}
 use lib.Dec.{ltb}
 use lib.ListN.{drop, get_or, length, length-replicate, replicate}
-use borrow.Author.Tests.{le-ltb, lt-ltb}
+use Rattle.std.proofs.Common.{Err, IsSomeAnd, MatchOption, None, Ok, Option, Some}
 use Rattle.octets.proofs.Choice.{by_test, pick_no, pick_yes}
 use Rattle.octets.specs.Choice.{pick}
 use Rattle.parity_table.proofs.Accepts.{accepted-depth, accepted-table, located, start_inside, start_known}
@@ -14,14 +14,15 @@ use Rattle.parity_table.proofs.Parse.{members-take}
 use Rattle.parity_table.proofs.Rules.{members-below}
 use Rattle.parity_table.proofs.Shape.{k_grows, k-low, k_pos}
 use Rattle.parity_table.specs.Members.{every}
-use Rattle.parity_table.specs.Parse.{HasEquation, number_in, table_of}
+use Rattle.parity_table.specs.Parse.{HasEquation, Indexed, number_in, table_of}
 use Rattle.parity_table.specs.Shape.{k_of, max_depth, n_of}
 use Rattle.parity_table.specs.Table.{EquationOk, equation_of, layer_of}
 use Rattle.model.proofs.Shapes.{n_small}
 use Rattle.model.specs.Fault.{proof_length}
 use Rattle.model.specs.Repair.{End, St, absent_at, end_as, enter, fresh, gaps_left, going, layer, peel, settle, sweep, unavailable, working}
 use Rattle.model.specs.Shape.{tree}
-use Rattle.model.specs.Symbols.{lowest}
+use Rattle.model.proofs.Counts.{found-none, found-some}
+use Rattle.model.specs.Symbols.{found, lowest}
 use Rattle.symbol_hash.specs.SymbolHash.{symbol_hash}
 use Rattle.symbol_hash.specs.declared.Kind.{Kind}
 use Rattle.equation.proofs.CommittedLaws.{level_of}
@@ -32,34 +33,36 @@ use Rattle.peeling.specs.Search.{Countable, Counted, Ordered}
 use Rattle.peeling.specs.Levels.{Lent, Peelable, Reads}
 use Rattle.peeling.specs.States.{Came, Moved}
 use Rattle.peeling.specs.States.{end_of as end_after}
-use Rattle.peeling.specs.declared.Outcome.{Outcome}
-use Rattle.peeling.specs.declared.Outcome.TheVariants as outcome
-use Rattle.repair.specs.Buffers.{Given, Lists, Own}
-use Rattle.repair.specs.Reports.{Layered, passes, settled}
-use Rattle.repair.specs.declared.layer.Passage.{Passage}
+use Rattle.peeling.specs.States.{Outcome}
+use Rattle.peeling.specs.declared.Refutation.TheVariants as refutation
+use Rattle.repair.specs.declared.SearchLists.{SearchLists}
+use Rattle.repair.specs.Buffers.{Given, Own, OwnLists, SameLists}
+use Rattle.repair.specs.Reports.{Layered, end_of, passes, settled}
+use Rattle.repair.specs.declared.End.{End as Ended}
+use Rattle.repair.specs.declared.End.TheVariants.{Unavailable}
 
 -- ---- what its calls ask
 
-pub given_keep : {d : ℕ} {ws starts root t m o t' m' o' : List ℕ} → length t' ≡ length t → length m' ≡ length m → length o' ≡ length o
-    → Given d ws starts root t m o → Given d ws starts root t' m' o'
+pub given_keep : {d : ℕ} {root t m o t' m' o' : List ℕ} → length t' ≡ length t → length m' ≡ length m → length o' ≡ length o
+    → Given d root t m o → Given d root t' m' o'
 given_keep lt lm lo k =
-    record { indexed = k.indexed; root_full = k.root_full; tree-full = lt ∙ k.tree-full; marks-full = lm ∙ k.marks-full; out-full = lo ∙ k.out-full }
+    record { root_full = k.root_full; tree-full = lt ∙ k.tree-full; marks-full = lm ∙ k.marks-full; out-full = lo ∙ k.out-full }
 
-module _ {d : ℕ} {ws starts root t m o : List ℕ} (k : Given d ws starts root t m o) (j : ℕ) (hj : j < d) where
+module _ {d : ℕ} {ws starts root t m o : List ℕ} (x : Indexed d ws starts) (k : Given d root t m o) (j : ℕ) (hj : j < d) where
   pub layer_below : j < max_depth
-  layer_below = omega (arith, (accepted-depth d ws k.indexed.accepted).1)
+  layer_below = omega (arith, (accepted-depth d ws x.accepted).1)
 
   pub level : Level root t m j (n_of j)
-  level = level_of d j (accepted-depth d ws k.indexed.accepted).1 hj k.root_full k.tree-full k.marks-full
+  level = level_of d j (accepted-depth d ws x.accepted).1 hj k.root_full k.tree-full k.marks-full
 
   pub equations : length (layer_of (table_of ws) j) ≡ 3 * k_of j
-  equations = (accepted-table d ws k.indexed.accepted).equations j hj
+  equations = (accepted-table d ws x.accepted).equations j hj
 
   -- its equations in the words, the first being number `from`
   module _ (from : ℕ) (ef : from ≡ number_in j 0) where
     module _ (e : ℕ) (he : e < 3 * k_of j) where
       has : HasEquation ws starts j e
-      has = record { depth = d; indexed = k.indexed; layer = hj; equation = he }
+      has = record { depth = d; indexed = x; layer = hj; equation = he }
 
       number : number_in j e ≡ from + e
       unfolding number_in
@@ -73,7 +76,7 @@ module _ {d : ℕ} {ws starts root t m o : List ℕ} (k : Given d ws starts root
       there = ap (members_at ws starts) (sym number) ∙ members-take (drop (get_or starts (number_in j e) 0) ws) ∙ (located ws starts j e has).members
 
       rules : EquationOk j e (equation_of (table_of ws) j e)
-      rules = (accepted-table d ws k.indexed.accepted).members j e hj he
+      rules = (accepted-table d ws x.accepted).members j e hj he
 
     listed : (n symbols : ℕ) → n ≡ 3 * k_of j → symbols ≡ n_of j → Listed ws starts from n symbols
     listed n symbols en es =
@@ -81,7 +84,7 @@ module _ {d : ℕ} {ws starts root t m o : List ℕ} (k : Given d ws starts root
           stands = λ e l. stands e (omega arith);
           within = λ e l.
               ap (λ (q : ℕ). every (λ y. ltb y q) (members_at ws starts (from + e))) es
-              ∙ ap (every (λ y. ltb y (n_of j))) (there e (omega arith)) ∙ members-below d (table_of ws) (accepted-table d ws k.indexed.accepted) j e hj (omega arith);
+              ∙ ap (every (λ y. ltb y (n_of j))) (there e (omega arith)) ∙ members-below d (table_of ws) (accepted-table d ws x.accepted) j e hj (omega arith);
         }
 
     narrow : (n : ℕ) → n ≡ 3 * k_of j → (e : ℕ) → e < n → Narrow ws starts from e
@@ -146,44 +149,37 @@ module _ {d : ℕ} {ws starts root t m o : List ℕ} (k : Given d ws starts root
           }
 
 -- the lists keep their lengths
-pub own_keep : {j : ℕ} {used absent order last next used' absent' order' last' next' : List ℕ} → length used' ≡ length used → length absent' ≡ length absent
-    → length order' ≡ length order → length last' ≡ length last → length next' ≡ length next → Own j used absent order last next
-    → Own j used' absent' order' last' next'
-own_keep eu ea eo el en k =
+pub own_keep : {j : ℕ} {l l' : SearchLists} → SameLists l l' → OwnLists j l → OwnLists j l'
+own_keep s k =
     record {
-      used-full = eu ∙ k.used-full;
-      absent-full = ea ∙ k.absent-full;
-      order_full = eo ∙ k.order_full;
-      last-full = el ∙ k.last-full;
-      next-room = omega (arith, k.next-room);
+      used-full = s.used-length ∙ k.used-full;
+      absent-full = s.absent-length ∙ k.absent-full;
+      order_full = s.order_length ∙ k.order_full;
+      last-full = s.last-length ∙ k.last-full;
+      next-room = omega (arith, k.next-room, s.next-length);
     }
 
--- lists for the lowest layer serve each one, and keep their lengths
-pub lists_layer : (j d : ℕ) {used absent order last next used' absent' order' last' next' : List ℕ} → j < d → length used' ≡ length used
-    → length absent' ≡ length absent → length order' ≡ length order → length last' ≡ length last → length next' ≡ length next
-    → Lists (k_of (d - 1)) used absent order last next → Lists (k_of j) used' absent' order' last' next'
-lists_layer j d h eu ea eo el en k =
+-- lists for the lowest layer serve each one
+pub k_below : (j d : ℕ) → j < d → k_of j ≤ k_of (d - 1)
+k_below j d h =
     let same : k_of (j + (d - 1 - j)) ≡ k_of (d - 1) = ap k_of (omega arith) in
-    let low : k_of j ≤ k_of (d - 1) = omega (arith, k_grows j (d - 1 - j)) in
-    record {
-      used-room = omega (arith, k.used-room);
-      absent-room = omega (arith, k.absent-room);
-      order_room = omega (arith, k.order_room);
-      last-room = omega (arith, k.last-room);
-      next-room = omega (arith, k.next-room);
-    }
+    omega (arith, k_grows j (d - 1 - j))
 
 -- ---- (c)
 
-pub settled-gaps : (m : List ℕ) (j : ℕ) → lowest (absent_at tree m j) 0 (tree.n j) < tree.n j → unavailable j ≡ settled outcome.Peeled m j
-settled-gaps m j h = sym (pick_yes (ltb (lowest (absent_at tree m j) 0 (tree.n j)) (tree.n j)) (unavailable j) working (lt-ltb _ _ h))
-
-pub settled-full : (m : List ℕ) (j : ℕ) → tree.n j ≤ lowest (absent_at tree m j) 0 (tree.n j) → working ≡ settled outcome.Peeled m j
-settled-full m j h = sym (pick_no (ltb (lowest (absent_at tree m j) 0 (tree.n j)) (tree.n j)) (unavailable j) working (le-ltb _ _ h))
+-- .. by the lowest symbol that is absent, if there is one
+pub settled_by : (m : List ℕ) (j : ℕ) {P : ℕ → Ended → Type 0} (r : Option ℕ) (z : Option Ended) → r ≡ found (absent_at tree m j) (tree.n j)
+    → MatchOption r (z ≡ None) (λ (x : ℕ). IsSomeAnd z (P x)) → ((x : ℕ) (e : Ended) → P x e → e ≡ Unavailable j) → passes z ≡ settled (Ok tt) m j
+settled_by m j None z f c h =
+    ap passes c ∙ sym (pick_no (ltb (lowest (absent_at tree m j) 0 (tree.n j)) (tree.n j)) (unavailable j) working (found-none (absent_at tree m j) (tree.n j) (sym f)))
+settled_by m j (Some x) (Some e) f c h =
+    ap end_of (h x e c)
+    ∙ sym (pick_yes (ltb (lowest (absent_at tree m j) 0 (tree.n j)) (tree.n j)) (unavailable j) working (found-some (absent_at tree m j) (tree.n j) x (sym f)))
+settled_by m j (Some x) None f c h = absurd c
 
 settle_is : (t m o u : List ℕ) (s d j : ℕ) (z : Outcome) → settle tree j (state t m o u s d (end_after j z)) ≡ state t m o u s d (settled z m j)
 unfolding settle gaps_left end_as going
-settle_is t m o u s d j outcome.Peeled =
+settle_is t m o u s d j (Ok _) =
     by_test (ltb (lowest (absent_at tree m j) 0 (tree.n j)) (tree.n j))
     (λ g.
     pick_yes (ltb (lowest (absent_at tree m j) 0 (tree.n j)) (tree.n j)) _ _ g
@@ -191,8 +187,8 @@ settle_is t m o u s d j outcome.Peeled =
     (λ g.
     pick_no (ltb (lowest (absent_at tree m j) 0 (tree.n j)) (tree.n j)) _ _ g
     ∙ ap (λ (e : End). state t m o u s d e) (sym (pick_no (ltb (lowest (absent_at tree m j) 0 (tree.n j)) (tree.n j)) (unavailable j) working g)))
-settle_is t m o u s d j (outcome.Fault e x n) = pick_no false _ _ refl
-settle_is t m o u s d j (outcome.Twins x) = pick_no false _ _ refl
+settle_is t m o u s d j (Err (refutation.Fault e x n)) = pick_no false _ _ refl
+settle_is t m o u s d j (Err (refutation.Twins x)) = pick_no false _ _ refl
 
 -- ---- the layer
 
@@ -210,5 +206,5 @@ module _ (kind : Kind) (root : List ℕ) (tbl : List (List (List ℕ))) (j n : �
       ∙ ap (settle tree j) (peeled.goes (suc j))
       ∙ settle_is t' m' o' u' s' (suc j) j z
 
-  pub layered : (r : Passage) → passes r ≡ settled z m' j → Layered kind root tbl j t m o t' m' o' s s' r
+  pub layered : (r : Option Ended) → passes r ≡ settled z m' j → Layered kind root tbl j t m o t' m' o' s s' r
   layered r e = record { used = u'; goes = λ u d. worked u d ∙ ap (λ (q : End). state t' m' o' u' s' (suc j) q) (sym e) }

@@ -9,21 +9,17 @@ use lib.ListN.{length}
 use lib.Pow.{pow_mono, pow_pos}
 use Rattle.model.specs.Repair.{end_as, finish, going, layer, layers, repair}
 use Rattle.model.specs.Shape.{tree}
+use Rattle.std.proofs.Common.{None, Option, Some}
 use Rattle.octets.proofs.Choice.{pick_no, pick_yes}
-use Rattle.parity_table.proofs.Accepts.{accepted-table}
-use Rattle.parity_table.specs.Parse.{equations_above, table_of}
-use Rattle.parity_table.specs.Reader.{read_of}
+use Rattle.parity_table.specs.Parse.{equations_above}
 use Rattle.parity_table.specs.Shape.{k_of, max_depth}
 use Rattle.equation.specs.States.{state}
 use Rattle.repair.specs.Reports.{Layered, Repaired, end_of, passes}
-use Rattle.repair.specs.declared.layer.Passage.{Passage}
-use Rattle.repair.specs.declared.layer.Passage.TheVariants.{On, Stop}
 use Rattle.symbol_hash.specs.SymbolHash.{symbol_hash}
 use Rattle.symbol_hash.specs.declared.Kind.{Kind}
 use Rattle.model.specs.Repair.{St, working}
 use Rattle.repair.specs.declared.End.{End as Ended}
 use Rattle.repair.specs.declared.End.TheVariants as ended
-use Rattle.parity_table.specs.declared.Answer.TheVariants.{Whole}
 
 -- ---- layer j is next
 
@@ -62,7 +58,7 @@ module _ (kind : Kind) (root : List ℕ) (tbl : List (List (List ℕ))) (t₀ m�
   stopped zero j st g = refl
   stopped (suc f) j st g = ap (layers tree (symbol_hash kind) root tbl (suc j) f) (pick_no (going st.end) _ _ g) ∙ stopped f (suc j) st g
 
-  module _ (j : ℕ) (h : j < length tbl) (t m o : List ℕ) (s : ℕ) (p : Deep kind root tbl t₀ m₀ o₀ j t m o s) (t' m' o' : List ℕ) (s' : ℕ) (r : Passage)
+  module _ (j : ℕ) (h : j < length tbl) (t m o : List ℕ) (s : ℕ) (p : Deep kind root tbl t₀ m₀ o₀ j t m o s) (t' m' o' : List ℕ) (s' : ℕ) (r : Option Ended)
       (k : Layered kind root tbl j t m o t' m' o' s s' r) where
     next : layers tree (symbol_hash kind) root tbl (suc j) (length tbl - (j + 1)) (state t' m' o' k.used s' (suc j) (passes r))
         ≡ layers tree (symbol_hash kind) root tbl 0 (length tbl) (state t₀ m₀ o₀ [] 0 0 working)
@@ -73,22 +69,22 @@ module _ (kind : Kind) (root : List ℕ) (tbl : List (List (List ℕ))) (t₀ m�
         ∙ sym (ap (λ (q : ℕ). layers tree (symbol_hash kind) root tbl j q (state t m o p.used s j working)) f)
         ∙ p.goes
 
-    pub deep_on : r ≡ On → Deep kind root tbl t₀ m₀ o₀ (j + 1) t' m' o' s'
+    pub deep_on : r ≡ None → Deep kind root tbl t₀ m₀ o₀ (j + 1) t' m' o' s'
     deep_on er =
         record {
           used = k.used;
           goes =
-              ap₂ (λ (q : ℕ) (z : Passage). layers tree (symbol_hash kind) root tbl q (length tbl - (j + 1)) (state t' m' o' k.used s' q (passes z))) (add-one j) (sym er)
+              ap₂ (λ (q : ℕ) (z : Option Ended). layers tree (symbol_hash kind) root tbl q (length tbl - (j + 1)) (state t' m' o' k.used s' q (passes z))) (add-one j) (sym er)
               ∙ next;
         }
 
-    pub deep_stop : (z : Ended) → r ≡ Stop z → Repaired kind root tbl t₀ m₀ o₀ t' m' o' s' z
+    pub deep_stop : (z : Ended) → r ≡ Some z → Repaired kind root tbl t₀ m₀ o₀ t' m' o' s' z
     unfolding repair finish
     deep_stop z er =
         let st : St = state t' m' o' k.used s' (suc j) (end_of z) in
         let e : layers tree (symbol_hash kind) root tbl 0 (length tbl) (state t₀ m₀ o₀ [] 0 0 working) ≡ st =
         sym next
-        ∙ ap (λ (q : Passage). layers tree (symbol_hash kind) root tbl (suc j) (length tbl - (j + 1)) (state t' m' o' k.used s' (suc j) (passes q))) er
+        ∙ ap (λ (q : Option Ended). layers tree (symbol_hash kind) root tbl (suc j) (length tbl - (j + 1)) (state t' m' o' k.used s' (suc j) (passes q))) er
         ∙ stopped (length tbl - (j + 1)) (suc j) st (ends z) in
         said t' m' o' k.used s' (suc j) z (ap finish e ∙ pick_no (going (end_of z)) _ _ (ends z))
 
@@ -116,6 +112,3 @@ stored_small d h = omega (arith, pow_mono {i = d} {j = max_depth} h)
 pub stored-below : (j d s : ℕ) → j ≤ d → s ≤ equations_above j → s ≤ equations_above d
 unfolding equations_above k_of
 stored-below j d s h k = omega (arith, pow_mono {i = j} {j = d} h)
-
-pub depth_is : (d : ℕ) (ws : List ℕ) → read_of d ws ≡ Whole → length (table_of ws) ≡ d
-depth_is d ws r = (accepted-table d ws r).depth

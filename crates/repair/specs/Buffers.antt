@@ -1,12 +1,11 @@
 -- What the repairer asks of the buffers that it is lent. Definitions only.
 use Rattle.std.specs.Prelude.{◌≡◌, List, ℕ, ◌+◌, ◌-◌, ◌*◌, ◌≤◌, length}
-use Rattle.parity_table.specs.Parse.{Indexed}
 use Rattle.parity_table.specs.Shape.{k_of}
 use Rattle.model.specs.Shape.{tree, places}
+use Rattle.repair.specs.declared.SearchLists.{SearchLists}
 
--- the words of a table of depth d with their index, and buffers of the lengths of that depth
-pub record Given (d : ℕ) (ws starts root t m out : List ℕ) : Type 0 where
-  pub indexed : Indexed d ws starts
+-- buffers of the lengths of depth d
+pub record Given (d : ℕ) (root t m out : List ℕ) : Type 0 where
   pub root_full : length root ≡ 512
   pub tree-full : length t ≡ 256 * places tree d
   pub marks-full : length m ≡ places tree d
@@ -27,3 +26,23 @@ pub record Own (j : ℕ) (used absent order last next : List ℕ) : Type 0 where
   pub order_full : length order ≡ 6 * k_of j
   pub last-full : length last ≡ 4 * k_of j
   pub next-room : 24 * k_of j ≤ length next
+
+-- the same of the lists of a search
+abbrev pub RoomFor : ℕ → SearchLists → Type 0
+RoomFor k l = Lists k l.used.now l.absent.now l.order.now l.last.now l.next.now
+
+abbrev pub OwnLists : ℕ → SearchLists → Type 0
+OwnLists j l = Own j l.used.now l.absent.now l.order.now l.last.now l.next.now
+
+-- the lists of the search are the same ones, and so as long as they were
+pub record SameLists (l l' : SearchLists) : Type 0 where
+  pub used : l'.used.ghost_name ≡ l.used.ghost_name
+  pub absent : l'.absent.ghost_name ≡ l.absent.ghost_name
+  pub order : l'.order.ghost_name ≡ l.order.ghost_name
+  pub last : l'.last.ghost_name ≡ l.last.ghost_name
+  pub next : l'.next.ghost_name ≡ l.next.ghost_name
+  pub used-length : length l'.used.now ≡ length l.used.now
+  pub absent-length : length l'.absent.now ≡ length l.absent.now
+  pub order_length : length l'.order.now ≡ length l.order.now
+  pub last-length : length l'.last.now ≡ length l.last.now
+  pub next-length : length l'.next.now ≡ length l.next.now

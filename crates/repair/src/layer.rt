@@ -1,59 +1,55 @@
 // One layer of a repair: (a) the sweep, (b) peeling, (c) "gaps left mean "unavailable" with this layer, else go on".
 ghost use Rattle.std.specs.Prelude.{◌≡◌, ℕ, suc, ◌+◌, ◌*◌, ◌^◌, ◌<◌, ◌≤◌, length, replicate};
 ghost use Rattle.parity_table.specs.Shape.{max_depth, k_of};
-ghost use Rattle.parity_table.specs.Parse.{table_of};
 ghost use Rattle.model.specs.Shape.{tree as shape, places};
 ghost use Rattle.incidence.specs.Incidence.{Threadable, Threaded};
 ghost use Rattle.peeling.specs.Search.{Countable, Counted, Ordered};
-ghost use Rattle.repair.specs.Buffers.{Given, Lists, Own};
-ghost use Rattle.repair.specs.Reports.{passes, settled, Layered};
+ghost use Rattle.repair.specs.Buffers.{Given, OwnLists, SameLists};
+ghost use Rattle.peeling.specs.States.{refuted as refuted_as};
+ghost use Rattle.repair.specs.Reports.{end_of, passes, settled, Layered};
 
-use crate::End;
-use parity_table::{data_count, index};
-use peeling::{Outcome, peel_layer, prepare, sweep_layer};
+use crate::{End, SearchLists};
+use parity_table::{Table, data_count, index};
+use peeling::{Refutation, peel_layer, prepare, sweep_layer};
 use symbol_hash::Kind;
 
-// Whether the repair goes on after a layer.
-#[derive(Clone, Copy)]
-pub enum Passage {
-    On,
-    Stop(End),
-}
-
-// How a layer was left, and the symbols stored so far.
-#[derive(Clone, Copy)]
+// The end of the repair, if it ends at this layer, and the symbols stored so far.
+#[derive(Clone, Copy, Debug, PartialEq, Eq)]
 pub struct Passed {
     pub stored: usize,
-    pub passage: Passage,
+    pub end: Option<End>,
 }
 
-// How layer j is left after its peeling.
-fn settle(outcome: Outcome, marks: &[u8], j: usize) -> Passage
+// The end that a refutation of layer j is.
+fn refuted(refutation: Refutation, j: usize) -> End
+    ensures { end_of result ≡ refuted_as j refutation }
+{
+    match refutation {
+        Refutation::Fault {
+            equation,
+            withheld,
+            size,
+        } => End::Fault {
+            layer: j,
+            equation,
+            withheld,
+            size,
+        },
+        Refutation::Twins(number) => End::Twins { layer: j, number },
+    }
+}
+
+// (c) for layer j: the end that it comes to, if any, by the outcome of its peeling.
+fn settle(outcome: Result<(), Refutation>, marks: &[u8], j: usize) -> Option<End>
     requires { (j < max_depth) × (places shape (suc j) ≤ length marks.now) }
     ensures { passes result ≡ settled outcome marks.now j }
 {
     match outcome {
-        Outcome::Peeled => {
+        Ok(()) => {
             let n = 4 * data_count(j);
-            if coded_tree::first_absent(marks, j, n) < n {
-                return Passage::Stop(End::Unavailable(j));
-            }
-            Passage::On
+            coded_tree::first_absent(marks, j, n).map(|_| End::Unavailable(j))
         }
-        Outcome::Fault {
-            equation,
-            withheld,
-            size,
-        } => Passage::Stop(End::Fault {
-            layer: j,
-            equation,
-            withheld,
-            size,
-        }),
-        Outcome::Twins(x) => Passage::Stop(End::Twins {
-            layer: j,
-            number: x,
-        }),
+        Err(refutation) => Some(refuted(refutation, j)),
     }
 }
 
@@ -63,105 +59,66 @@ fn set_up(
     starts: &[usize],
     from: usize,
     marks: &[u8],
-    used: &mut [u8],
-    absent: &mut [u8],
-    order: &mut [u32],
-    last: &mut [u32],
-    next: &mut [u32],
+    lists: &mut SearchLists,
     j: usize,
 )
-    requires { Threadable words.now starts.now from (length used.old) (length last.old) (length next.old)
-        × Countable words.now starts.now from j (length used.old) marks.now × (length absent.old ≡ length used.old)
-        × (length order.old ≡ 2 * length used.old) }
-    ensures { (used.new ≡ replicate (length used.old) 0)
-        × Threaded words.now starts.now from (length used.new) last.new next.new
-        × Counted words.now starts.now from j (length used.new) marks.now absent.new
-        × Ordered used.new absent.new 0 order.new }
+    requires { Threadable words.now starts.now from (length lists.old.used.now) (length lists.old.last.now) (length lists.old.next.now)
+        × Countable words.now starts.now from j (length lists.old.used.now) marks.now
+        × (length lists.old.absent.now ≡ length lists.old.used.now) × (length lists.old.order.now ≡ 2 * length lists.old.used.now) }
+    ensures { (lists.new.used.now ≡ replicate (length lists.old.used.now) 0)
+        × Threaded words.now starts.now from (length lists.new.used.now) lists.new.last.now lists.new.next.now
+        × Counted words.now starts.now from j (length lists.new.used.now) marks.now lists.new.absent.now
+        × Ordered lists.new.used.now lists.new.absent.now 0 lists.new.order.now × SameLists lists.old lists.new }
 {
-    octets::fill(used, 0);
-    incidence::fill(words, starts, from, used.len(), last, next);
-    prepare(words, starts, from, marks, used, absent, order, j);
+    let used = &mut *lists.used;
+    used.fill(0);
+    incidence::fill(words, starts, from, used.len(), lists.last, lists.next);
+    prepare(
+        words,
+        starts,
+        from,
+        marks,
+        used,
+        lists.absent,
+        lists.order,
+        j,
+    );
 }
 
-// repair_layer, with lists that have just the entries of this layer: of its symbols `last`, of its equations the others, two in `order`.
-fn repair_with(
+// Repairs layer j, with so many symbols stored before. The lists for the search have just the entries of this layer: of its symbols `last`, of its
+// equations the others, two in `order`. What they hold doesn't matter.
+pub fn repair_layer(
     kind: Kind,
-    words: &[u32],
-    starts: &[usize],
+    table: &Table,
     root: &[u8],
+    lists: &mut SearchLists,
     tree: &mut [u8],
     marks: &mut [u8],
     out: &mut [u8],
-    used: &mut [u8],
-    absent: &mut [u8],
-    order: &mut [u32],
-    last: &mut [u32],
-    next: &mut [u32],
     j: usize,
     stored: usize,
 ) -> Passed
-    requires { ((depth : ℕ) × Given depth words.now starts.now root.now tree.old marks.old out.old × (j < depth)) × (stored ≤ 2 ^ 20)
-        × Own j used.old absent.old order.old last.old next.old }
-    ensures { Layered kind root.now (table_of words.now) j tree.old marks.old out.old
-        tree.new marks.new out.new stored result.stored result.passage
+    requires { Given table.now.depth root.now tree.old marks.old out.old × (j < table.now.depth) × (stored ≤ 2 ^ 20)
+        × OwnLists j lists.old }
+    ensures { Layered kind root.now table.now.layers j tree.old marks.old out.old
+        tree.new marks.new out.new stored result.stored result.end
         × (result.stored ≤ stored + 3 * k_of j) }
 {
+    let (words, starts) = table.parts();
     let from = index::number_of(j, 0);
-    sweep_layer(kind, root, tree, marks, j, last.len());
-    set_up(
-        words, starts, from, marks, used, absent, order, last, next, j,
-    );
+    sweep_layer(kind, root, tree, marks, j, lists.last.len());
+    set_up(words, starts, from, marks, lists, j);
+    let used = &mut *lists.used;
+    let absent = &mut *lists.absent;
+    let order = &mut *lists.order;
+    let last = &mut *lists.last;
+    let next = &mut *lists.next;
     let run = peel_layer(
         kind, root, words, starts, from, last, next, tree, marks, out, used, absent, order, j,
         stored,
     );
-    let outcome = run.outcome;
-    let stored = run.stored;
     Passed {
-        stored,
-        passage: settle(outcome, marks, j),
+        stored: run.stored,
+        end: settle(run.outcome, marks, j),
     }
-}
-
-// Repairs layer j, with so many symbols stored before. The five lists are for the search; what they hold doesn't matter.
-pub fn repair_layer(
-    kind: Kind,
-    words: &[u32],
-    starts: &[usize],
-    root: &[u8],
-    tree: &mut [u8],
-    marks: &mut [u8],
-    out: &mut [u8],
-    used: &mut [u8],
-    absent: &mut [u8],
-    order: &mut [u32],
-    last: &mut [u32],
-    next: &mut [u32],
-    j: usize,
-    stored: usize,
-) -> Passed
-    requires { ((depth : ℕ) × Given depth words.now starts.now root.now tree.old marks.old out.old × (j < depth)) × (stored ≤ 2 ^ 20)
-        × Lists (k_of j) used.old absent.old order.old last.old next.old }
-    ensures { Layered kind root.now (table_of words.now) j tree.old marks.old out.old
-        tree.new marks.new out.new stored result.stored result.passage
-        × (result.stored ≤ stored + 3 * k_of j) }
-{
-    let k = data_count(j);
-    let n = 3 * k;
-    repair_with(
-        kind,
-        words,
-        starts,
-        root,
-        tree,
-        marks,
-        out,
-        &mut used[..n],
-        &mut absent[..n],
-        &mut order[..2 * n],
-        &mut last[..4 * k],
-        next,
-        j,
-        stored,
-    )
 }

@@ -5,15 +5,27 @@ mod layer; // one layer: (a), (b), (c)
 
 ghost use Rattle.std.specs.Prelude.{◌-◌, ◌≤◌};
 ghost use Rattle.parity_table.specs.Shape.{k_of};
-ghost use Rattle.parity_table.specs.Parse.{table_of, equations_above};
-ghost use Rattle.repair.specs.Buffers.{Given, Lists};
+ghost use Rattle.parity_table.specs.Parse.{equations_above};
+ghost use Rattle.repair.specs.Buffers.{Given, RoomFor};
 ghost use Rattle.repair.specs.Reports.{Repaired};
 
-use layer::{Passage, repair_layer};
+use layer::repair_layer;
+use parity_table::{Table, data_count};
 use symbol_hash::Kind;
 
+// The lists of the search for the next equation of a layer: of each equation, whether it is used and how many members are absent; the order of the
+// equations that can be taken; and the threads through the equations of each symbol.
+#[derive(Drop)]
+pub struct SearchLists<'a> {
+    pub used: &'a mut [u8],
+    pub absent: &'a mut [u8],
+    pub order: &'a mut [u32],
+    pub last: &'a mut [u32],
+    pub next: &'a mut [u32],
+}
+
 // "The ends are: whole, fault, unavailable, twins."
-#[derive(Clone, Copy)]
+#[derive(Clone, Copy, Debug, PartialEq, Eq)]
 pub enum End {
     Whole,
     // the proof's layer, equation, withheld member and length
@@ -33,42 +45,50 @@ pub enum End {
 }
 
 // What a repair reports: the number of symbols stored, and its end.
-#[derive(Clone, Copy)]
+#[derive(Clone, Copy, Debug, PartialEq, Eq)]
 pub struct Report {
     pub stored: usize,
     pub end: End,
 }
 
-// Repairs a tree whose symbols are hashed by their volume's kind. The last five lists are for the search in a layer; what they hold doesn't matter.
+// Repairs a tree whose symbols are hashed by their volume's kind. What the lists for the search in a layer hold doesn't matter.
+#[tactic(auto, using(crate::proofs::LayerLaws::k_below))]
 pub fn repair(
     kind: Kind,
-    depth: usize,
-    words: &[u32],
-    starts: &[usize],
+    table: &Table,
     root: &[u8],
+    lists: SearchLists,
     tree: &mut [u8],
     marks: &mut [u8],
     out: &mut [u8],
-    used: &mut [u8],
-    absent: &mut [u8],
-    order: &mut [u32],
-    last: &mut [u32],
-    next: &mut [u32],
 ) -> Report
-    requires { Given depth words.now starts.now root.now tree.old marks.old out.old
-        × Lists (k_of (depth - 1)) used.old absent.old order.old last.old next.old }
-    ensures { Repaired kind root.now (table_of words.now) tree.old marks.old out.old
+    requires { Given table.now.depth root.now tree.old marks.old out.old × RoomFor (k_of (table.now.depth - 1)) lists }
+    ensures { Repaired kind root.now table.now.layers tree.old marks.old out.old
         tree.new marks.new out.new result.stored result.end
-        × (result.stored ≤ equations_above depth) }
+        × (result.stored ≤ equations_above table.now.depth) }
 {
-    let mut stored: usize = 0;
+    let SearchLists {
+        used,
+        absent,
+        order,
+        last,
+        next,
+    } = lists;
+    let depth = table.depth();
+    let mut stored = 0;
     for j in 0..depth {
-        let r = repair_layer(
-            kind, words, starts, root, tree, marks, out, used, absent, order, last, next, j, stored,
-        );
-        stored = r.stored;
-        let passage = r.passage;
-        if let Passage::Stop(end) = passage {
+        let k = data_count(j);
+        let n = 3 * k;
+        let mut own = SearchLists {
+            used: &mut used[..n],
+            absent: &mut absent[..n],
+            order: &mut order[..2 * n],
+            last: &mut last[..4 * k],
+            next: &mut *next,
+        };
+        let passed = repair_layer(kind, table, root, &mut own, tree, marks, out, j, stored);
+        stored = passed.stored;
+        if let Some(end) = passed.end {
             return Report { stored, end };
         }
     }

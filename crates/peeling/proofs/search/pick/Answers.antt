@@ -12,7 +12,7 @@ next_ready-requires c = (c.requires.4, c.requires.1)
 
 pub returns-then-n-e : goal.returns-then-n-e
 returns-then-n-e c =
-    picked_after c.args.used.now c.args.absent.now c.args.at c.requires.0 c.least-e.ensures c.if-n-e.true c.requires.4 c.next_ready.ensures
+    picked_after c.args.used.now c.args.absent.now c.args.at c.requires.0 c.least-e.ensures c.if-n-e.true _ c.next_ready.ensures
 
 pub overflow_cast-n : goal.overflow_cast-n
 overflow_cast-n c = omega (arith, c.requires.3)

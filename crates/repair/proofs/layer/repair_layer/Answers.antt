@@ -1,39 +1,73 @@
--- `repair_layer` meets its contract: the front of each list is the layer's own.
-use mathlib.Core.Path.{sym}
-use Prim.Native.Nat.{◌*◌}
+-- `repair_layer` meets its contract: sweep, peeling and (c), with the layer's own lists.
+use mathlib.Core.List.{List}
+use mathlib.Core.Path.{◌∙◌, ap, refl, subst, sym}
+use Prim.Native.Nat.{ℕ}
 use native.Mathlib.Omega.{arith}
-use lib.Seq.{length-take-le}
-use Rattle.repair.proofs.LayerLaws.{layer_below}
+use lib.ListN.{length, length-replicate, replicate}
+use Rattle.parity_table.specs.Parse.{table_of}
+use Rattle.parity_table.specs.Shape.{k_of, n_of}
+use Rattle.model.proofs.Hung.{tree_hangs}
+use Rattle.model.proofs.Shapes.{tree_ok}
+use Rattle.model.specs.Shape.{places, tree}
+use Rattle.equation.specs.Rooms.{Level}
+use Rattle.repair.proofs.LayerLaws.{countable, equations, given_keep, layer_below, layered, level, own_keep, peelable, reads, threadable}
 use Rattle.repair.proofs.layer.repair_layer.Goals as goal
 
-pub data_count-k-requires : goal.data_count-k-requires
-data_count-k-requires c = let g = c.requires.0 in layer_below g.1 c.args.j g.2
+pub number_of-from-requires : goal.number_of-from-requires
+unfolding k_of
+number_of-from-requires c =
+    let g = c.requires in
+    (layer_below c.parts.ensures.indexed g.0 c.args.j g.1, omega (arith, tree_ok.shape.some c.args.j))
 
-pub slice_bounds-repair_with-end-2 : goal.slice_bounds-repair_with-end-2
-slice_bounds-repair_with-end-2 c = sym (length-take-le _ c.args.used.now (omega (arith, c.data_count-k.ensures, c.requires.2.used-room)))
-
-pub slice_bounds-repair_with-end-4 : goal.slice_bounds-repair_with-end-4
-slice_bounds-repair_with-end-4 c = sym (length-take-le _ c.args.absent.now (omega (arith, c.data_count-k.ensures, c.requires.2.absent-room)))
-
-pub slice_bounds-repair_with-end-6 : goal.slice_bounds-repair_with-end-6
-slice_bounds-repair_with-end-6 c = sym (length-take-le _ c.args.order.now (omega (arith, c.data_count-k.ensures, c.requires.2.order_room)))
-
-pub slice_bounds-repair_with-end-8 : goal.slice_bounds-repair_with-end-8
-slice_bounds-repair_with-end-8 c = sym (length-take-le _ c.args.last.now (omega (arith, c.data_count-k.ensures, c.requires.2.last-room)))
-
-pub repair_with-requires : goal.repair_with-requires
-repair_with-requires c =
+pub sweep_layer-requires : goal.sweep_layer-requires
+unfolding n_of
+sweep_layer-requires c =
     let a = c.args in
-    let l = c.requires.2 in
-    let r = c.data_count-k.result in
-    let k = c.data_count-k.ensures in (
-      c.requires.0,
-      c.requires.1,
-      record {
-        used-full = omega (arith, length-take-le (3 * r) a.used.now (omega (arith, k, l.used-room)), k);
-        absent-full = omega (arith, length-take-le (3 * r) a.absent.now (omega (arith, k, l.absent-room)), k);
-        order_full = omega (arith, length-take-le (2 * (3 * r)) a.order.now (omega (arith, k, l.order_room)), k);
-        last-full = omega (arith, length-take-le (4 * r) a.last.now (omega (arith, k, l.last-room)), k);
-        next-room = l.next-room;
-      },
+    let g = c.requires in
+    subst (Level a.root.now a.tree.now a.marks.now a.j) (sym g.3.last-full) (level c.parts.ensures.indexed g.0 a.j g.1)
+
+pub set_up-requires : goal.set_up-requires
+set_up-requires c =
+    let a = c.args in
+    let g = c.requires in
+    let own = g.3 in
+    let k = given_keep {t' = a.tree.now} {o' = a.out.now} refl c.sweep_layer.auto.marks refl g.0 in (
+      threadable c.parts.ensures.indexed g.0 a.j g.1 _ c.number_of-from.ensures own,
+      countable c.parts.ensures.indexed k a.j g.1 _ c.number_of-from.ensures own,
+      own.absent-full ∙ sym own.used-full,
+      omega (arith, own.order_full, own.used-full),
+    )
+
+pub peel_layer-run-requires : goal.peel_layer-run-requires
+peel_layer-run-requires c =
+    let a = c.args in
+    let g = c.requires in
+    let w = c.sweep_layer in
+    let u = c.set_up.ensures in
+    let k = given_keep w.auto.tree w.auto.marks refl g.0 in
+    let own = own_keep u.4 g.3 in
+    (peelable c.parts.ensures.indexed k a.j g.1 _ c.number_of-from.ensures own u.1 u.2 u.3, g.2)
+
+pub settle-requires : goal.settle-requires
+unfolding n_of places
+settle-requires c =
+    let a = c.args in
+    let g = c.requires in
+    let v = level c.parts.ensures.indexed g.0 a.j g.1 in
+    (layer_below c.parts.ensures.indexed g.0 a.j g.1, omega (arith, v.marks-room))
+
+pub returns : goal.returns
+unfolding n_of
+returns c =
+    let a = c.args in
+    let g = c.requires in
+    let x = c.parts.ensures.indexed in
+    let tbl : List (List (List ℕ)) = table_of c.parts.result.0.now in
+    let u = c.set_up.ensures.0 in
+    let p = c.peel_layer-run.ensures in
+    let n = ap length u ∙ length-replicate {A = ℕ} (length a.lists.now.used.now) 0 ∙ g.3.used-full in (
+      rw (← c.parts.ensures.layers) (layered a.kind a.root.now tbl a.j _ g.3.last-full (c.sweep_layer.ensures tree (tree_hangs a.j))
+          (u ∙ ap (λ (m : ℕ). replicate m 0) (g.3.used-full ∙ sym (equations x g.0 a.j g.1)))
+          (p.0 tree (tree_hangs a.j) tbl (reads x g.0 a.j g.1 _ c.number_of-from.ensures _ n)) _ c.settle.ensures),
+      omega (arith, p.1, n),
     )
