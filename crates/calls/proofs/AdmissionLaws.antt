@@ -2,58 +2,48 @@
 use mathlib.Core.Path.{◌≡◌, refl, sym, ap, ap₂, ◌∙◌, subst}
 use mathlib.Core.Bool.{Bool, true, false, ◌&&◌}
 use mathlib.Core.List.{List}
+use Rattle.std.specs.Prelude.{Ok, Err}
 use Prim.Native.Nat.{ℕ, ◌+◌, ◌-◌, ◌*◌, ◌/◌, ◌≤◌, ◌<◌, ◌^◌}
 use native.Mathlib.Decide.{dec_lt}
 use native.Mathlib.Omega.{arith}
 use lib.ListN.{length, take, drop, replicate, length-take, length-drop, length-append, length-replicate}
 use lib.Seq.{take_all, take_at}
-use lib.Dec.{eqb, ltb}
 use lib.Pow.{pow_mono}
-use borrow.Author.Tests.{eqb-true, ltb-true}
 use Rattle.octets.proofs.Choice.{by_test, and_yes, yes_and}
 use Rattle.parity_table.specs.Shape.{max_depth, depth_fits, is_deep, k_of, shallow}
-use Rattle.parity_table.specs.declared.Answer.{Answer as Read}
-use Rattle.parity_table.specs.declared.Answer.TheVariants as read
+use Rattle.parity_table.specs.declared.TableError.TheVariants as error
 use Rattle.table_bytes.specs.Bytes.{words_of, front_words, length_fits}
 use Rattle.parity_table.specs.Parse.{Indexed, index_of, over, table_of, equations_above}
 use Rattle.parity_table.specs.Longest.{longest}
-use Rattle.parity_table.specs.Reader.{read_of}
+use Rattle.parity_table.specs.Reader.{Answer as Read, Whole, Wrong, read_of}
 use Rattle.table_bytes.proofs.ByteForm.{words-front, words_of-length, quarter_most}
 use Rattle.parity_table.proofs.Accepts.{accepted-depth, accepted-table, index-length, refused-wrong}
 use Rattle.parity_table.proofs.Front.{accepted-short, read-front}
 use Rattle.parity_table.proofs.Longest.{longest-room}
-use Rattle.parity_table.proofs.Shape.{depth_is, depth_low, k_small, not_deep}
-use Rattle.coverage.specs.declared.Coverage.{Coverage}
-use Rattle.coverage.specs.declared.Coverage.TheVariants as coverage
-use Rattle.coverage.specs.Coverage.{coverage_of}
+use Rattle.parity_table.proofs.Shape.{depth_is, k_small, not_deep}
+use Rattle.coverage.specs.Coverage.{Coverage, Covered, UncoveredAt, coverage_of}
 use Rattle.coverage.proofs.Right.{found-low}
 use Rattle.model.specs.Shape.{tree}
 use Rattle.model.proofs.Tables.{TableLaws, table_laws}
-use Rattle.calls.specs.declared.Stop.{Stop}
-use Rattle.calls.specs.declared.Stop.TheVariants.{Depth, Length, Table, Mark, Number, Head, Hash, NoFault, Absent, Uncovered, Record, OtherTable, NotWhole}
-use Rattle.calls.specs.declared.Answer.{Answer}
-use Rattle.calls.specs.declared.Answer.TheVariants.{Done, Stopped}
+use Rattle.calls.specs.Stops.{Answer, Done, Small}
 use Rattle.calls.specs.Tests.{◌then◌, left, read_answer, cover_answer, opened, words_tested, admitted, words_left, starts_left}
-use Rattle.calls.specs.Room.{Room, WordsRoom, stops_at_depth}
-use Rattle.calls.specs.Stops.{Small, number_of}
-use Rattle.calls.proofs.TestLaws.{stopped_not, then_done, opened_by, no_depth, no_length, opens, small_plain, small_then, small_opened}
+use Rattle.calls.specs.Room.{Room, WordsRoom}
+use Rattle.calls.proofs.TestLaws.{stopped_not, then_done, opened_by, no_depth, opens, small_plain, small_then, small_opened}
 
-pub read_whole : (r : Read) → read_answer r ≡ Done → r ≡ read.Whole
-read_whole read.Depth e = absurd (stopped_not _ e)
-read_whole read.Length e = absurd (stopped_not _ e)
-read_whole (read.Wrong i) e = absurd (stopped_not _ e)
-read_whole read.Whole e = refl
+pub read_whole : (r : Read) → read_answer r ≡ Done → r ≡ Whole
+read_whole (Ok _) e = refl
+read_whole (Err x) e = absurd (stopped_not _ e)
 
-cover_done : (c : Coverage) → cover_answer c ≡ Done → c ≡ coverage.Covered
-cover_done coverage.Covered e = refl
-cover_done (coverage.Uncovered j i) e = absurd (stopped_not _ e)
+cover_done : (c : Coverage) → cover_answer c ≡ Done → c ≡ Covered
+cover_done (Ok _) e = refl
+cover_done (Err u) e = absurd (stopped_not _ e)
 
 -- a table that calls take at this depth
 pub record TableTaken (d : ℕ) (table : List ℕ) : Type 0 where
   pub deep : depth_fits d ≡ true
   pub length-fits : length_fits (length table) ≡ true
-  pub accepted : read_of d (words_of table) ≡ read.Whole
-  pub covered : coverage_of d (table_of (words_of table)) ≡ coverage.Covered
+  pub accepted : read_of d (words_of table) ≡ Whole
+  pub covered : coverage_of d (table_of (words_of table)) ≡ Covered
 
 module _ (d : ℕ) (sized : Bool) (table : List ℕ) where
   abbrev long : Bool
@@ -63,22 +53,6 @@ module _ (d : ℕ) (sized : Bool) (table : List ℕ) where
   begun = opened d (sized && long)
 
   -- ---- the answer, and the call's own buffer for words
-
-  -- a call that is stopped by its depth or its own lengths, or by the table's length
-  pub not_opened : (z : Stop) → Stopped z ≡ opened d sized → Stopped z ≡ begun
-  not_opened z e =
-      by_test (depth_fits d)
-      (λ f.
-      by_test sized (λ l. absurd (stopped_not z (e ∙ sym (opens d sized f l))))
-      (λ l. e ∙ sym (no_length d sized f l) ∙ no_length d (sized && long) f (ap (λ (b : Bool). b && long) l)))
-      (λ f. e ∙ sym (no_depth d sized f) ∙ no_depth d (sized && long) f)
-
-  pub not_long : Done ≡ opened d sized → long ≡ false → Stopped Length ≡ begun
-  not_long o l = let k = opened_by d sized (sym o) in no_length d (sized && long) k.deep (ap₂ (λ (a b : Bool). a && b) k.lengths l)
-
-  -- .. or whose table is read
-  pub goes_on_lem : Done ≡ opened d sized → long ≡ true → Done ≡ begun
-  goes_on_lem o l = let k = opened_by d sized (sym o) in opens d (sized && long) k.deep (yes_and k.lengths l)
 
   -- what tests 1 and 2 come to decides the answer, and what the buffer holds
   pub by_begun : (a : Answer) → a ≡ begun → (w : List ℕ)
@@ -178,11 +152,9 @@ module _ (d : ℕ) (sized : Bool) (table : List ℕ) where
 -- ---- the call's arrays
 
 -- what comes after a table that breaks a rule is not asked
-never_whole : (r : Read) (a b : Answer) → (r ≡ read.Whole → ⊥) → (read_answer r then a) ≡ (read_answer r then b)
-never_whole read.Depth a b n = refl
-never_whole read.Length a b n = refl
-never_whole (read.Wrong i) a b n = refl
-never_whole read.Whole a b n = absurd (n refl)
+never_whole : (r : Read) (a b : Answer) → (r ≡ Whole → ⊥) → (read_answer r then a) ≡ (read_answer r then b)
+never_whole (Ok _) a b n = absurd (n refl)
+never_whole (Err x) a b n = refl
 
 -- a list is tested by its front, where that has more words than the longest table
 pub tested_front : (d w : ℕ) (ws : List ℕ) → longest d < w → words_tested d (take w ws) ≡ words_tested d ws
@@ -249,22 +221,22 @@ admitted-sized d s w table e =
 -- ---- laws of an accepted table, and values
 
 -- the laws that it satisfies
-pub table_laws_of : (d : ℕ) (table : List ℕ) → read_of d (words_of table) ≡ read.Whole → TableLaws tree (table_of (words_of table))
+pub table_laws_of : (d : ℕ) (table : List ℕ) → read_of d (words_of table) ≡ Whole → TableLaws tree (table_of (words_of table))
 table_laws_of d table r =
     let (some, shallow) = accepted-depth d (words_of table) r in
     table_laws d (table_of (words_of table)) some shallow (accepted-table d (words_of table) r)
 
-pub small_read : (r : Read) → ((i : ℕ) → r ≡ read.Wrong i → i < 2 ^ 24) → Small (read_answer r)
-small_read read.Depth w = small_plain refl
-small_read read.Length w = small_plain refl
-small_read (read.Wrong i) w = record { first = w i refl; second = omega arith }
-small_read read.Whole w = small_plain refl
+pub small_read : (r : Read) → ((i : ℕ) → r ≡ Wrong i → i < 2 ^ 24) → Small (read_answer r)
+small_read (Ok _) w = small_plain refl
+small_read (Err error.Depth) w = small_plain refl
+small_read (Err error.Length) w = small_plain refl
+small_read (Err (error.Wrong i)) w = record { first = w i refl; second = omega arith }
 
 -- a layer and a data symbol of a table of a depth that fits are low numbers
-small_cover : (d : ℕ) → d ≤ max_depth → (c : Coverage) → ((j i : ℕ) → c ≡ coverage.Uncovered j i → (j < d) × (i ≤ k_of j)) → Small (cover_answer c)
-small_cover d h coverage.Covered w = small_plain refl
-small_cover d h (coverage.Uncovered j i) w =
-    let (l, s) = w j i refl in record { first = omega arith; second = omega (arith, k_small j (omega arith)) }
+small_cover : (d : ℕ) → d ≤ max_depth → (c : Coverage) → ((j i : ℕ) → c ≡ UncoveredAt j i → (j < d) × (i ≤ k_of j)) → Small (cover_answer c)
+small_cover d h (Ok _) w = small_plain refl
+small_cover d h (Err u) w =
+    let (l, s) = w u.layer u.symbol refl in record { first = omega arith; second = omega (arith, k_small u.layer (omega arith)) }
 
 pub small_words : (d : ℕ) (ws : List ℕ) → length ws < 2 ^ 24 → Small (words_tested d ws)
 small_words d ws h =
@@ -282,29 +254,3 @@ pub small_admitted : (d : ℕ) (sized : Bool) (table : List ℕ) → Small (admi
 small_admitted d sized table =
     small_then (opened d (sized && length_fits (length table))) (words_tested d (words_of table)) (small_opened d (sized && length_fits (length table)))
     (small_table d sized table)
-
--- ---- answer 1
-
-pub depth_stop : (a : Answer) → number_of a ≡ 1 → a ≡ Stopped Depth
-depth_stop Done e = absurd (omega arith)
-depth_stop (Stopped Depth) e = refl
-depth_stop (Stopped Length) e = absurd (omega arith)
-depth_stop (Stopped (Table i)) e = absurd (omega arith)
-depth_stop (Stopped (Mark p)) e = absurd (omega arith)
-depth_stop (Stopped Number) e = absurd (omega arith)
-depth_stop (Stopped Head) e = absurd (omega arith)
-depth_stop (Stopped (Hash l p)) e = absurd (omega arith)
-depth_stop (Stopped NoFault) e = absurd (omega arith)
-depth_stop (Stopped (Absent x)) e = absurd (omega arith)
-depth_stop (Stopped (Uncovered j i)) e = absurd (omega arith)
-depth_stop (Stopped Record) e = absurd (omega arith)
-depth_stop (Stopped OtherTable) e = absurd (omega arith)
-depth_stop (Stopped NotWhole) e = absurd (omega arith)
-
-pub at_depth : (d : ℕ) (a : Answer) → stops_at_depth d a ≡ true → (0 < d) × (a ≡ Stopped Depth)
-unfolding stops_at_depth
-at_depth d a t = let (e, h) = and_yes (eqb (number_of a) 1) (ltb 0 d) t in (ltb-true 0 d h, depth_stop a (eqb-true (number_of a) 1 e))
-
--- the answer at depth 0
-pub none-admitted : (sized : Bool) (table : List ℕ) → Stopped Depth ≡ admitted 0 sized table
-none-admitted sized table = ap (λ (a : Answer). a then words_tested 0 (words_of table)) (no_depth 0 (sized && length_fits (length table)) (sym (depth_low 0 (omega arith))))

@@ -8,19 +8,24 @@ use native.Mathlib.Omega.{arith}
 use lib.Dec.{ltb}
 use lib.ListN.{get_or, length}
 use borrow.Author.Tests.{le-ltb, lt-ltb, ltb-false, ltb-true}
+use Rattle.std.specs.List.{position_or_len}
+use Rattle.std.proofs.lemmas.List.Sums.{position_or_len_is}
 use Rattle.calls.specs.Marks.{is_bad, lowest_bad}
 use Rattle.model.proofs.Counts.{lowest-is}
 use Rattle.model.proofs.Members.{every-below}
 use Rattle.octets.proofs.Choice.{yes_and}
 use Rattle.parity_table.specs.Members.{every}
 
-pub bad_yes : (m : List ℕ) (p : ℕ) → 1 < get_or m p 0 → is_bad m p ≡ true
-unfolding is_bad
-bad_yes m p h = lt-ltb 1 (get_or m p 0) h
-
 pub bad_no : (m : List ℕ) (p : ℕ) → get_or m p 0 ≤ 1 → is_bad m p ≡ false
 unfolding is_bad
 bad_no m p h = le-ltb 1 (get_or m p 0) h
+
+-- the first place that a search by position finds
+pub position-bad : (m : List ℕ) → position_or_len (λ v. ltb 1 v) m ≡ lowest_bad m
+unfolding is_bad
+position-bad m =
+    let low = lowest-is (is_bad m) 0 (length m) in
+    position_or_len_is (λ v. ltb 1 v) m (lowest_bad m) 0 (omega (arith, low.upto)) (λ k h. low.before k (omega arith) h) (λ h. low.found (omega arith))
 
 -- ---- test 4 passes exactly where every mark is 0 or 1
 

@@ -12,14 +12,11 @@ use Rattle.parity_table.specs.Shape.{depth_fits}
 use Rattle.table_bytes.specs.Bytes.{words_of, length_fits}
 use Rattle.table_bytes.proofs.ByteForm.{quarter_most}
 use Rattle.root_record.specs.Records.{root_in, head_right, names_table}
-use Rattle.parity_table.proofs.Shape.{depth_low}
-use Rattle.calls.specs.declared.Stop.TheVariants.{Depth, Record, OtherTable}
-use Rattle.calls.specs.declared.Answer.{Answer}
-use Rattle.calls.specs.declared.Answer.TheVariants.{Done, Stopped}
+use Rattle.calls.specs.declared.Stop.TheVariants.{Record, OtherTable}
+use Rattle.calls.specs.Stops.{Answer, Done, Stopped, Small}
 use Rattle.calls.specs.Room.{Room}
-use Rattle.calls.specs.Stops.{Small}
 use Rattle.calls.specs.Tests.{◌then◌, left, test_head, test_named, opened, headed, words_tested, admitted, admitted_by, words_left, starts_left}
-use Rattle.calls.proofs.TestLaws.{stopped_not, then_done, Opened, opened_by, opened-sized, opened-short, opened_long, opens, no_depth, no_length, small_plain, small_then, small_opened}
+use Rattle.calls.proofs.TestLaws.{stopped_not, then_done, Opened, opened_by, opened-sized, opens, no_depth, small_plain, small_then, small_opened}
 use Rattle.calls.proofs.AdmissionLaws.{TableTaken, Ready, ready, admission, admits, small_admitted}
 
 -- the root in a record
@@ -77,16 +74,6 @@ module _ (d : ℕ) (sized : Bool) (r : List ℕ) where
 
   pub by_head : depth_fits d ≡ true → sized ≡ true → head_right d r ≡ true → Done ≡ headed d sized r
   by_head f s h = head-fits d r h ∙ ap (λ (a : Answer). a then test_head d r) (opens d sized f s)
-
-  -- the length of a table that is lent too
-  pub headed-short : (long : Bool) → long ≡ false → opened d false ≡ headed d (sized && long) r
-  headed-short long e =
-      by_test (depth_fits d) (λ f. sym (no_length d false f refl) ∙ ap (λ (a : Answer). a then test_head d r) (no_length d false f refl))
-      (λ f. sym (no_depth d false f) ∙ ap (λ (a : Answer). a then test_head d r) (no_depth d false f))
-      ∙ ap (λ (a : Answer). a then test_head d r) (opened-short d sized long e)
-
-  pub headed_long : (long : Bool) → long ≡ true → headed d sized r ≡ headed d (sized && long) r
-  headed_long long e = ap (λ (a : Answer). a then test_head d r) (opened_long d sized long e)
 
   -- a test of lengths that looks at the depth too
   pub headed-sized : headed d (depth_fits d && sized) r ≡ headed d sized r
@@ -171,9 +158,3 @@ admitted_by-sized d s w r table e =
     (λ f.
     ap (λ (a : Answer). (a then test_head d r) then words_tested d (words_of table) then test_named r table)
     (sym (no_depth d (s && length_fits (length table)) f) ∙ no_depth d (w && length_fits (length table)) f))
-
--- the answer at depth 0
-pub none-admitted_by : (sized : Bool) (r table : List ℕ) → Stopped Depth ≡ admitted_by 0 sized r table
-none-admitted_by sized r table =
-    by_begun 0 sized r table (Stopped Depth)
-    (ap (λ (a : Answer). a then test_head 0 r) (no_depth 0 (sized && length_fits (length table)) (sym (depth_low 0 (omega arith)))))

@@ -7,7 +7,7 @@ use lib.ListN.{length}
 use Rattle.octets.specs.BigEndian.{bytes_of}
 use Rattle.octets.proofs.Choice.{by_test}
 use Rattle.parity_table.specs.Shape.{depth_fits}
-use Rattle.parity_table.specs.declared.Answer.{Answer as Read}
+use Rattle.parity_table.specs.Reader.{Answer as Read}
 use Rattle.parity_table.specs.Table.{TableOk, table_words}
 use Rattle.parity_table.specs.Parse.{table_of}
 use Rattle.parity_table.specs.Coverage.{Covered}
@@ -21,7 +21,7 @@ use Rattle.house_table.proofs.HouseBytes.{house-short}
 use Rattle.house_table.proofs.HouseCovered.{house_covered}
 use Rattle.coverage.specs.Coverage.{coverage_of}
 use Rattle.coverage.proofs.Right.{covered_found}
-use Rattle.calls.specs.declared.Answer.{Answer}
+use Rattle.calls.specs.Stops.{Answer}
 use Rattle.calls.specs.Tests.{◌then◌, read_answer, cover_answer, words_tested, admitted}
 use Rattle.calls.proofs.TestLaws.{no_depth, opens}
 use Rattle.calls.proofs.AdmissionLaws.{TableTaken}

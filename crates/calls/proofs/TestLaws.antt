@@ -1,7 +1,9 @@
 -- Tests in their order, and what is known of a call that has passed them.
-use mathlib.Core.Path.{◌≡◌, refl, sym, ap, ap₂, ◌∙◌, subst}
+use mathlib.Core.Path.{◌≡◌, refl, sym, ap, ◌∙◌, subst}
 use mathlib.Core.Bool.{Bool, true, false, ◌&&◌}
 use mathlib.Core.List.{List}
+use Rattle.std.specs.Prelude.{Ok, Err, Option, Some, None, cond}
+use Rattle.std.specs.List.{position}
 use Prim.Native.Nat.{ℕ, ◌-◌, ◌≤◌, ◌<◌, ◌^◌}
 use native.Mathlib.Decide.{dec_lt}
 use native.Mathlib.Omega.{arith}
@@ -14,25 +16,24 @@ use Rattle.parity_table.specs.Shape.{max_depth, depth_fits, n_of}
 use Rattle.parity_table.proofs.Shape.{depth_is}
 use Rattle.calls.specs.declared.Stop.{Stop}
 use Rattle.calls.specs.declared.Stop.TheVariants.{Depth, Length, Table, Mark, Number, Head, Hash, NoFault, Absent, Uncovered, Record, OtherTable, NotWhole}
-use Rattle.calls.specs.declared.Answer.{Answer}
-use Rattle.calls.specs.declared.Answer.TheVariants.{Done, Stopped}
-use Rattle.calls.specs.Stops.{number_of, values_of, Small}
+use Rattle.calls.specs.Stops.{Answer, Done, Stopped, number_of, values_of, Small}
 use Rattle.calls.specs.Marks.{lowest_bad}
+use Rattle.calls.proofs.MarkLaws.{position-bad}
 use Rattle.calls.specs.Tests.{◌then◌, test_depth, test_lengths, test_marks, test_number, opened}
 
 pub stopped_not : (s : Stop) → Stopped s ≡ Done → ⊥
-stopped_not s e = let z : ◌≡◌ {A = ℕ} 0 1 = cc in omega arith
+stopped_not s e = cc
 
 -- ---- one test after another
 
 pub then_done : (a b : Answer) → (a then b) ≡ Done → (a ≡ Done) × (b ≡ Done)
-then_done Done b e = (refl, e)
-then_done (Stopped s) b e = absurd (stopped_not s e)
+then_done (Ok _) b e = (refl, e)
+then_done (Err s) b e = absurd (stopped_not s e)
 
 -- what holds of a test that stops the call, and of those after it where it doesn't
 pub then_ind {ℓ} : (P : Answer → Type ℓ) (a b : Answer) → ((s : Stop) → a ≡ Stopped s → P (Stopped s)) → (a ≡ Done → P b) → P (a then b)
-then_ind P Done b f g = g refl
-then_ind P (Stopped s) b f g = f s refl
+then_ind P (Ok _) b f g = g refl
+then_ind P (Err s) b f g = f s refl
 
 -- ---- tests 1 and 2
 
@@ -70,15 +71,11 @@ pub opened-sized : (d : ℕ) (sized : Bool) → opened d (depth_fits d && sized)
 opened-sized d sized =
     by_test (depth_fits d) (λ f. ap (λ (b : Bool). opened d (b && sized)) f) (λ f. sym (no_depth d (depth_fits d && sized) f) ∙ no_depth d sized f)
 
--- the length of a table that is lent too
-pub opened-short : (d : ℕ) (sized long : Bool) → long ≡ false → opened d false ≡ opened d (sized && long)
-opened-short d sized long e =
-    let n : (sized && long) ≡ false = by_test sized (λ s. ap₂ (λ (a b : Bool). a && b) s e) (λ s. ap (λ (a : Bool). a && long) s) in
-    ap (opened d) (sym n)
-
-pub opened_long : (d : ℕ) (sized long : Bool) → long ≡ true → opened d sized ≡ opened d (sized && long)
-opened_long d sized long e =
-    ap (opened d) (by_test sized (λ s. s ∙ sym (ap₂ (λ (a b : Bool). a && b) s e)) (λ s. s ∙ sym (ap (λ (a : Bool). a && long) s)))
+-- .. and at the length of a table that is lent
+pub opened_both : (d : ℕ) (sized long : Bool) → opened d ((depth_fits d && sized) && long) ≡ opened d (sized && long)
+opened_both d sized long =
+    by_test (depth_fits d) (λ f. ap (λ (b : Bool). opened d ((b && sized) && long)) f)
+    (λ f. sym (no_depth d ((depth_fits d && sized) && long) f) ∙ no_depth d (sized && long) f)
 
 -- ---- tests 4 and 5
 
@@ -90,6 +87,21 @@ module _ (m : List ℕ) where
   pub marks-right : length m ≤ lowest_bad m → Done ≡ test_marks m
   unfolding test_marks
   marks-right h = sym (pick_no (ltb (lowest_bad m) (length m)) (Stopped (Mark (lowest_bad m))) Done (le-ltb (lowest_bad m) (length m) h))
+
+  -- the stop at what a search by position finds
+  abbrev pub stop_by : Option ℕ → Answer
+  stop_by (Some p) = Stopped (Mark p)
+  stop_by None = Done
+
+  pub by_position : (r : Option ℕ) → r ≡ position (λ v. ltb 1 v) m → stop_by r ≡ test_marks m
+  by_position r e =
+      let P : ℕ → Type 0 = λ n. stop_by (cond (ltb n (length m)) (Some n) None) ≡ test_marks m in
+      rw e
+      (subst P (sym (position-bad m))
+      (elim (dec_lt (lowest_bad m) (length m)) [
+        | yes h ↦ rw (lt-ltb (lowest_bad m) (length m) h) (marks_bad h)
+        | no h ↦ rw (le-ltb (lowest_bad m) (length m) (omega arith)) (marks-right (omega arith))
+      ]))
 
   pub marks-passed : test_marks m ≡ Done → length m ≤ lowest_bad m
   marks-passed e =
@@ -117,20 +129,20 @@ module _ (d i : ℕ) where
 -- ---- numbers
 
 pub number-low : (a : Answer) → number_of a < 2 ^ 8
-number-low Done = omega arith
-number-low (Stopped Depth) = omega arith
-number-low (Stopped Length) = omega arith
-number-low (Stopped (Table i)) = omega arith
-number-low (Stopped (Mark p)) = omega arith
-number-low (Stopped Number) = omega arith
-number-low (Stopped Head) = omega arith
-number-low (Stopped (Hash l p)) = omega arith
-number-low (Stopped NoFault) = omega arith
-number-low (Stopped (Absent x)) = omega arith
-number-low (Stopped (Uncovered j i)) = omega arith
-number-low (Stopped Record) = omega arith
-number-low (Stopped OtherTable) = omega arith
-number-low (Stopped NotWhole) = omega arith
+number-low (Ok _) = omega arith
+number-low (Err Depth) = omega arith
+number-low (Err Length) = omega arith
+number-low (Err (Table i)) = omega arith
+number-low (Err (Mark p)) = omega arith
+number-low (Err Number) = omega arith
+number-low (Err Head) = omega arith
+number-low (Err (Hash l p)) = omega arith
+number-low (Err NoFault) = omega arith
+number-low (Err (Absent x)) = omega arith
+number-low (Err (Uncovered j i)) = omega arith
+number-low (Err Record) = omega arith
+number-low (Err OtherTable) = omega arith
+number-low (Err NotWhole) = omega arith
 
 -- an answer without values
 pub small_plain : {a : Answer} → values_of a ≡ (0, 0) → Small a

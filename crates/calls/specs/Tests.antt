@@ -1,31 +1,30 @@
 -- The tests that calls share, in their order: 1, 2, 11, 3, 10, 12, 4, 5. Definitions only.
-use Rattle.std.specs.Prelude.{Bool, ◌&&◌, List, ℕ, ◌-◌, length, ltb}
+use Rattle.std.specs.Prelude.{Bool, ◌&&◌, List, ℕ, ◌-◌, length, ltb, Ok, Err}
 use Rattle.octets.specs.Choice.{pick}
 use Rattle.parity_table.specs.Shape.{depth_fits, n_of}
-use Rattle.parity_table.specs.declared.Answer.{Answer as Read}
-use Rattle.parity_table.specs.declared.Answer.TheVariants as read
-use Rattle.parity_table.specs.Reader.{read_of}
+use Rattle.parity_table.specs.declared.TableError.{TableError}
+use Rattle.parity_table.specs.declared.TableError.TheVariants as error
+use Rattle.parity_table.specs.Reader.{Answer as Read, read_of}
 use Rattle.parity_table.specs.Parse.{table_of, index_of, over}
 use Rattle.table_bytes.specs.Bytes.{words_of, front_words, length_fits}
 use Rattle.root_record.specs.Records.{head_right, names_table}
-use Rattle.coverage.specs.declared.Coverage.{Coverage}
-use Rattle.coverage.specs.declared.Coverage.TheVariants as coverage
-use Rattle.coverage.specs.Coverage.{coverage_of}
+use Rattle.coverage.specs.declared.Uncovered.{Uncovered as Thin}
+use Rattle.coverage.specs.Coverage.{Coverage, coverage_of}
+use Rattle.calls.specs.declared.Stop.{Stop}
 use Rattle.calls.specs.declared.Stop.TheVariants.{Depth, Length, Table, Mark, Number, Uncovered, Record, OtherTable}
-use Rattle.calls.specs.declared.Answer.{Answer}
-use Rattle.calls.specs.declared.Answer.TheVariants.{Done, Stopped}
+use Rattle.calls.specs.Stops.{Answer, Done, Stopped}
 use Rattle.calls.specs.Marks.{lowest_bad}
 
 infixr 20 ◌then◌
 -- a test, then those after it: the first that fails stops the call
 abbrev pub ◌then◌ : Answer → Answer → Answer
-Done then b = b
-(Stopped s) then b = Stopped s
+(Ok _) then b = b
+(Err s) then b = Err s
 
 -- what a buffer holds after a call that answers a: `new` where it is done, else what it held
 abbrev pub left : Answer → List ℕ → List ℕ → List ℕ
-left Done new old = new
-left (Stopped s) new old = old
+left (Ok _) new old = new
+left (Err s) new old = old
 
 -- ---- the tests
 
@@ -42,16 +41,22 @@ unfoldable pub test_head : ℕ → List ℕ → Answer
 test_head d r = pick (head_right d r) Done (Stopped Record)
 
 -- 3: "a table breaks a rule", with the first wrong word
+abbrev pub table_stop : TableError → Stop
+table_stop error.Depth = Depth
+table_stop error.Length = Length
+table_stop (error.Wrong i) = Table i
+
 abbrev pub read_answer : Read → Answer
-read_answer read.Depth = Stopped Depth
-read_answer read.Length = Stopped Length
-read_answer (read.Wrong i) = Stopped (Table i)
-read_answer read.Whole = Done
+read_answer (Ok _) = Done
+read_answer (Err e) = Stopped (table_stop e)
 
 -- 10: "A table that keeps the old rules but breaks this stops with 10, tested right after 3, with the first such layer and its lowest such symbol."
+abbrev pub cover_stop : Thin → Stop
+cover_stop u = Uncovered u.layer u.symbol
+
 abbrev pub cover_answer : Coverage → Answer
-cover_answer coverage.Covered = Done
-cover_answer (coverage.Uncovered j i) = Stopped (Uncovered j i)
+cover_answer (Ok _) = Done
+cover_answer (Err u) = Stopped (cover_stop u)
 
 -- 12: "a table of another word count or hash stops with 12 after 10"
 unfoldable pub test_named : List ℕ → List ℕ → Answer

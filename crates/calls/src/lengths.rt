@@ -13,8 +13,5 @@ pub fn tree_fits(depth: usize, tree: usize, marks: usize) -> bool
         return false;
     }
     let n = coded_tree::first_place(depth);
-    if tree != 256 * n {
-        return false;
-    }
-    marks == n
+    tree == 256 * n && marks == n
 }

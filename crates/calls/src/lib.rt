@@ -9,15 +9,15 @@ mod numbering; // an answer as numbers
 mod records; // 11, 12: a record, and the table that it names
 mod table; // 3, 10: a table
 
-pub use admission::{admit, admit_by, check_table, enter, enter_by, stops_at_depth};
+pub use admission::{admit, admit_by, check_table, enter, enter_by};
 pub use base::test_number;
 pub use lengths::tree_fits;
 pub use marks::test_marks;
 pub use numbering::numbers_of;
-pub use table::{answer_of, check_words};
+pub use table::check_words;
 
 // Why a call stopped: 01, "What stops a call", and 02. A stop has at most two values.
-#[derive(Clone, Copy)]
+#[derive(Clone, Copy, Debug, PartialEq, Eq)]
 pub enum Stop {
     // the depth is not 1 to the largest
     Depth,
@@ -48,16 +48,8 @@ pub enum Stop {
     NotWhole,
 }
 
-// What a call answers.
-#[derive(Clone, Copy)]
-pub enum Answer {
-    // done, or accepted
-    Done,
-    Stopped(Stop),
-}
-
 // The number of an answer and the values that go with it, 0 where there is none.
-#[derive(Clone, Copy)]
+#[derive(Clone, Copy, Debug, PartialEq, Eq)]
 pub struct Numbers {
     pub number: usize,
     pub first: usize,

@@ -1,29 +1,21 @@
 // Test 4: the marks of a tree, one byte for each symbol, 1 held or 0 absent.
-ghost use Rattle.std.specs.Prelude.{◌≡◌, length};
-ghost use Rattle.model.specs.Symbols.{lowest};
-ghost use Rattle.calls.specs.Marks.{is_bad};
+ghost use Rattle.std.specs.Prelude.{◌≡◌, position, ltb};
 ghost use Rattle.calls.specs.Tests.{test_marks};
 
-use crate::{Answer, Stop};
+use crate::Stop;
 
-// The lowest place whose mark is neither 0 nor 1; how many marks there are where there is none.
-fn first_bad(marks: &[u8]) -> usize
-    ensures { result ≡ lowest (is_bad marks.now) 0 (length marks.now) }
+// The lowest place whose mark is neither 0 nor 1.
+fn first_bad(marks: &[u8]) -> Option<usize>
+    ensures { result ≡ position (λ m. ltb 1 m) marks.now }
 {
-    for p in 0..marks.len() {
-        if 1 < marks[p] {
-            return p;
-        }
-    }
-    marks.len()
+    marks.iter().position(|&m| 1 < m)
 }
 
-pub fn test_marks(marks: &[u8]) -> Answer
+pub fn test_marks(marks: &[u8]) -> Result<(), Stop>
     ensures { result ≡ test_marks marks.now }
 {
-    let bad = first_bad(marks);
-    if bad < marks.len() {
-        return Answer::Stopped(Stop::Mark(bad));
+    match first_bad(marks) {
+        Some(p) => Err(Stop::Mark(p)),
+        None => Ok(()),
     }
-    Answer::Done
 }

@@ -2,9 +2,9 @@
 ghost use Rattle.std.specs.Prelude.{◌≡◌};
 ghost use Rattle.calls.specs.Stops.{number_of, values_of};
 
-use crate::{Answer, Numbers, Stop};
+use crate::{Numbers, Stop};
 
-// A number with its values, 0 for one that it hasn't.
+// A number with its values, 0 for one that it hasn't. A function, so that each case below is a line.
 fn with(number: usize, first: usize, second: usize) -> Numbers
     ensures { (result.number ≡ number) × (result.first ≡ first) × (result.second ≡ second) }
 {
@@ -16,8 +16,8 @@ fn with(number: usize, first: usize, second: usize) -> Numbers
 }
 
 fn of_stop(s: Stop) -> Numbers
-    ensures { (result.number ≡ number_of (Answer.Stopped s)) × (result.first ≡ (values_of (Answer.Stopped s)).0)
-        × (result.second ≡ (values_of (Answer.Stopped s)).1) }
+    ensures { (result.number ≡ number_of (Err s)) × (result.first ≡ (values_of (Err s)).0)
+        × (result.second ≡ (values_of (Err s)).1) }
 {
     match s {
         Stop::Depth => with(1, 0, 0),
@@ -36,11 +36,11 @@ fn of_stop(s: Stop) -> Numbers
     }
 }
 
-pub fn numbers_of(a: Answer) -> Numbers
+pub fn numbers_of(a: Result<(), Stop>) -> Numbers
     ensures { (result.number ≡ number_of a) × (result.first ≡ (values_of a).0) × (result.second ≡ (values_of a).1) }
 {
     match a {
-        Answer::Done => with(0, 0, 0),
-        Answer::Stopped(s) => of_stop(s),
+        Ok(()) => with(0, 0, 0),
+        Err(s) => of_stop(s),
     }
 }

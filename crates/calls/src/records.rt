@@ -4,25 +4,25 @@ ghost use Rattle.sha256.specs.Call.{longest};
 ghost use Rattle.parity_table.specs.Shape.{max_depth};
 ghost use Rattle.calls.specs.Tests.{test_head, test_named};
 
-use crate::{Answer, Stop};
+use crate::Stop;
 use root_record::{head_right, names_table};
 
-pub fn test_head(depth: usize, root_record: &[u8]) -> Answer
+pub fn test_head(depth: usize, root_record: &[u8]) -> Result<(), Stop>
     requires { (1 ≤ depth) × (depth ≤ max_depth) × (length root_record.now ≡ 556) }
     ensures { result ≡ test_head depth root_record.now }
 {
     if !head_right(depth, root_record) {
-        return Answer::Stopped(Stop::Record);
+        return Err(Stop::Record);
     }
-    Answer::Done
+    Ok(())
 }
 
-pub fn test_named(root_record: &[u8], table: &[u8]) -> Answer
+pub fn test_named(root_record: &[u8], table: &[u8]) -> Result<(), Stop>
     requires { (length root_record.now ≡ 556) × (length table.now ≤ longest) }
     ensures { result ≡ test_named root_record.now table.now }
 {
     if !names_table(root_record, table) {
-        return Answer::Stopped(Stop::OtherTable);
+        return Err(Stop::OtherTable);
     }
-    Answer::Done
+    Ok(())
 }

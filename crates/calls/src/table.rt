@@ -1,40 +1,40 @@
 // Tests 3 and 10: a table keeps the rules, and every data symbol is a member of at least two equations of its layer.
 ghost use Rattle.std.specs.Prelude.{◌≡◌};
-ghost use Rattle.calls.specs.Tests.{read_answer, cover_answer, words_tested};
+ghost use Rattle.calls.specs.Tests.{table_stop, cover_stop, words_tested};
 
-use crate::{Answer, Stop};
-use coverage::Coverage;
-use parity_table::Answer as Read;
+use crate::Stop;
+use coverage::Uncovered;
+use parity_table::TableError;
 use table_reader::read;
 
-// The reader's answer as a call's.
-pub fn answer_of(r: Read) -> Answer
-    ensures { result ≡ read_answer r }
-{
-    match r {
-        Read::Depth => Answer::Stopped(Stop::Depth),
-        Read::Length => Answer::Stopped(Stop::Length),
-        Read::Wrong(i) => Answer::Stopped(Stop::Table(i)),
-        Read::Whole => Answer::Done,
+impl From<TableError> for Stop {
+    ghost from_gives = { λ e s. s ≡ table_stop e };
+
+    fn from(e: TableError) -> Stop {
+        match e {
+            TableError::Depth => Stop::Depth,
+            TableError::Length => Stop::Length,
+            TableError::Wrong(i) => Stop::Table(i),
+        }
     }
 }
 
-// A table's coverage as a call's answer.
-fn cover_answer(c: Coverage) -> Answer
-    ensures { result ≡ cover_answer c }
-{
-    match c {
-        Coverage::Covered => Answer::Done,
-        Coverage::Uncovered { layer, symbol } => Answer::Stopped(Stop::Uncovered { layer, symbol }),
+impl From<Uncovered> for Stop {
+    ghost from_gives = { λ u s. s ≡ cover_stop u };
+
+    fn from(u: Uncovered) -> Stop {
+        Stop::Uncovered {
+            layer: u.layer,
+            symbol: u.symbol,
+        }
     }
 }
 
 // Checks a table of this depth, as words: tests 1, 3, 10.
-pub fn check_words(ws: &[u32], depth: usize) -> Answer
+pub fn check_words(ws: &[u32], depth: usize) -> Result<(), Stop>
     ensures { result ≡ words_tested depth ws.now }
 {
-    if let Answer::Stopped(s) = answer_of(read(ws, depth)) {
-        return Answer::Stopped(s);
-    }
-    cover_answer(coverage::check(ws, depth))
+    read(ws, depth)?;
+    coverage::check(ws, depth)?;
+    Ok(())
 }

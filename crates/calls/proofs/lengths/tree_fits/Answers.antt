@@ -3,6 +3,7 @@ use mathlib.Core.Path.{sym, ap, ◌∙◌}
 use mathlib.Core.Bool.{Bool, ◌&&◌}
 use native.Mathlib.Omega.{arith}
 use Rattle.parity_table.proofs.Shape.{depth_is}
+use borrow.Author.Tests.{ne_eqb}
 use Rattle.calls.specs.Lengths.{tree_sized}
 use Rattle.calls.proofs.LengthLaws.{places_small, tree-other, tree-same-length}
 use Rattle.calls.proofs.lengths.tree_fits.Goals as goal
@@ -23,9 +24,10 @@ overflow_mul-n c =
 pub returns-then-tree-n : goal.returns-then-tree-n
 returns-then-tree-n c =
     let g = c.args in
-    tree-other g.depth g.tree g.marks c.first_place-n.result (sym c.depth_fits.ensures ∙ c.if-not-depth_fits.false) c.first_place-n.ensures c.if-tree-n.true
+    tree-same-length g.depth g.tree g.marks c.first_place-n.result (sym c.depth_fits.ensures ∙ c.if-not-depth_fits.false) c.first_place-n.ensures c.if-tree-n.true
 
-pub returns : goal.returns
-returns c =
+pub returns-else-tree-n : goal.returns-else-tree-n
+returns-else-tree-n c =
     let g = c.args in
-    tree-same-length g.depth g.tree g.marks c.first_place-n.result (sym c.depth_fits.ensures ∙ c.if-not-depth_fits.false) c.first_place-n.ensures c.if-tree-n.false
+    ne_eqb g.tree _ c.if-tree-n.false
+    ∙ tree-other g.depth g.tree g.marks c.first_place-n.result (sym c.depth_fits.ensures ∙ c.if-not-depth_fits.false) c.first_place-n.ensures c.if-tree-n.false

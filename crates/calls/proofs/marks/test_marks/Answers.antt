@@ -1,15 +1,10 @@
--- `test_marks` meets its contract.
-use mathlib.Core.Path.{ap, ◌∙◌}
-use Prim.Native.Nat.{ℕ}
-use native.Mathlib.Omega.{arith}
-use Rattle.calls.specs.declared.Stop.TheVariants.{Mark}
-use Rattle.calls.specs.declared.Answer.TheVariants.{Stopped}
-use Rattle.calls.proofs.TestLaws.{marks_bad, marks-right}
+-- `test_marks` meets its contract: by the first place that the search finds.
+use Rattle.std.specs.Prelude.{Some, None}
+use Rattle.calls.proofs.TestLaws.{by_position}
 use Rattle.calls.proofs.marks.test_marks.Goals as goal
 
-pub returns-then-bad-marks : goal.returns-then-bad-marks
-returns-then-bad-marks c =
-    ap (λ (p : ℕ). Stopped (Mark p)) c.first_bad-bad.ensures ∙ marks_bad c.args.marks.now (omega (arith, c.first_bad-bad.ensures, c.if-bad-marks.true))
+pub returns-in-Some : goal.returns-in-Some
+returns-in-Some c = by_position c.args.marks.now (Some c.in-Some.p) c.in-Some.ensures
 
-pub returns : goal.returns
-returns c = marks-right c.args.marks.now (omega (arith, c.first_bad-bad.ensures, c.if-bad-marks.false))
+pub returns-in-None : goal.returns-in-None
+returns-in-None c = by_position c.args.marks.now None c.in-None.ensures
