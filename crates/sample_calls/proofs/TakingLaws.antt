@@ -1,28 +1,28 @@
 -- What taking a sample answers and leaves.
 use mathlib.Core.Path.{◌≡◌, refl, sym, ap, ap₂, ◌∙◌}
-use mathlib.Core.Bool.{true}
+use mathlib.Core.Bool.{Bool, true, ◌&&◌}
 use mathlib.Core.List.{List}
 use Prim.Native.Nat.{ℕ, ◌-◌, ◌*◌, ◌≤◌, ◌<◌}
 use native.Mathlib.Omega.{arith}
 use lib.ListN.{length}
 use lib.Dec.{ltb}
 use borrow.Author.Tests.{eqb-true, ltb-true}
+use Rattle.std.specs.Prelude.{Some, None}
+use Rattle.octets.specs.Choice.{pick}
 use Rattle.octets.proofs.Choice.{and_yes, pick_ind}
 use Rattle.parity_table.specs.Shape.{max_depth, depth_fits, n_of}
 use Rattle.model.specs.Shape.{tree, places}
 use Rattle.model.specs.Symbols.{sym_at, lowest}
 use Rattle.model.specs.Sampling.{sample_size, sample_bytes}
 use Rattle.sampling.specs.Lent.{BaseSymbol}
-use Rattle.sampling.specs.Absent.{absent, found_below, first_absent}
+use Rattle.sampling.specs.Absent.{absent, first_absent}
 use Rattle.calls.specs.declared.Stop.{Stop}
-use Rattle.calls.specs.declared.Answer.{Answer}
-use Rattle.calls.specs.declared.Answer.TheVariants.{Done, Stopped}
+use Rattle.calls.specs.Stops.{Answer, Done, Stopped, Small}
 use Rattle.calls.specs.Lengths.{tree_sized, sample_sized}
 use Rattle.calls.specs.Tests.{◌then◌, opened, test_marks, test_number}
 use Rattle.calls.proofs.LengthLaws.{places_small, tree-lengths}
-use Rattle.calls.specs.Stops.{Small}
 use Rattle.calls.specs.Marks.{lowest_bad}
-use Rattle.calls.proofs.TestLaws.{Opened, opens, marks-right, number-below, then_done, opened_by, number_passed, small_plain, small_then, small_opened, small_marks, small_number}
+use Rattle.calls.proofs.TestLaws.{Opened, opened-sized, opens, marks-right, number-below, then_done, opened_by, number_passed, small_plain, small_then, small_opened, small_marks, small_number}
 use Rattle.sample_calls.specs.Taking.{leaves, take_sized, needed, take_tested, taken_by, sample_taken}
 
 -- ---- the lengths, where their test passes, and what is known of a call that has passed all tests
@@ -39,6 +39,19 @@ passed d i t m s e =
     let n = (then_done (test_number d i) (needed (first_absent d i m)) (then_done (test_marks m) (test_number d i then needed (first_absent d i m)) r).1).0 in
     let k = opened_by d (take_sized d t (length m) s) o in
     (k, (k.some, k.shallow, number_passed d i n))
+
+-- what tests 1 and 2 come to, where the test of lengths looks at the depth too
+pub by_opened : (d i t : ℕ) (m : List ℕ) (n : ℕ) (s : Bool) → s ≡ (depth_fits d && take_sized d t (length m) n) → (a : Answer) → a ≡ opened d s
+    → (a then test_marks m then test_number d i then needed (first_absent d i m)) ≡ take_tested d i t m n
+by_opened d i t m n s e a h =
+    ap (λ (x : Answer). x then test_marks m then test_number d i then needed (first_absent d i m))
+    (h ∙ ap (opened d) e ∙ opened-sized d (take_sized d t (length m) n))
+
+-- .. and the needed symbols decide, once tests 4 and 5 have passed too
+pub by_passed : (d i t : ℕ) (m : List ℕ) (n : ℕ) (s : Bool) → s ≡ (depth_fits d && take_sized d t (length m) n) → Done ≡ opened d s → Done ≡ test_marks m
+    → Done ≡ test_number d i → needed (first_absent d i m) ≡ take_tested d i t m n
+by_passed d i t m n s e o g h =
+    ap₂ (λ (x y : Answer). x then y then needed (first_absent d i m)) g h ∙ by_opened d i t m n s e Done o
 
 -- ---- what is left
 
@@ -72,8 +85,7 @@ module _ (d i : ℕ) (t m s : List ℕ) where
 
   -- ---- its value is small
 
-  small_found : (x : ℕ) → d ≤ max_depth → Small (needed (found_below (sample_size d) x))
-  unfolding found_below
+  small_found : (x : ℕ) → d ≤ max_depth → Small (needed (pick (ltb x (sample_size d)) (Some x) None))
   small_found x h =
       pick_ind (λ r. Small (needed r)) (ltb x (sample_size d))
       (λ l. record { first = omega (arith, ltb-true x (sample_size d) l); second = omega arith }) (λ l. small_plain refl)

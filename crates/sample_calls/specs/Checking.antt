@@ -5,8 +5,7 @@ use Rattle.model.specs.Shape.{tree}
 use Rattle.model.specs.Climb.{Climb, leads, breaks}
 use Rattle.model.specs.SampleCheck.{sample_check}
 use Rattle.calls.specs.declared.Stop.TheVariants.{Hash}
-use Rattle.calls.specs.declared.Answer.{Answer}
-use Rattle.calls.specs.declared.Answer.TheVariants.{Done, Stopped}
+use Rattle.calls.specs.Stops.{Answer, Done, Stopped}
 use Rattle.root_record.specs.Records.{kind_in, root_in}
 use Rattle.calls.specs.Lengths.{record_sized, sample_sized}
 use Rattle.calls.specs.Tests.{◌then◌, headed, test_number}

@@ -1,14 +1,11 @@
 -- What a call that takes a sample of base symbol i answers and leaves, for every input. Definitions only.
-use Rattle.std.specs.Prelude.{Bool, ◌&&◌, List, ℕ, length}
+use Rattle.std.specs.Prelude.{Bool, ◌&&◌, List, ℕ, length, Option, Some, None}
 use Rattle.model.specs.Shape.{tree}
 use Rattle.model.specs.Symbols.{sym_at}
 use Rattle.model.specs.Sampling.{sample_bytes}
-use Rattle.sampling.specs.declared.Found.{Found}
-use Rattle.sampling.specs.declared.Found.TheVariants.{At, Nothing}
 use Rattle.sampling.specs.Absent.{first_absent}
 use Rattle.calls.specs.declared.Stop.TheVariants.{Absent}
-use Rattle.calls.specs.declared.Answer.{Answer}
-use Rattle.calls.specs.declared.Answer.TheVariants.{Done, Stopped}
+use Rattle.calls.specs.Stops.{Answer, Done, Stopped}
 use Rattle.calls.specs.Lengths.{tree_sized, sample_sized}
 use Rattle.calls.specs.Tests.{◌then◌, left, opened, test_marks, test_number}
 
@@ -25,9 +22,9 @@ abbrev pub take_sized : ℕ → ℕ → ℕ → ℕ → Bool
 take_sized d t m s = tree_sized d t m && sample_sized d s
 
 -- 9: "a needed symbol absent", with its "index in the sample"
-abbrev pub needed : Found → Answer
-needed (At x) = Stopped (Absent x)
-needed Nothing = Done
+abbrev pub needed : Option ℕ → Answer
+needed (Some x) = Stopped (Absent x)
+needed None = Done
 
 -- tests 1, 2, 4, 5, 9, tree and sample having so many bytes
 abbrev pub take_tested : ℕ → ℕ → ℕ → List ℕ → ℕ → Answer

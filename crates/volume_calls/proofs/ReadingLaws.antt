@@ -8,25 +8,26 @@ use native.Mathlib.Omega.{arith}
 use lib.ListN.{length, take, drop}
 use lib.Seq.{length-take-le}
 use lib.Dec.{ltb}
-use borrow.Author.Tests.{eqb-true, lt-ltb, le-ltb, ltb-true}
-use Rattle.octets.proofs.Choice.{and_yes, pick_yes, pick_no, pick_ind}
+use borrow.Author.Tests.{eqb-true, lt-ltb, le-ltb, ltb-true, ltb-false}
+use Rattle.octets.proofs.Choice.{by_test, and_yes, pick_yes, pick_no, pick_ind}
 use Rattle.parity_table.specs.Shape.{depth_fits, k_of}
 use Rattle.parity_table.proofs.Shape.{k_small}
+use Rattle.std.specs.Prelude.{Option, Some, None}
 use Rattle.model.specs.Shape.{tree, places}
+use Rattle.model.specs.Symbols.{found}
+use Rattle.model.specs.Repair.{absent_at}
 use Rattle.root_record.specs.Records.{size_in, head_right}
 use Rattle.root_record.proofs.RecordLaws.{head-parts}
 use Rattle.model.specs.Writer.{block_of}
 use Rattle.model.proofs.Shapes.{tree_ok}
 use Rattle.calls.specs.declared.Stop.{Stop}
 use Rattle.calls.specs.declared.Stop.TheVariants.{Absent}
-use Rattle.calls.specs.declared.Answer.{Answer}
-use Rattle.calls.specs.declared.Answer.TheVariants.{Done, Stopped}
+use Rattle.calls.specs.Stops.{Answer, Done, Stopped, Small}
 use Rattle.calls.specs.Lengths.{tree_sized, block_sized, record_sized}
 use Rattle.calls.specs.Tests.{◌then◌, headed, test_marks}
 use Rattle.calls.proofs.LengthLaws.{places_small, tree-lengths}
-use Rattle.calls.specs.Stops.{Small}
 use Rattle.calls.specs.Marks.{lowest_bad}
-use Rattle.calls.proofs.RecordLaws.{Headed, headed_by, by_head, small_headed}
+use Rattle.calls.proofs.RecordLaws.{Headed, headed_by, headed-sized, by_head, small_headed}
 use Rattle.calls.proofs.TestLaws.{stopped_not, marks-right, then_done, small_plain, small_then, small_marks}
 use Rattle.volume_calls.specs.Reading.{leaves, read_sized, lowest_absent, test_base, block_tested, block_given, read_by, block_read}
 
@@ -48,6 +49,19 @@ module _ (d : ℕ) (m : List ℕ) where
   base_there h =
       sym (pick_no (ltb (lowest_absent d m) (k_of (d - 1))) (Stopped (Absent (lowest_absent d m))) Done (le-ltb (lowest_absent d m) (k_of (d - 1)) h))
 
+  -- the stop at the first absent symbol, if there is one
+  abbrev pub needed : Option ℕ → Answer
+  needed (Some x) = Stopped (Absent x)
+  needed None = Done
+
+  pub base_found : (r : Option ℕ) → r ≡ found (absent_at tree m (d - 1)) (k_of (d - 1)) → needed r ≡ test_base d m
+  base_found r e =
+      let low = lowest_absent d m in
+      let k = k_of (d - 1) in
+      ap needed e
+      ∙ by_test (ltb low k) (λ t. ap needed (pick_yes (ltb low k) (Some low) None t) ∙ base-absent (ltb-true low k t))
+      (λ t. ap needed (pick_no (ltb low k) (Some low) None t) ∙ base_there (ltb-false low k t))
+
   pub base-passed : test_base d m ≡ Done → k_of (d - 1) ≤ lowest_absent d m
   base-passed e =
       elim (dec_lt (lowest_absent d m) (k_of (d - 1))) [
@@ -64,6 +78,16 @@ sizes d r t m b e =
     let (x, y) = and_yes (record_sized r) (block_sized d b) q in
     let (v, w) = tree-lengths d t m p in
     (v, w, eqb-true r 556 x, eqb-true b (256 * k_of (d - 1)) y)
+
+-- .. and what tests 1, 2 and 11 come to, where the test of lengths looks at the depth too
+pub headed_as : (d : ℕ) (r : List ℕ) (t : ℕ) (m : List ℕ) (b : ℕ) (s : Bool) → s ≡ (depth_fits d && read_sized d (length r) t (length m) b)
+    → (a : Answer) → a ≡ headed d s r → a ≡ headed d (read_sized d (length r) t (length m) b) r
+headed_as d r t m b s e a h = h ∙ ap (λ (x : Bool). headed d x r) e ∙ headed-sized d (read_sized d (length r) t (length m) b) r
+
+-- .. and so of the tests together
+pub by_head_lem : (d : ℕ) (r : List ℕ) (t : ℕ) (m : List ℕ) (b : ℕ) (s : Bool) → s ≡ (depth_fits d && read_sized d (length r) t (length m) b)
+    → (a : Answer) → a ≡ headed d s r → (a then test_marks m then test_base d m) ≡ block_tested d r t m b
+by_head_lem d r t m b s e a h = ap (λ (x : Answer). x then test_marks m then test_base d m) (headed_as d r t m b s e a h)
 
 -- a call that passes the tests has passed 1, 2 and 11
 pub passed : (d : ℕ) (r : List ℕ) (t : ℕ) (m : List ℕ) (b : ℕ) → block_tested d r t m b ≡ Done → Headed d (read_sized d (length r) t (length m) b) r

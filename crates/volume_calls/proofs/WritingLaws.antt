@@ -9,24 +9,24 @@ use lib.Seq.{drop_at, drop-length, length-take-le}
 use lib.Dec.{leb}
 use borrow.Author.Tests.{eqb-true, leb-true, le-leb, lt-leb}
 use Rattle.octets.proofs.Choice.{and_yes, pick_yes, pick_no, pick_ind}
-use Rattle.parity_table.specs.Shape.{k_of}
+use Rattle.parity_table.specs.Shape.{depth_fits, k_of}
 use Rattle.table_bytes.specs.Bytes.{words_of, length_fits}
 use Rattle.parity_table.specs.Parse.{table_of}
 use Rattle.symbol_hash.specs.SymbolHash.{symbol_hash}
 use Rattle.symbol_hash.specs.declared.Kind.{Kind}
+use Rattle.symbol_hash.specs.Kinds.{kind_number}
 use Rattle.model.specs.Shape.{tree, places}
 use Rattle.model.specs.Writer.{write_tree, written_marks, written_root, filled}
 use Rattle.root_record.specs.Records.{kind_of, record_of, root_in}
+use Rattle.root_record.proofs.RecordLaws.{number_small, kind_back}
 use Rattle.calls.specs.declared.Stop.{Stop}
-use Rattle.calls.specs.declared.Stop.TheVariants.{Depth, Record}
-use Rattle.calls.specs.declared.Answer.{Answer}
-use Rattle.calls.specs.declared.Answer.TheVariants.{Done, Stopped}
+use Rattle.calls.specs.declared.Stop.TheVariants.{Record}
+use Rattle.calls.specs.Stops.{Answer, Done, Stopped, Small}
 use Rattle.calls.specs.Lengths.{tree_sized, block_fits, record_sized}
 use Rattle.calls.proofs.LengthLaws.{tree-lengths}
-use Rattle.calls.specs.Stops.{Small}
-use Rattle.calls.specs.Tests.{◌then◌, opened, words_tested}
+use Rattle.calls.specs.Tests.{◌then◌, opened, words_tested, admitted}
 use Rattle.calls.proofs.TestLaws.{small_plain, small_then, small_opened}
-use Rattle.calls.proofs.AdmissionLaws.{none-admitted, small_admitted, small_table}
+use Rattle.calls.proofs.AdmissionLaws.{admitted-sized, small_admitted, small_table}
 use Rattle.volume_calls.specs.Writing.{leaves, write_sized, written_tree, written_record, written_by, write_tested, tree_written, test_kind, tree_written_by}
 
 -- a root that is put behind the head of a record
@@ -47,10 +47,17 @@ module _ (d : ℕ) (kind : Kind) (table b t m r : List ℕ) where
   unfolding tree_written
   by_tests a e = ap (λ (x : Answer). written_by x d kind table b t m r) e
 
-  pub written : (ws t' m' root r' : List ℕ) → ws ≡ words_of table → t' ≡ write_tree tree (symbol_hash kind) (table_of ws) (filled tree d b) t → m' ≡ written_marks tree d
+  -- .. where the test of lengths looks at the depth too
+  pub by_admitted : (s : Bool) → s ≡ (depth_fits d && write_sized d (length b) (length t) (length m) (length r)) → (a : Answer) → a ≡ admitted d s table
+      → written_by a d kind table b t m r ≡ tree_written d kind table b t m r
+  by_admitted s e a h = by_tests a (h ∙ admitted-sized d s (write_sized d (length b) (length t) (length m) (length r)) table e)
+
+  pub written : (tbl : List (List (List ℕ))) (t' m' root r' : List ℕ) → tbl ≡ table_of (words_of table)
+      → t' ≡ write_tree tree (symbol_hash kind) tbl (filled tree d b) t → m' ≡ written_marks tree d
       → root ≡ written_root tree (symbol_hash kind) t' → r' ≡ record_of kind d (length b) table root → leaves Done t' m' r' ≡ written_by Done d kind table b t m r
-  written ws t' m' root r' ew et em eo er =
-      let u : t' ≡ written_tree d kind table b t = et ∙ ap (λ (q : List ℕ). write_tree tree (symbol_hash kind) (table_of q) (filled tree d b) t) ew in
+  written tbl t' m' root r' ew et em eo er =
+      let u : t' ≡ written_tree d kind table b t =
+      et ∙ ap (λ (q : List (List (List ℕ))). write_tree tree (symbol_hash kind) q (filled tree d b) t) ew in
       let v : r' ≡ written_record d kind table b t =
       er ∙ ap (record_of kind d (length b) table) (eo ∙ ap (written_root tree (symbol_hash kind)) u) in
       ap (λ (q : List ℕ). leaves Done t' m' q) v ∙ ap₂ (λ (x y : List ℕ). leaves Done x y (written_record d kind table b t)) u em
@@ -67,6 +74,9 @@ module _ (d : ℕ) (kind : Kind) (table b t m r : List ℕ) where
   small = rw answer-is (small_admitted d (write_sized d (length b) (length t) (length m) (length r)) table)
 
 -- ---- the kind as a number
+
+pub kind-is : (kind : Kind) (number : ℕ) → kind_number kind ≡ number → (kind ≡ kind_of number) × (number ≤ 1)
+kind-is kind number e = (sym (kind_back kind) ∙ ap kind_of e, omega (arith, e, number_small kind))
 
 module _ (d number : ℕ) (table b t m r : List ℕ) where
   abbrev sized : Bool
@@ -94,13 +104,6 @@ module _ (d number : ℕ) (table b t m r : List ℕ) where
       (λ o.
       small_then (test_kind number) (words_tested d (words_of table))
       (pick_ind Small (leb number 1) (λ f. small_plain refl) (λ f. small_plain refl)) (λ k. small_table d (write_sized d (length b) (length t) (length m) (length r)) table o))
-
--- what is answered and left with 1 is answered and left at depth 0
-pub as_at_none : (d : ℕ) (kind : Kind) (table b t m r : List ℕ) (a : Answer) (t' m' r' : List ℕ) → leaves a t' m' r' ≡ tree_written d kind table b t m r
-    → a ≡ Stopped Depth → tree_written 0 kind table b t' m' r' ≡ tree_written d kind table b t m r
-as_at_none d kind table b t m r a t' m' r' e s =
-    sym (by_tests 0 kind table b t' m' r' (Stopped Depth) (none-admitted (write_sized 0 (length b) (length t') (length m') (length r')) table))
-    ∙ ap (λ (q : Answer). leaves q t' m' r') (sym s) ∙ e
 
 -- the lengths, where the test passes
 pub sizes : (d b t m r : ℕ) → write_sized d b t m r ≡ true

@@ -8,8 +8,7 @@ use Rattle.model.specs.Repair.{absent_at}
 use Rattle.model.specs.Writer.{block_of}
 use Rattle.root_record.specs.Records.{size_in}
 use Rattle.calls.specs.declared.Stop.TheVariants.{Absent}
-use Rattle.calls.specs.declared.Answer.{Answer}
-use Rattle.calls.specs.declared.Answer.TheVariants.{Done, Stopped}
+use Rattle.calls.specs.Stops.{Answer, Done, Stopped}
 use Rattle.calls.specs.Lengths.{tree_sized, block_sized, record_sized}
 use Rattle.calls.specs.Tests.{◌then◌, left, headed, test_marks}
 

@@ -3,7 +3,8 @@ use Rattle.std.specs.Prelude.{◌≡◌, Bool, ◌&&◌, List, ℕ, ◌-◌, ◌
 use Rattle.octets.specs.Choice.{pick}
 use Rattle.table_bytes.specs.Bytes.{words_of, length_fits}
 use Rattle.parity_table.specs.Shape.{k_of}
-use Rattle.parity_table.specs.Parse.{Indexed, table_of}
+use Rattle.parity_table.specs.Parse.{table_of}
+use Rattle.parity_table.specs.Accepted.{Accepted}
 use Rattle.sha256.specs.Call.{longest}
 use Rattle.symbol_hash.specs.SymbolHash.{symbol_hash}
 use Rattle.symbol_hash.specs.declared.Kind.{Kind}
@@ -11,8 +12,7 @@ use Rattle.model.specs.Shape.{places, tree}
 use Rattle.model.specs.Writer.{write_tree, written_marks, written_root, filled}
 use Rattle.root_record.specs.Records.{kind_of, record_of}
 use Rattle.calls.specs.declared.Stop.TheVariants.{Record}
-use Rattle.calls.specs.declared.Answer.{Answer}
-use Rattle.calls.specs.declared.Answer.TheVariants.{Done, Stopped}
+use Rattle.calls.specs.Stops.{Answer, Done, Stopped}
 use Rattle.calls.specs.Lengths.{tree_sized, block_fits, record_sized}
 use Rattle.calls.specs.Tests.{◌then◌, left, opened, words_tested, admitted}
 
@@ -38,14 +38,13 @@ module _ (d : ℕ) (kind : Kind) (table b t : List ℕ) where
   abbrev pub written_record : List ℕ
   written_record = record_of kind d (length b) table (written_root tree (symbol_hash kind) written_tree)
 
--- what writing asks of a table that is admitted, with its words and index, and of the buffers of depth d
-pub record Writable (d : ℕ) (table ws starts b t m r : List ℕ) : Type 0 where
-  pub indexed : Indexed d ws starts
-  pub words_there : ws ≡ words_of table
+-- what writing asks of a table that is admitted, of its bytes, and of the buffers of its depth
+pub record Writable (a : Accepted) (table b t m r : List ℕ) : Type 0 where
+  pub layers : a.layers ≡ table_of (words_of table)
   pub table-short : length table ≤ longest
-  pub block-fits : length b ≤ 256 * k_of (d - 1)
-  pub tree-full : length t ≡ 256 * places tree d
-  pub marks-full : length m ≡ places tree d
+  pub block-fits : length b ≤ 256 * k_of (a.depth - 1)
+  pub tree-full : length t ≡ 256 * places tree a.depth
+  pub marks-full : length m ≡ places tree a.depth
   pub record_full : length r ≡ 556
 
 -- by the tests' answer a: tree, marks and record are written, or left

@@ -1,13 +1,14 @@
 // Writing a tree.
-ghost use Rattle.std.specs.Prelude.{◌≡◌, ◌&&◌};
+ghost use Rattle.std.specs.Prelude.{◌≡◌, ◌&&◌, ◌≤◌, replicate};
 ghost use Rattle.parity_table.specs.Shape.{depth_fits};
 ghost use Rattle.calls.specs.Room.{Room};
+ghost use Rattle.calls.specs.Stops.{Done};
 ghost use Rattle.calls.specs.Tests.{opened};
 ghost use Rattle.table_bytes.specs.Bytes.{length_fits};
 ghost use Rattle.volume_calls.specs.Writing.{Writable, write_sized, written_by, tree_written, tree_written_by, leaves};
 
-use calls::{Answer, Stop, admit, enter, stops_at_depth, tree_fits};
-use parity_table::{MAX_EQUATIONS, SHALLOW_EQUATIONS, data_count, is_deep};
+use calls::{Stop, admit, enter, tree_fits};
+use parity_table::{MAX_EQUATIONS, SHALLOW_EQUATIONS, Table, data_count, is_deep};
 use symbol_hash::Kind;
 use table_bytes::{MAX_WORDS, SHALLOW_WORDS, length_fits};
 
@@ -15,46 +16,39 @@ use table_bytes::{MAX_WORDS, SHALLOW_WORDS, length_fits};
 fn sizes_fit(depth: usize, block: usize, tree: usize, marks: usize, record_len: usize) -> bool
     ensures { result ≡ depth_fits depth && write_sized depth block tree marks record_len }
 {
-    if !tree_fits(depth, tree, marks) {
-        return false;
-    }
-    if block > 256 * data_count(depth - 1) {
-        return false;
-    }
-    record_len == root_record::BYTES
+    tree_fits(depth, tree, marks)
+        && block <= 256 * data_count(depth - 1)
+        && record_len == root_record::BYTES
 }
 
-// Writes the tree of a block, as a volume of this kind, its marks and its record, by a table that is admitted.
+// Writes the tree of a block, as a volume of this kind, its marks and its record, by a table that is admitted and its bytes.
 pub fn write_with(
     kind: Kind,
-    depth: usize,
-    table: &[u8],
-    words: &[u32],
-    starts: &[usize],
+    table: &Table,
+    bytes: &[u8],
     block: &[u8],
     tree: &mut [u8],
     marks: &mut [u8],
     root_record: &mut [u8],
 )
-    requires { Writable depth table.now words.now starts.now block.now tree.old marks.old root_record.old }
-    ensures { leaves Answer.Done tree.new marks.new root_record.new
-        ≡ written_by Answer.Done depth kind table.now block.now tree.old marks.old root_record.old }
+    requires { Writable table.now bytes.now block.now tree.old marks.old root_record.old }
+    ensures { leaves Done tree.new marks.new root_record.new
+        ≡ written_by Done table.now.depth kind bytes.now block.now tree.old marks.old root_record.old }
 {
     coded_tree::write(
         kind,
-        depth,
-        words,
-        starts,
+        table,
         block,
         tree,
         marks,
         &mut root_record[root_record::ROOT_AT..],
     );
-    root_record::put(kind, depth, block.len(), table, root_record);
+    root_record::put(kind, table.depth(), block.len(), bytes, root_record);
 }
 
-// write_tree, with arrays for the table's words and index.
-fn write_in(
+// write_tree, with room for so many words and so many entries of the index, which is on the stack of a call of this function alone.
+#[inline(never)]
+fn write_by<const WORDS: usize, const EQUATIONS: usize>(
     depth: usize,
     kind: Kind,
     table: &[u8],
@@ -62,13 +56,14 @@ fn write_in(
     tree: &mut [u8],
     marks: &mut [u8],
     root_record: &mut [u8],
-    words: &mut [u32],
-    starts: &mut [usize],
-) -> Answer
-    requires { Room depth words.old starts.old }
+) -> Result<(), Stop>
+    requires room { Room depth (replicate WORDS 0) (replicate EQUATIONS 0) }
+    requires most { WORDS ≤ MAX_WORDS × EQUATIONS ≤ MAX_EQUATIONS }
     ensures { leaves result tree.new marks.new root_record.new
         ≡ tree_written depth kind table.now block.now tree.old marks.old root_record.old }
 {
+    let mut words = [0u32; WORDS];
+    let mut starts = [0usize; EQUATIONS];
     let sized = sizes_fit(
         depth,
         block.len(),
@@ -76,54 +71,11 @@ fn write_in(
         marks.len(),
         root_record.len(),
     );
-    if let Answer::Stopped(s) = admit(depth, sized, table, words, starts) {
-        return Answer::Stopped(s);
-    }
+    admit(depth, sized, table, &mut words, &mut starts)?;
     let n = table.len() / 4;
-    write_with(
-        kind,
-        depth,
-        table,
-        &words[..n],
-        starts,
-        block,
-        tree,
-        marks,
-        root_record,
-    );
-    Answer::Done
-}
-
-// write_tree for a deeper tree.
-fn write_deep(
-    depth: usize,
-    kind: Kind,
-    table: &[u8],
-    block: &[u8],
-    tree: &mut [u8],
-    marks: &mut [u8],
-    root_record: &mut [u8],
-) -> Answer
-    ensures { leaves result tree.new marks.new root_record.new
-        ≡ tree_written depth kind table.now block.now tree.old marks.old root_record.old }
-{
-    let mut words = [0u32; MAX_WORDS];
-    let mut starts = [0usize; MAX_EQUATIONS];
-    let answer = write_in(
-        depth,
-        kind,
-        table,
-        block,
-        tree,
-        marks,
-        root_record,
-        &mut words,
-        &mut starts,
-    );
-    if stops_at_depth(depth, answer) {
-        return write_deep(0, kind, table, block, tree, marks, root_record);
-    }
-    answer
+    let accepted = Table::new(depth, &words[..n], &starts);
+    write_with(kind, &accepted, table, block, tree, marks, root_record);
+    Ok(())
 }
 
 // Writes the tree of a block, as a volume of this kind, its marks and its record, by a table that comes as bytes: tests 1, 2, 3, 10.
@@ -135,16 +87,22 @@ pub fn write_tree(
     tree: &mut [u8],
     marks: &mut [u8],
     root_record: &mut [u8],
-) -> Answer
+) -> Result<(), Stop>
     ensures { leaves result tree.new marks.new root_record.new
         ≡ tree_written depth kind table.now block.now tree.old marks.old root_record.old }
 {
     if is_deep(depth) {
-        return write_deep(depth, kind, table, block, tree, marks, root_record);
+        return write_by::<MAX_WORDS, MAX_EQUATIONS>(
+            depth,
+            kind,
+            table,
+            block,
+            tree,
+            marks,
+            root_record,
+        );
     }
-    let mut words = [0u32; SHALLOW_WORDS];
-    let mut starts = [0usize; SHALLOW_EQUATIONS];
-    write_in(
+    write_by::<SHALLOW_WORDS, SHALLOW_EQUATIONS>(
         depth,
         kind,
         table,
@@ -152,8 +110,6 @@ pub fn write_tree(
         tree,
         marks,
         root_record,
-        &mut words,
-        &mut starts,
     )
 }
 
@@ -165,13 +121,13 @@ fn test_lengths(
     tree: usize,
     marks: usize,
     record_len: usize,
-) -> Answer
+) -> Result<(), Stop>
     ensures { result ≡ opened depth (write_sized depth block tree marks record_len && length_fits table) }
 {
-    if !length_fits(table) {
-        return enter(depth, false);
-    }
-    enter(depth, sizes_fit(depth, block, tree, marks, record_len))
+    enter(
+        depth,
+        sizes_fit(depth, block, tree, marks, record_len) && length_fits(table),
+    )
 }
 
 // write_tree, of a volume whose kind comes as a number, 0 or 1: tests 1, 2, 11, 3, 10.
@@ -183,23 +139,20 @@ pub fn write_tree_by(
     tree: &mut [u8],
     marks: &mut [u8],
     root_record: &mut [u8],
-) -> Answer
+) -> Result<(), Stop>
     ensures { leaves result tree.new marks.new root_record.new
         ≡ tree_written_by depth number table.now block.now tree.old marks.old root_record.old }
 {
-    if number <= 1 {
-        let kind = root_record::kind_of(number);
+    if let Ok(kind) = Kind::try_from(number) {
         return write_tree(depth, kind, table, block, tree, marks, root_record);
     }
-    if let Answer::Stopped(s) = test_lengths(
+    test_lengths(
         depth,
         table.len(),
         block.len(),
         tree.len(),
         marks.len(),
         root_record.len(),
-    ) {
-        return Answer::Stopped(s);
-    }
-    Answer::Stopped(Stop::Record)
+    )?;
+    Err(Stop::Record)
 }
