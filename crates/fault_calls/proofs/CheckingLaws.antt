@@ -1,6 +1,6 @@
 -- What is known of a call that checks a fault proof.
-use mathlib.Core.Path.{◌≡◌, refl, ap}
-use mathlib.Core.Bool.{true}
+use mathlib.Core.Path.{◌≡◌, ◌∙◌, refl, sym, ap}
+use mathlib.Core.Bool.{Bool, true}
 use mathlib.Core.List.{List}
 use Prim.Native.Nat.{ℕ, ◌≤◌}
 use native.Mathlib.Omega.{arith}
@@ -12,20 +12,19 @@ use Rattle.table_bytes.specs.Bytes.{words_of}
 use Rattle.parity_table.specs.Parse.{table_of}
 use Rattle.parity_table.proofs.Accepts.{accepted-depth, accepted-table}
 use Rattle.symbol_hash.specs.SymbolHash.{symbol_hash}
+use Rattle.symbol_hash.specs.declared.Kind.{Kind}
 use Rattle.model.specs.Shape.{tree}
 use Rattle.model.specs.Fault.{proof_layer, proof_equation, proof_withheld, proof_members, proof_given, Verdict, accepted, wrong_head, wrong_length, broken, no_fault, verdict}
 use Rattle.model.proofs.Counts.{length-others}
 use Rattle.model.proofs.Sound.{broken-inside}
-use Rattle.calls.specs.declared.Answer.{Answer}
-use Rattle.calls.specs.declared.Stop.TheVariants.{Depth}
-use Rattle.calls.specs.declared.Answer.TheVariants.{Done, Stopped}
 use Rattle.root_record.specs.Records.{kind_in, root_in}
 use Rattle.calls.specs.Lengths.{record_sized}
 use Rattle.calls.specs.Tests.{◌then◌, admitted_by}
-use Rattle.calls.specs.Stops.{Small}
+use Rattle.calls.specs.declared.Stop.{Stop}
+use Rattle.calls.specs.Stops.{Answer, Done, Stopped, Small}
 use Rattle.calls.proofs.TestLaws.{stopped_not, then_done, small_plain, small_then}
 use Rattle.calls.proofs.AdmissionLaws.{TableTaken, table_laws_of}
-use Rattle.calls.proofs.RecordLaws.{AdmittedBy, admission_by, none-admitted_by, small_admitted_by}
+use Rattle.calls.proofs.RecordLaws.{AdmittedBy, admission_by, small_admitted_by}
 use Rattle.fault_calls.specs.Checking.{proof_sized, judged, proof_checked}
 
 -- the lengths, where their test passes
@@ -48,10 +47,23 @@ module _ (d : ℕ) (r table b : List ℕ) where
   unfolding proof_checked
   judged_so e = ap (λ (a : Answer). a then judged found) e
 
-  -- .. and at depth 0 the first has not
-  pub none_checked : Stopped Depth ≡ proof_checked 0 r table b
-  unfolding proof_checked
-  none_checked = ap (λ (a : Answer). a then judged found) (none-admitted_by (proof_sized (length r) (length b)) r table)
+  -- the test of lengths as the call makes it
+  module _ {sized : Bool} (es : sized ≡ proof_sized (length r) (length b)) where
+    as_sized : admitted_by d sized r table ≡ admitted_by d (proof_sized (length r) (length b)) r table
+    as_sized = ap (λ (x : Bool). admitted_by d x r table) es
+
+    -- a test that fails stops the call
+    pub refused : (s : Stop) → Stopped s ≡ admitted_by d sized r table → Stopped s ≡ proof_checked d r table b
+    unfolding proof_checked
+    refused s e = ap (λ (a : Answer). a then judged found) (e ∙ as_sized)
+
+    -- once they have passed, the record has its length, the proof has a head, and the verdict of the cores decides
+    pub lengths : Done ≡ admitted_by d sized r table → (length r ≡ 556) × (12 ≤ length b)
+    lengths e = sizes (length r) (length b) (sym es ∙ (admission_by d sized r table (sym e)).lengths)
+
+    pub went_on : (kind : Kind) (tbl : List (List (List ℕ))) (root : List ℕ) (v : Verdict) → kind ≡ kind_in r → root ≡ root_in r → tbl ≡ table_of (words_of table)
+        → v ≡ verdict tree (symbol_hash kind) root tbl b → Done ≡ admitted_by d sized r table → judged v ≡ proof_checked d r table b
+    went_on kind tbl root v ek eo et ev e = ap judged (rw (← ek, ← eo, ← et) ev) ∙ judged_so (e ∙ as_sized)
 
   -- the tests that an accepted proof has passed
   pub record Passed : Type 0 where

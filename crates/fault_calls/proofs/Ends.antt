@@ -6,6 +6,7 @@ use Prim.Native.Nat.{◌*◌, ◌+◌, ◌-◌, ◌<◌, ◌^◌, ◌≤◌, ℕ
 use native.Mathlib.Omega.{arith}
 use lib.ListN.{length, take}
 use borrow.Author.Tests.{eq-eqb, le-leb}
+use Rattle.std.specs.Prelude.{Ok, Err}
 use Rattle.octets.proofs.Choice.{yes_and, pick_ind}
 use Rattle.parity_table.specs.Shape.{max_depth, n_of}
 use Rattle.parity_table.proofs.Accepts.{accepted-table}
@@ -25,12 +26,10 @@ use Rattle.model.specs.Ends.{EndOk, Ended, FaultEnd}
 use Rattle.model.specs.Fault.{accepted, proof_length, verdict}
 use Rattle.model.specs.Repair.{St, End, working, whole, fault, unavailable, twins}
 use Rattle.model.specs.Shape.{places, tree}
-use Rattle.calls.specs.declared.Answer.{Answer}
-use Rattle.calls.specs.declared.Answer.TheVariants.{Done, Stopped}
 use Rattle.root_record.specs.Records.{kind_in, size_in, root_in}
 use Rattle.calls.specs.Tests.{admitted_by}
 use Rattle.calls.proofs.LengthLaws.{places_small}
-use Rattle.calls.specs.Stops.{Small}
+use Rattle.calls.specs.Stops.{Answer, Done, Small}
 use Rattle.calls.proofs.AdmissionLaws.{table_laws_of}
 use Rattle.calls.proofs.RecordLaws.{root_length, admits_by}
 use Rattle.fault_calls.specs.Checking.{proof_sized, judged}
@@ -136,11 +135,11 @@ ended-fits kind zero s (twins j x) h v = (h, v, end-number (twins j x))
 
 result_fits : (kind : Kind) (d : ℕ) (r table t m o : List ℕ) (a : Answer) → repair_tested d r table t m o ≡ a → Small a
     → Fits kind (repaired_by a d (size_in r) (repair_of r table t m o) t m o).answer
-result_fits kind d r table t m o Done e h =
+result_fits kind d r table t m o (Ok _) e h =
     let k = formed d r table t m o e in
     let z : End = (repair_of r table t m o).end in
     ended-fits kind _ _ z (stored-fits d r table t m o k) (value_fits d r table t m o k kind z (ended_so d r table t m o k).ends)
-result_fits kind d r table t m o (Stopped w) e h = h
+result_fits kind d r table t m o (Err w) e h = h
 
 pub repair-fits : (kind : Kind) (d : ℕ) (r table t m o : List ℕ) → Fits kind (repaired d r table t m o).answer
 unfolding repaired
@@ -155,8 +154,8 @@ ended_recorded n zero s (twins j x) e = e
 
 result_recorded : (d : ℕ) (r table t m o : List ℕ) (a : Answer) → repair_tested d r table t m o ≡ a
     → Recorded (length r) (repaired_by a d (size_in r) (repair_of r table t m o) t m o).answer
-result_recorded d r table t m o Done e = ended_recorded (length r) _ _ (repair_of r table t m o).end (formed d r table t m o e).record_full
-result_recorded d r table t m o (Stopped w) e = tt
+result_recorded d r table t m o (Ok _) e = ended_recorded (length r) _ _ (repair_of r table t m o).end (formed d r table t m o e).record_full
+result_recorded d r table t m o (Err w) e = tt
 
 pub repair_recorded : (d : ℕ) (r table t m o : List ℕ) → Recorded (length r) (repaired d r table t m o).answer
 unfolding repaired

@@ -11,6 +11,7 @@ use borrow.Author.Tests.{eqb-true}
 use Rattle.octets.proofs.Choice.{and_yes, pick_yes, pick_no}
 use Rattle.parity_table.specs.Shape.{depth_fits, k_of, max_depth}
 use Rattle.table_bytes.specs.Bytes.{words_of}
+use Rattle.parity_table.specs.Accepted.{Accepted, accepted}
 use Rattle.parity_table.specs.Parse.{table_of}
 use Rattle.parity_table.proofs.Shape.{depth_is}
 use Rattle.symbol_hash.specs.SymbolHash.{symbol_hash}
@@ -22,19 +23,14 @@ use Rattle.repair.specs.declared.End.{End}
 use Rattle.repair.specs.Buffers.{Lists}
 use Rattle.repair.specs.Reports.{end_of, Repaired}
 use Rattle.calls.specs.declared.Stop.{Stop}
-use Rattle.calls.specs.declared.Stop.TheVariants.{Depth}
-use Rattle.calls.specs.declared.Answer.{Answer}
-use Rattle.calls.specs.declared.Answer.TheVariants.{Done, Stopped}
 use Rattle.root_record.specs.Records.{kind_in, size_in, root_in}
 use Rattle.calls.specs.Lengths.{tree_sized, record_sized}
 use Rattle.calls.specs.Tests.{◌then◌, admitted_by, test_marks}
 use Rattle.calls.proofs.LengthLaws.{places_small, tree-lengths}
-use Rattle.calls.specs.Stops.{Small}
+use Rattle.calls.specs.Stops.{Answer, Done, Stopped, Small}
 use Rattle.calls.proofs.TestLaws.{then_done, small_then, small_marks}
-use Rattle.calls.proofs.RecordLaws.{AdmittedBy, admission_by, none-admitted_by, small_admitted_by}
-use Rattle.fault_calls.specs.declared.Outcome.{Outcome}
-use Rattle.fault_calls.specs.declared.Outcome.TheVariants as outcome
-use Rattle.fault_calls.specs.Repairing.{Result, ended, misfilled, stopped, RepairLeft, leaves, repair_sized, end_number, ended_by, repair_tested, repair_of, repaired_by, repaired, outcome_of}
+use Rattle.calls.proofs.RecordLaws.{AdmittedBy, admission_by, admitted_by-sized, small_admitted_by}
+use Rattle.fault_calls.specs.Repairing.{Result, ended, misfilled, stopped, RepairLeft, leaves, repair_sized, end_number, ended_by, repair_tested, repair_of, repaired_by, repaired}
 
 -- ---- the lengths, where their test passes
 
@@ -103,19 +99,15 @@ lists_for d b up_to_lem f =
 -- ---- of the whole call
 
 module _ (d : ℕ) (r table t m o : List ℕ) where
-  pub refused : (s : Stop) → Stopped s ≡ admitted_by d (repair_sized d (length r) (length t) (length m) (length o)) r table
-      → leaves (stopped s) t m o ≡ repaired d r table t m o
-  unfolding repaired repair_tested
-  refused s e = ap (λ (a : Answer). repaired_by (a then test_marks m) d (size_in r) (repair_of r table t m o) t m o) e
-
-  pub went_on : (kind : Kind) (ws root : List ℕ) (n : ℕ) (x : RepairLeft Result) → kind ≡ kind_in r → root ≡ root_in r → n ≡ size_in r → ws ≡ words_of table
-      → x ≡ repaired_by (test_marks m) d n (repair tree (symbol_hash kind) root (table_of ws) t m o) t m o
+  went_on_so : (kind : Kind) (tbl : Accepted) (root : List ℕ) (n : ℕ) (x : RepairLeft Result) → kind ≡ kind_in r → root ≡ root_in r → n ≡ size_in r
+      → tbl ≡ accepted d (table_of (words_of table)) → x ≡ repaired_by (test_marks m) tbl.depth n (repair tree (symbol_hash kind) root tbl.layers t m o) t m o
       → Done ≡ admitted_by d (repair_sized d (length r) (length t) (length m) (length o)) r table → x ≡ repaired d r table t m o
   unfolding repaired repair_tested repair_of
-  went_on kind ws root n x ek eo en ew ex e =
-      ex ∙ ap (λ (k : Kind). repaired_by (test_marks m) d n (repair tree (symbol_hash k) root (table_of ws) t m o) t m o) ek
-      ∙ ap₂ (λ (q : List ℕ) (k : ℕ). repaired_by (test_marks m) d k (repair tree (symbol_hash (kind_in r)) q (table_of ws) t m o) t m o) eo en
-      ∙ ap (λ (q : List ℕ). repaired_by (test_marks m) d (size_in r) (repair tree (symbol_hash (kind_in r)) (root_in r) (table_of q) t m o) t m o) ew
+  went_on_so kind tbl root n x ek eo en et ex e =
+      let ls : List (List (List ℕ)) = table_of (words_of table) in
+      ex ∙ ap (λ (q : Accepted). repaired_by (test_marks m) q.depth n (repair tree (symbol_hash kind) root q.layers t m o) t m o) et
+      ∙ ap (λ (k : Kind). repaired_by (test_marks m) d n (repair tree (symbol_hash k) root ls t m o) t m o) ek
+      ∙ ap₂ (λ (q : List ℕ) (k : ℕ). repaired_by (test_marks m) d k (repair tree (symbol_hash (kind_in r)) q ls t m o) t m o) eo en
       ∙ ap (λ (a : Answer). repaired_by (a then test_marks m) d (size_in r) (repair_of r table t m o) t m o) e
 
   -- the tests that well-formed input has passed
@@ -154,15 +146,26 @@ module _ (d : ℕ) (r table t m o : List ℕ) where
       (small_admitted_by d (repair_sized d (length r) (length t) (length m) (length o)) r table)
       (λ e. let k = admitted-formed e in small_marks m (omega (arith, k.marks-full, places_small d k.shallow)))
 
--- a repair that stopped
-pub stops_so : {q : Outcome} {s : Stop} {t m o : List ℕ} {x : RepairLeft Result} → q ≡ outcome.Stopped s → leaves (outcome_of q) t m o ≡ x
-    → leaves (stopped s) t m o ≡ x
-stops_so {t = t} {m = m} {o = o} e f = ap (λ (z : Outcome). leaves (outcome_of z) t m o) (sym e) ∙ f
+  -- the test of lengths as the call makes it
+  module _ {sized : Bool} (es : sized ≡ (depth_fits d && repair_sized d (length r) (length t) (length m) (length o))) where
+    as_sized : admitted_by d sized r table ≡ admitted_by d (repair_sized d (length r) (length t) (length m) (length o)) r table
+    as_sized = admitted_by-sized d sized (repair_sized d (length r) (length t) (length m) (length o)) r table es
 
--- what is answered and left with 1 is answered and left at depth 0
-pub as_at_none : (d : ℕ) (r table t m o : List ℕ) (s : Stop) (t' m' o' : List ℕ) → leaves (stopped s) t' m' o' ≡ repaired d r table t m o
-    → Stopped s ≡ Stopped Depth → repaired 0 r table t' m' o' ≡ repaired d r table t m o
-as_at_none d r table t m o s t' m' o' e z =
-    let same : s ≡ Depth = cc in
-    sym (refused 0 r table t' m' o' Depth (none-admitted_by (repair_sized 0 (length r) (length t') (length m') (length o')) r table))
-    ∙ ap (λ (q : Stop). leaves (stopped q) t' m' o') (sym same) ∙ e
+    pub record_sized_so : sized ≡ true → length r ≡ 556
+    record_sized_so e =
+        (sizes d (length r) (length t) (length m) (length o)
+        (and_yes (depth_fits d) (repair_sized d (length r) (length t) (length m) (length o)) (sym es ∙ e)).1).0
+
+    -- a test that fails stops the call
+    pub refused : (s : Stop) → Stopped s ≡ admitted_by d sized r table → leaves (stopped s) t m o ≡ repaired d r table t m o
+    unfolding repaired repair_tested
+    refused s e = ap (λ (a : Answer). repaired_by (a then test_marks m) d (size_in r) (repair_of r table t m o) t m o) (e ∙ as_sized)
+
+    -- what is known once they have passed
+    pub formed_by : Done ≡ admitted_by d sized r table → Formed
+    formed_by e = admitted-formed (sym (e ∙ as_sized))
+
+    pub went_on : (kind : Kind) (tbl : Accepted) (root : List ℕ) (n : ℕ) (x : RepairLeft Result) → kind ≡ kind_in r → root ≡ root_in r → n ≡ size_in r
+        → tbl ≡ accepted d (table_of (words_of table)) → x ≡ repaired_by (test_marks m) tbl.depth n (repair tree (symbol_hash kind) root tbl.layers t m o) t m o
+        → Done ≡ admitted_by d sized r table → x ≡ repaired d r table t m o
+    went_on kind tbl root n x ek eo en et ex e = went_on_so kind tbl root n x ek eo en et ex (e ∙ as_sized)

@@ -6,8 +6,7 @@ use Rattle.symbol_hash.specs.SymbolHash.{symbol_hash}
 use Rattle.model.specs.Shape.{tree}
 use Rattle.model.specs.Fault.{Verdict, accepted, wrong_head, wrong_length, broken, no_fault, verdict}
 use Rattle.calls.specs.declared.Stop.TheVariants.{Length, Head, Hash, NoFault}
-use Rattle.calls.specs.declared.Answer.{Answer}
-use Rattle.calls.specs.declared.Answer.TheVariants.{Done, Stopped}
+use Rattle.calls.specs.Stops.{Answer, Done, Stopped}
 use Rattle.root_record.specs.Records.{kind_in, root_in}
 use Rattle.calls.specs.Lengths.{record_sized}
 use Rattle.calls.specs.Tests.{◌then◌, admitted_by}

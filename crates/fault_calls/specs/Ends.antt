@@ -9,7 +9,7 @@ use Rattle.model.specs.Coded.{Agrees}
 use Rattle.model.specs.Repair.{fault}
 use Rattle.model.specs.Ends.{Ended}
 use Rattle.root_record.specs.Records.{kind_in, root_in}
-use Rattle.calls.specs.declared.Answer.TheVariants.{Done}
+use Rattle.calls.specs.Stops.{Done}
 use Rattle.fault_calls.specs.Checking.{proof_checked}
 use Rattle.fault_calls.specs.Repairing.{repair_tested, repair_of}
 use Rattle.fault_calls.specs.Sound.{Colliding}

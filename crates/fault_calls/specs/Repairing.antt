@@ -1,5 +1,6 @@
 -- What a call that repairs a tree answers and leaves, for every input. Definitions only.
-use Rattle.std.specs.Prelude.{◌≡◌, Bool, ◌&&◌, List, ℕ, ◌+◌, ◌-◌, ◌*◌, ◌^◌, ◌<◌, length, eqb}
+use Rattle.std.specs.Prelude.{◌≡◌, Bool, ◌&&◌, List, ℕ, ◌+◌, ◌-◌, ◌*◌, ◌^◌, ◌<◌, length, eqb, Ok, Err}
+use Rattle.std.specs.Prelude.{Result as Answered}
 use Rattle.table_bytes.specs.Bytes.{words_of}
 use Rattle.parity_table.specs.Parse.{table_of}
 use Rattle.symbol_hash.specs.SymbolHash.{symbol_hash}
@@ -12,9 +13,7 @@ use Rattle.model.specs.Writer.{zero_filled}
 use Rattle.model.specs.Repair.{End, working, whole, fault, unavailable, twins, St, repair}
 use Rattle.repair.specs.Reports.{end_of}
 use Rattle.calls.specs.declared.Stop.{Stop}
-use Rattle.calls.specs.declared.Answer.{Answer}
-use Rattle.calls.specs.declared.Answer.TheVariants as answer
-use Rattle.calls.specs.Stops.{number_of, values_of, Small}
+use Rattle.calls.specs.Stops.{Answer, Stopped, number_of, values_of, Small}
 use Rattle.calls.specs.Lengths.{tree_sized, record_sized}
 use Rattle.calls.specs.Tests.{◌then◌, admitted_by, test_marks}
 use Rattle.fault_calls.specs.declared.Outcome.{Outcome}
@@ -58,18 +57,18 @@ ended_by zero s (twins j x) = ended s (twins j x)
 
 -- by the tests' answer: what the steps come to, of a tree of depth d with a block of n bytes, or everything left
 abbrev pub repaired_by : Answer → ℕ → ℕ → St → List ℕ → List ℕ → List ℕ → RepairLeft Result
-repaired_by answer.Done d n st t m o =
+repaired_by (Ok _) d n st t m o =
     leaves (ended_by (zero_filled tree d n st.tree) st.stored st.end) st.tree st.marks st.out
-repaired_by (answer.Stopped s) d n st t m o = leaves (stopped s) t m o
+repaired_by (Err s) d n st t m o = leaves (stopped s) t m o
 
 unfoldable pub repaired : ℕ → List ℕ → List ℕ → List ℕ → List ℕ → List ℕ → RepairLeft Result
 repaired d r table t m o = repaired_by (repair_tested d r table t m o) d (size_in r) (repair_of r table t m o) t m o
 
 -- the answer's own form
-abbrev pub outcome_of : Outcome → Result
-outcome_of (outcome.Ended r) = ended r.stored (end_of r.end)
-outcome_of (outcome.Misfilled s) = misfilled s
-outcome_of (outcome.Stopped s) = stopped s
+abbrev pub outcome_of : Answered Outcome Stop → Result
+outcome_of (Ok (outcome.Ended r)) = ended r.stored (end_of r.end)
+outcome_of (Ok (outcome.Misfilled s)) = misfilled s
+outcome_of (Err s) = stopped s
 
 -- ---- numbers
 
@@ -99,18 +98,18 @@ end_value kind working = 0
 abbrev pub result_number : Result → ℕ
 result_number (ended s z) = 0
 result_number (misfilled s) = 0
-result_number (stopped w) = number_of (answer.Stopped w)
+result_number (stopped w) = number_of (Stopped w)
 
 abbrev pub result_values : Kind → Result → ℕ × ℕ
 result_values kind (ended s z) = (end_number z, s + end_value kind z * 2 ^ 16)
 result_values kind (misfilled s) = (misfilled_number, s)
-result_values kind (stopped w) = values_of (answer.Stopped w)
+result_values kind (stopped w) = values_of (Stopped w)
 
 -- the numbers that are reported have room: symbols stored and value in 16 bits each, an end and a stop's values as those of any call
 abbrev pub Fits : Kind → Result → Type 0
 Fits kind (ended s z) = (s < 2 ^ 16) × (end_value kind z < 2 ^ 16) × (end_number z < 2 ^ 24)
 Fits kind (misfilled s) = s < 2 ^ 16
-Fits kind (stopped w) = Small (answer.Stopped w)
+Fits kind (stopped w) = Small (Stopped w)
 
 -- a repair that ended was lent a record of 556 bytes, so that its kind can be read; this one has n
 abbrev pub Recorded : ℕ → Result → Type 0

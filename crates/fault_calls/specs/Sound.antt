@@ -10,7 +10,7 @@ use Rattle.model.specs.Shape.{tree}
 use Rattle.model.specs.Coded.{Agrees, CollisionWith}
 use Rattle.model.specs.Fault.{ProofHolds}
 use Rattle.root_record.specs.Records.{kind_in, root_in}
-use Rattle.calls.specs.declared.Answer.TheVariants.{Done}
+use Rattle.calls.specs.Stops.{Done}
 use Rattle.fault_calls.specs.Checking.{proof_checked}
 
 -- the proof b holds, at one layer and number, another symbol than the tree f, of equal hash

@@ -1,24 +1,23 @@
 // Checking a fault proof.
-ghost use Rattle.std.specs.Prelude.{◌≡◌};
+ghost use Rattle.std.specs.Prelude.{◌≡◌, ◌≤◌, replicate, Err};
 ghost use Rattle.fault_proof.specs.Verdicts.{verdict_of};
 ghost use Rattle.calls.specs.Room.{Room};
 ghost use Rattle.fault_calls.specs.Checking.{proof_sized, judged, proof_checked};
 
-use calls::{Answer, Stop, admit_by, stops_at_depth};
-use fault_proof::Verdict;
-use parity_table::{MAX_EQUATIONS, SHALLOW_EQUATIONS, is_deep};
+use calls::{Stop, admit_by};
+use fault_proof::Refusal;
+use parity_table::{MAX_EQUATIONS, SHALLOW_EQUATIONS, Table, is_deep};
 use table_bytes::{MAX_WORDS, SHALLOW_WORDS};
 
-// The checker's verdict as an answer.
-fn answer_of(v: Verdict) -> Answer
-    ensures { result ≡ judged (verdict_of v) }
+// Why a proof is turned down, as why the call stopped. No `From`, since neither type is of this crate.
+fn stop_of(refusal: Refusal) -> Stop
+    ensures { Err result ≡ judged (verdict_of (Err refusal)) }
 {
-    match v {
-        Verdict::Accepted => Answer::Done,
-        Verdict::WrongHead => Answer::Stopped(Stop::Head),
-        Verdict::WrongLength => Answer::Stopped(Stop::Length),
-        Verdict::Broken { layer, position } => Answer::Stopped(Stop::Hash { layer, position }),
-        Verdict::NoFault => Answer::Stopped(Stop::NoFault),
+    match refusal {
+        Refusal::WrongHead => Stop::Head,
+        Refusal::WrongLength => Stop::Length,
+        Refusal::Broken { layer, position } => Stop::Hash { layer, position },
+        Refusal::NoFault => Stop::NoFault,
     }
 }
 
@@ -26,56 +25,39 @@ fn answer_of(v: Verdict) -> Answer
 fn sizes_fit(record_len: usize, proof: usize) -> bool
     ensures { result ≡ proof_sized record_len proof }
 {
-    if record_len != root_record::BYTES {
-        return false;
-    }
-    12 <= proof
+    record_len == root_record::BYTES && 12 <= proof
 }
 
-// check, with arrays for the table's words and index.
-fn check_in(
+// check, with arrays of these lengths for the table's words and index. They are on the stack of a call of this function alone.
+#[inline(never)]
+fn check_by<const WORDS: usize, const EQUATIONS: usize>(
     depth: usize,
     root_record: &[u8],
     table: &[u8],
     proof: &[u8],
-    words: &mut [u32],
-    starts: &mut [usize],
-) -> Answer
-    requires { Room depth words.old starts.old }
+) -> Result<(), Stop>
+    requires room { Room depth (replicate WORDS 0) (replicate EQUATIONS 0) }
+    requires most { (WORDS ≤ MAX_WORDS) × (EQUATIONS ≤ MAX_EQUATIONS) }
     ensures { result ≡ proof_checked depth root_record.now table.now proof.now }
 {
+    let mut words = [0u32; WORDS];
+    let mut starts = [0usize; EQUATIONS];
     let sized = sizes_fit(root_record.len(), proof.len());
-    if let Answer::Stopped(s) = admit_by(depth, sized, root_record, table, words, starts) {
-        return Answer::Stopped(s);
-    }
+    admit_by(depth, sized, root_record, table, &mut words, &mut starts)?;
     let kind = root_record::kind(root_record);
     let n = table.len() / 4;
     let root = &root_record[root_record::ROOT_AT..];
-    answer_of(fault_proof::check(kind, depth, &words[..n], starts, root, proof))
-}
-
-// check for a deeper tree.
-fn check_deep(depth: usize, root_record: &[u8], table: &[u8], proof: &[u8]) -> Answer
-    ensures { result ≡ proof_checked depth root_record.now table.now proof.now }
-{
-    let mut words = [0u32; MAX_WORDS];
-    let mut starts = [0usize; MAX_EQUATIONS];
-    let answer = check_in(depth, root_record, table, proof, &mut words, &mut starts);
-    if stops_at_depth(depth, answer) {
-        return check_deep(0, root_record, table, proof);
-    }
-    answer
+    let table = Table::new(depth, &words[..n], &starts);
+    fault_proof::check(kind, &table, root, proof).map_err(stop_of)
 }
 
 // Checks a fault proof against a record and a table that comes as bytes: tests 1, 2, 11, 3, 10, 12, 6, then 2 again for the length its head
-// demands, 7, 8. Done: a fault is shown.
-pub fn check(depth: usize, root_record: &[u8], table: &[u8], proof: &[u8]) -> Answer
+// demands, 7, 8. Ok: a fault is shown.
+pub fn check(depth: usize, root_record: &[u8], table: &[u8], proof: &[u8]) -> Result<(), Stop>
     ensures { result ≡ proof_checked depth root_record.now table.now proof.now }
 {
     if is_deep(depth) {
-        return check_deep(depth, root_record, table, proof);
+        return check_by::<MAX_WORDS, MAX_EQUATIONS>(depth, root_record, table, proof);
     }
-    let mut words = [0u32; SHALLOW_WORDS];
-    let mut starts = [0usize; SHALLOW_EQUATIONS];
-    check_in(depth, root_record, table, proof, &mut words, &mut starts)
+    check_by::<SHALLOW_WORDS, SHALLOW_EQUATIONS>(depth, root_record, table, proof)
 }

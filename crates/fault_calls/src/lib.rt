@@ -5,24 +5,22 @@ mod checking;
 mod numbering; // how a repair ended, as numbers
 mod repairing;
 
-use calls::Stop;
 pub use checking::check;
 pub use numbering::{ending_of, misfilled};
 use repair::Report;
 pub use repairing::repair_tree;
 
-// What a repair answers.
-#[derive(Clone, Copy)]
+// How a repair that wasn't stopped came out.
+#[derive(Clone, Copy, Debug, PartialEq, Eq)]
 pub enum Outcome {
-    // it came to an end: symbols stored, and the end
+    // symbols stored, and the end
     Ended(Report),
-    // .. whole, but what fills up the block is not zero: symbols stored
+    // whole, but what fills up the block is not zero: symbols stored
     Misfilled(usize),
-    Stopped(Stop),
 }
 
 // The number of an end, the symbols stored, and what goes with the end: a proof's length, a layer, layer and number of twins, or 0.
-#[derive(Clone, Copy)]
+#[derive(Clone, Copy, Debug, PartialEq, Eq)]
 pub struct Ending {
     pub end: usize,
     pub stored: usize,

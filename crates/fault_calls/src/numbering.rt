@@ -8,17 +8,15 @@ use crate::Ending;
 use repair::{End, Report};
 use symbol_hash::Kind;
 
-fn with(end: usize, stored: usize, value: usize) -> Ending
-    ensures { (result.end ≡ end) × (result.stored ≡ stored) × (result.value ≡ value) }
-{
-    Ending { end, stored, value }
-}
-
 // "ends with 13 in place of whole"
 pub fn misfilled(stored: usize) -> Ending
     ensures { (result.end ≡ misfilled_number) × (result.stored ≡ stored) × (result.value ≡ 0) }
 {
-    with(13, stored, 0)
+    Ending {
+        end: 13,
+        stored,
+        value: 0,
+    }
 }
 
 // The ends by number.
@@ -27,17 +25,9 @@ pub fn end_number(end: End) -> usize
 {
     match end {
         End::Whole => 0,
-        End::Fault {
-            layer: _,
-            equation: _,
-            withheld: _,
-            size: _,
-        } => 1,
+        End::Fault { .. } => 1,
         End::Unavailable(_) => 2,
-        End::Twins {
-            layer: _,
-            number: _,
-        } => 3,
+        End::Twins { .. } => 3,
     }
 }
 
@@ -59,12 +49,7 @@ fn end_value(kind: Kind, end: End) -> usize
 {
     match end {
         End::Whole => 0,
-        End::Fault {
-            layer: _,
-            equation: _,
-            withheld: _,
-            size,
-        } => size,
+        End::Fault { size, .. } => size,
         End::Unavailable(layer) => layer,
         End::Twins { layer, number } => twins_value(kind, layer, number),
     }
@@ -74,6 +59,9 @@ pub fn ending_of(kind: Kind, r: Report) -> Ending
     requires { end_value kind (end_of r.end) < 2 ^ 16 }
     ensures { (result.end ≡ end_number (end_of r.end)) × (result.stored ≡ r.stored) × (result.value ≡ end_value kind (end_of r.end)) }
 {
-    let end = r.end;
-    with(end_number(end), r.stored, end_value(kind, end))
+    Ending {
+        end: end_number(r.end),
+        stored: r.stored,
+        value: end_value(kind, r.end),
+    }
 }

@@ -1,23 +1,27 @@
 -- The look at a tree, as loops over a layer's equations, over its symbols and over the layers come to it.
-use mathlib.Core.Path.{◌∙◌, ◌≡◌, refl, sym, ap}
-use mathlib.Core.Bool.{Bool, true, false, not, ◌&&◌}
+use mathlib.Core.Path.{◌∙◌, ◌≡◌, refl, sym, ap, subst}
+use mathlib.Core.Bool.{Bool, true, not, ◌&&◌, false≢true}
 use mathlib.Core.List.{List}
 use Prim.Native.Nat.{ℕ, ◌+◌, ◌-◌, ◌*◌, ◌<◌}
 use native.Mathlib.Omega.{arith}
-use lib.ListN.{length}
+use lib.ListN.{length, get_or}
+use Rattle.std.specs.List.{list_all, range_with_len}
+use Rattle.std.proofs.lemmas.List.FromFn.{get_or-range_with_len, length-range_with_len}
+use Rattle.std.proofs.lemmas.List.Sums.{AllPass-from_list_all, list_all-from_AllPass}
+use Rattle.octets.proofs.Choice.{by_test}
 use Rattle.octets.specs.ByteLists.{same}
 use Rattle.parity_table.specs.Shape.{k_of, n_of}
-use Rattle.parity_table.specs.Table.{layer_of, equation_of, TableOk}
-use Rattle.parity_table.specs.Reader.{read_of}
-use Rattle.parity_table.specs.declared.Answer.TheVariants.{Whole}
-use Rattle.parity_table.specs.Parse.{Indexed, HasEquation, table_of}
+use Rattle.parity_table.specs.Table.{equation_of, TableOk}
+use Rattle.parity_table.specs.Reader.{read_of, Whole}
+use Rattle.parity_table.specs.Parse.{table_of}
+use Rattle.parity_table.specs.Accepted.{Accepted, Kept}
 use Rattle.parity_table.proofs.Accepts.{accepted-depth, accepted-table}
 use Rattle.model.specs.Shape.{places, tree}
 use Rattle.model.specs.Symbols.{xor_of, zeros, sym_at}
 use Rattle.model.specs.Repair.{repair}
 use Rattle.model.specs.Ends.{Sized, Roomy, gap_at}
-use Rattle.model.specs.Look.{whole_as_lent, all_hold, no_gaps, is_complete, intact}
-use Rattle.model.proofs.Look.{all_by, not_all, look, look_kept}
+use Rattle.model.specs.Look.{whole_as_lent, all, all_hold, no_gaps, is_complete, intact}
+use Rattle.model.proofs.Look.{all_at, all_by, look, look_kept}
 use Rattle.model.proofs.Shapes.{n_small, tree_ok}
 use Rattle.model.proofs.Tables.{TableLaws, table_laws, table_roomy}
 use Rattle.symbol_hash.specs.SymbolHash.{symbol_hash}
@@ -28,33 +32,45 @@ use Rattle.equation.proofs.CommittedLaws.{level_of}
 use Rattle.equation.specs.Rooms.{Level}
 use Rattle.recoding.specs.Look.{Lent}
 
+-- every number of a range passes a test, as the model has it
+range_all : (p : ℕ → Bool) (n : ℕ) → list_all p (range_with_len 0 n) ≡ all p n
+range_all p n =
+    let xs : List ℕ = range_with_len 0 n in
+    let long : length xs ≡ n = length-range_with_len 0 n in
+    by_test (list_all p xs)
+    (λ t.
+    t
+    ∙ sym (all_by p n (λ i h.
+    let e : get_or xs i 0 ≡ i = omega (arith, get_or-range_with_len 0 n i 0 h) in
+    subst (λ y. p y ≡ true) e (AllPass-from_list_all p xs t i 0 (omega (arith, long))))))
+    (λ f.
+    f
+    ∙ sym (by_test (all p n)
+    (λ t. absurd (false≢true (sym f ∙ list_all-from_AllPass p xs (λ i d h.
+    let e : get_or xs i d ≡ i = omega (arith, get_or-range_with_len 0 n i d (omega (arith, long))) in
+    subst (λ y. p y ≡ true) (sym e) (all_at p n t i (omega (arith, long)))))))
+    (λ g. g)))
+
 -- ---- the equations of layer j
 
 -- equation e holds
-abbrev pub holds_at : List ℕ → List ℕ → ℕ → ℕ → Bool
-holds_at ws t j e = same (xor_of (sym_at tree t j) (equation_of (table_of ws) j e)) zeros
+abbrev pub holds_at : List (List (List ℕ)) → List ℕ → ℕ → ℕ → Bool
+holds_at tbl t j e = same (xor_of (sym_at tree t j) (equation_of tbl j e)) zeros
 
--- its members, where the code finds them, can be gathered
-pub members_of_lem : (ws starts t ms : List ℕ) (j e : ℕ) → HasEquation ws starts j e → Layers j (n_of j) t → ms ≡ equation_of (table_of ws) j e → Members j t ms
-members_of_lem ws starts t ms j e h l em =
-    record {
-      symbols = n_of j;
-      numbered = omega (arith, n_small j l.layer);
-      layers = l;
-      within = members-inside h.depth ws h.indexed.accepted j e (k_of j) h.layer refl h.equation ms em;
-    }
+module _ {a : Accepted} (kept : Kept a) (t : List ℕ) (j : ℕ) (hj : j < a.depth) where
+  -- its members can be gathered
+  pub members_of_lem : (e : ℕ) (ms : List ℕ) → e < 3 * k_of j → Layers j (n_of j) t → ms ≡ equation_of a.layers j e → Members j t ms
+  members_of_lem e ms he l em =
+      record {
+        symbols = n_of j;
+        numbered = omega (arith, n_small j l.layer);
+        layers = l;
+        within = members-inside a.depth a.layers kept.rules j hj e (k_of j) refl he ms em;
+      }
 
-module _ (ws starts t : List ℕ) (j d : ℕ) (x : Indexed d ws starts) (hj : j < d) where
-  equations : length (layer_of (table_of ws) j) ≡ 3 * k_of j
-  equations = (accepted-table d ws x.accepted).equations j hj
-
-  pub one-fails : (e : ℕ) → e < 3 * k_of j → holds_at ws t j e ≡ false → false ≡ all_hold tree (table_of ws) t j
+  pub each_holds : list_all (holds_at a.layers t j) (range_with_len 0 (3 * k_of j)) ≡ all_hold tree a.layers t j
   unfolding all_hold
-  one-fails e h f = sym (not_all (holds_at ws t j) (length (layer_of (table_of ws) j)) e (omega (arith, equations)) f)
-
-  pub each_holds : ((e : ℕ) → e < 3 * k_of j → holds_at ws t j e ≡ true) → true ≡ all_hold tree (table_of ws) t j
-  unfolding all_hold
-  each_holds h = sym (all_by (holds_at ws t j) (length (layer_of (table_of ws) j)) (λ e k. h e (omega (arith, equations))))
+  each_holds = range_all (holds_at a.layers t j) (3 * k_of j) ∙ ap (all (holds_at a.layers t j)) (sym (kept.rules.equations j hj))
 
 -- ---- its symbols
 
@@ -63,13 +79,9 @@ module _ (kind : Kind) (root t m : List ℕ) (j : ℕ) where
   abbrev pub no_gap_at : ℕ → Bool
   no_gap_at i = not (gap_at tree (symbol_hash kind) root t m t j i)
 
-  pub one_gap : (i : ℕ) → i < n_of j → gap_at tree (symbol_hash kind) root t m t j i ≡ true → false ≡ no_gaps tree (symbol_hash kind) root t m j
+  pub none_gap : list_all no_gap_at (range_with_len 0 (n_of j)) ≡ no_gaps tree (symbol_hash kind) root t m j
   unfolding no_gaps
-  one_gap i h g = sym (not_all no_gap_at (n_of j) i h (ap not g))
-
-  pub none_gap : ((i : ℕ) → i < n_of j → no_gap_at i ≡ true) → true ≡ no_gaps tree (symbol_hash kind) root t m j
-  unfolding no_gaps
-  none_gap h = sym (all_by no_gap_at (n_of j) h)
+  none_gap = range_all no_gap_at (n_of j)
 
 -- ---- layer by layer
 
@@ -79,24 +91,17 @@ pub complete_by : (kind : Kind) (root : List ℕ) (tbl : List (List (List ℕ)))
 unfolding is_complete
 complete_by kind root tbl t m j b g = sym (ap (λ (x : Bool). x && all_hold tree tbl t j) g)
 
-module _ {d : ℕ} {ws starts root t m : List ℕ} (k : Lent d ws starts root t m) where
-  pub level : (j : ℕ) → j < d → Level root t m j (n_of j)
-  level j hj = level_of d j (accepted-depth d ws k.indexed.accepted).1 hj k.root_full k.tree-full k.marks-full
+module _ {a : Accepted} (kept : Kept a) where
+  pub level : {root t m : List ℕ} → Lent a.depth root t m → (j : ℕ) → j < a.depth → Level root t m j (n_of j)
+  level k j hj = level_of a.depth j kept.shallow hj k.root_full k.tree-full k.marks-full
 
-  deep : length (table_of ws) ≡ d
-  deep = (accepted-table d ws k.indexed.accepted).depth
-
-  module _ (kind : Kind) where
+  module _ (kind : Kind) (root t m : List ℕ) where
     abbrev pub complete_at : ℕ → Bool
-    complete_at = is_complete tree (symbol_hash kind) root (table_of ws) t m
+    complete_at = is_complete tree (symbol_hash kind) root a.layers t m
 
-    pub one-incomplete : (j : ℕ) → j < d → complete_at j ≡ false → false ≡ intact tree (symbol_hash kind) root (table_of ws) t m
+    pub each_complete : list_all complete_at (range_with_len 0 a.depth) ≡ intact tree (symbol_hash kind) root a.layers t m
     unfolding intact
-    one-incomplete j h f = sym (not_all complete_at (length (table_of ws)) j (omega (arith, deep)) f)
-
-    pub each_complete : ((j : ℕ) → j < d → complete_at j ≡ true) → true ≡ intact tree (symbol_hash kind) root (table_of ws) t m
-    unfolding intact
-    each_complete h = sym (all_by complete_at (length (table_of ws)) (λ j l. h j (omega (arith, deep))))
+    each_complete = range_all complete_at a.depth ∙ ap (all complete_at) (sym kept.rules.depth)
 
 -- ---- a repair of the tree
 

@@ -7,10 +7,12 @@ use native.Mathlib.Omega.{arith}
 use lib.ListN.{length, take, drop, replicate, length-take, length-replicate}
 use lib.Dec.{eqb}
 use borrow.Author.Tests.{eqb-true, eq-eqb, le-leb}
+use Rattle.std.specs.Prelude.{Ok, Err}
 use Rattle.octets.specs.Choice.{pick}
 use Rattle.octets.proofs.Choice.{by_test, and_yes, yes_and, pick_ind, pick_no, pick_yes}
-use Rattle.parity_table.specs.Shape.{k_of, max_depth}
+use Rattle.parity_table.specs.Shape.{depth_fits, k_of, max_depth}
 use Rattle.parity_table.specs.Parse.{table_of}
+use Rattle.parity_table.specs.Accepted.{Accepted, accepted}
 use Rattle.parity_table.proofs.Shape.{depth_is}
 use Rattle.table_bytes.specs.Bytes.{words_of}
 use Rattle.symbol_hash.specs.SymbolHash.{symbol_hash}
@@ -23,16 +25,14 @@ use Rattle.coded_tree.proofs.BlockLaws.{block_part}
 use Rattle.root_record.specs.Records.{kind_in, size_in, root_in}
 use Rattle.root_record.proofs.RecordLaws.{head-parts}
 use Rattle.calls.specs.declared.Stop.{Stop}
-use Rattle.calls.specs.declared.Stop.TheVariants.{Depth, NotWhole}
-use Rattle.calls.specs.declared.Answer.{Answer}
-use Rattle.calls.specs.declared.Answer.TheVariants.{Done, Stopped}
+use Rattle.calls.specs.declared.Stop.TheVariants.{NotWhole}
 use Rattle.calls.specs.Lengths.{tree_sized, record_sized}
 use Rattle.calls.specs.Tests.{◌then◌, admitted_by, test_marks}
-use Rattle.calls.specs.Stops.{Small}
+use Rattle.calls.specs.Stops.{Answer, Done, Stopped, Small}
 use Rattle.calls.proofs.LengthLaws.{places_small, tree-lengths, fit_no, fit_yes}
 use Rattle.calls.proofs.TestLaws.{then_done, small_plain, small_then, small_marks}
 use Rattle.calls.proofs.AdmissionLaws.{admits}
-use Rattle.calls.proofs.RecordLaws.{AdmittedBy, admission_by, admits_by, none-admitted_by, small_admitted_by}
+use Rattle.calls.proofs.RecordLaws.{AdmittedBy, admission_by, admitted_by-sized, admits_by, small_admitted_by}
 use Rattle.volume_calls.specs.Writing.{TreeLeft, leaves, write_sized, written_by, tree_written}
 use Rattle.volume_calls.proofs.WritingLaws.{by_tests as written-by}
 use Rattle.fault_calls.specs.Repairing.{ended_by, repair_sized, repair_tested, repair_of, repaired_by, repaired}
@@ -104,10 +104,6 @@ module _ (a : Answer) (p q : Bool) (e : Done ≡ a) where
   unfolding test_whole
   seen-whole l = sym (pick_yes (p && q) Done (Stopped NotWhole) l) ∙ ap (λ (x : Answer). x then test_whole (p && q)) e
 
--- before it, test 4
-pub first_stops : (a x : Answer) (s : Stop) → Stopped s ≡ a → Stopped s ≡ (a then x)
-first_stops a x s e = ap (λ (y : Answer). y then x) e
-
 nothing_to_do_lem : (zero : Bool) (s : ℕ) (z : End) → nothing_to_do (ended_by zero s z) ≡ ((is_whole z && eqb s 0) && zero)
 unfolding pick
 nothing_to_do_lem zero s working = refl
@@ -119,8 +115,8 @@ nothing_to_do_lem zero s (twins j x) = refl
 
 -- a test after another is asked only where that passes
 then_same : (a x y : Answer) → (a ≡ Done → x ≡ y) → (a then x) ≡ (a then y)
-then_same Done x y f = f refl
-then_same (Stopped s) x y f = refl
+then_same (Ok _) x y f = f refl
+then_same (Err s) x y f = refl
 
 module _ (d : ℕ) (r table t m : List ℕ) (t' m' r' : ℕ) (k : Formed d r table t m t' m' r') where
   abbrev tbl : List (List (List ℕ))
@@ -188,21 +184,41 @@ module _ (d : ℕ) (r table t m t' m' r' : List ℕ) where
   unfolding recoded
   by_tests a e = ap (λ (x : Answer). written_by x d (other_kind (kind_in r)) table block t' m' r') e
 
-  pub refused : (s : Stop) → Stopped s ≡ admitted_by d (recode_sized d (length r) (length t) (length m) (length t') (length m') (length r')) r table
-      → leaves (Stopped s) t' m' r' ≡ recoded d r table t m t' m' r'
-  refused s e = by_tests (Stopped s) (ap (λ (a : Answer). a then test_marks m then test_whole (called_whole d r table t m)) e)
+  -- what a call leaves whose source has this kind, this root and a block of n bytes, by a table
+  abbrev coded_by : Kind → Accepted → List ℕ → ℕ → TreeLeft Answer
+  coded_by kind a root n =
+      written_by (test_marks m then test_whole (intact tree (symbol_hash kind) root a.layers t m && zero_filled tree a.depth n t)) a.depth (other_kind kind) table (take n (block_of tree a.depth t)) t' m' r'
 
-  pub went_on : (kind : Kind) (ws root : List ℕ) (n : ℕ) (x : TreeLeft Answer) → kind ≡ kind_in r → root ≡ root_in r → n ≡ size_in r → ws ≡ words_of table
-      → Done ≡ admitted_by d (recode_sized d (length r) (length t) (length m) (length t') (length m') (length r')) r table
-      → x ≡ written_by (test_marks m then test_whole (intact tree (symbol_hash kind) root (table_of ws) t m && zero_filled tree d n t)) d (other_kind kind) table (take n (block_of tree d t)) t' m' r'
-      → x ≡ recoded d r table t m t' m' r'
-  went_on kind ws root n x ek eo en ew e ex =
+  went_on_so : (kind : Kind) (a : Accepted) (root : List ℕ) (n : ℕ) (x : TreeLeft Answer) → kind ≡ kind_in r → root ≡ root_in r → n ≡ size_in r
+      → a ≡ accepted d (table_of (words_of table)) → Done ≡ admitted_by d (recode_sized d (length r) (length t) (length m) (length t') (length m') (length r')) r table
+      → x ≡ coded_by kind a root n → x ≡ recoded d r table t m t' m' r'
+  went_on_so kind a root n x ek eo en ea e ex =
       let k = formed d r table t m (length t') (length m') (length r') e in
       ex
-      ∙ ap (λ (q : Kind). written_by (test_marks m then test_whole (intact tree (symbol_hash q) root (table_of ws) t m && zero_filled tree d n t)) d (other_kind q) table (take n (block_of tree d t)) t' m' r') ek
-      ∙ ap₂ (λ (o w : List ℕ). written_by (test_marks m then test_whole (intact tree (symbol_hash (kind_in r)) o (table_of w) t m && zero_filled tree d n t)) d (other_kind (kind_in r)) table (take n (block_of tree d t)) t' m' r') eo ew
-      ∙ ap (λ (q : ℕ). written_by (test_marks m then test_whole (intact tree (symbol_hash (kind_in r)) (root_in r) (table_of (words_of table)) t m && zero_filled tree d q t)) d (other_kind (kind_in r)) table (take q (block_of tree d t)) t' m' r') en
+      ∙ ap (λ (q : Kind). coded_by q a root n) ek
+      ∙ ap (λ (q : Accepted). coded_by (kind_in r) q root n) ea
+      ∙ ap₂ (λ (o : List ℕ) (q : ℕ). coded_by (kind_in r) (accepted d (table_of (words_of table))) o q) eo en
       ∙ by_tests _ (tests_same d r table t m (length t') (length m') (length r') k ∙ ap (λ (a : Answer). a then test_marks m then test_whole (called_whole d r table t m)) e)
+
+  -- the test of lengths as the call makes it
+  module _ {own : Bool} (es : own ≡ (depth_fits d && recode_sized d (length r) (length t) (length m) (length t') (length m') (length r'))) where
+    as_sized : admitted_by d own r table ≡ admitted_by d sized r table
+    as_sized = admitted_by-sized d own sized r table es
+
+    pub record_sized_so : own ≡ true → length r ≡ 556
+    record_sized_so e = (sizes d (length r) (length t) (length m) (length t') (length m') (length r') (and_yes (depth_fits d) sized (sym es ∙ e)).1).4
+
+    -- a test that fails stops the call
+    pub refused : (s : Stop) → Stopped s ≡ admitted_by d own r table → leaves (Stopped s) t' m' r' ≡ recoded d r table t m t' m' r'
+    refused s e = by_tests (Stopped s) (ap (λ (a : Answer). a then test_marks m then test_whole (called_whole d r table t m)) (e ∙ as_sized))
+
+    -- what is known once they have passed
+    pub formed_by : Done ≡ admitted_by d own r table → Formed d r table t m (length t') (length m') (length r')
+    formed_by e = formed d r table t m (length t') (length m') (length r') (e ∙ as_sized)
+
+    pub went_on : (kind : Kind) (a : Accepted) (root : List ℕ) (n : ℕ) (x : TreeLeft Answer) → kind ≡ kind_in r → root ≡ root_in r → n ≡ size_in r
+        → a ≡ accepted d (table_of (words_of table)) → x ≡ coded_by kind a root n → Done ≡ admitted_by d own r table → x ≡ recoded d r table t m t' m' r'
+    went_on kind a root n x ek eo en ea ex e = went_on_so kind a root n x ek eo en ea (e ∙ as_sized) ex
 
   pub answer-is : (recoded d r table t m t' m' r').answer ≡ recode_tested d r table t m (length t') (length m') (length r')
   unfolding recoded
@@ -231,10 +247,3 @@ module _ (d : ℕ) (r table t m t' m' r' : List ℕ) where
       let k = formed d r table t m (length t') (length m') (length r') (sym e) in
       small_then (test_marks m) (test_whole (called_whole d r table t m)) (small_marks m (omega (arith, k.marks-full, places_small d k.shallow)))
       (λ h. pick_ind Small (called_whole d r table t m) (λ w. small_plain refl) (λ w. small_plain refl))))
-
--- what is answered and left with 1 is answered and left at depth 0
-pub as_at_none : (d : ℕ) (r table t m t' m' r' : List ℕ) (a : Answer) (t'' m'' r'' : List ℕ) → leaves a t'' m'' r'' ≡ recoded d r table t m t' m' r'
-    → a ≡ Stopped Depth → recoded 0 r table t m t'' m'' r'' ≡ recoded d r table t m t' m' r'
-as_at_none d r table t m t' m' r' a t'' m'' r'' e s =
-    sym (refused 0 r table t m t'' m'' r'' Depth (none-admitted_by (recode_sized 0 (length r) (length t) (length m) (length t'') (length m'') (length r'')) r table))
-    ∙ ap (λ (q : Answer). leaves q t'' m'' r'') (sym s) ∙ e

@@ -2,6 +2,7 @@
 use Rattle.std.specs.Prelude.{Bool, false, ◌&&◌, List, ℕ, ◌+◌, ◌-◌, ◌*◌, ◌≤◌, length, take, replicate, eqb}
 use Rattle.octets.specs.Choice.{pick}
 use Rattle.parity_table.specs.Shape.{k_of}
+use Rattle.parity_table.specs.Accepted.{Accepted}
 use Rattle.symbol_hash.specs.declared.Kind.{Kind}
 use Rattle.symbol_hash.specs.declared.Kind.TheVariants.{Plain, Placed}
 use Rattle.model.specs.Shape.{tree}
@@ -9,8 +10,7 @@ use Rattle.model.specs.Writer.{block_of}
 use Rattle.model.specs.Look.{is_whole}
 use Rattle.root_record.specs.Records.{kind_in, size_in}
 use Rattle.calls.specs.declared.Stop.TheVariants.{NotWhole}
-use Rattle.calls.specs.declared.Answer.{Answer}
-use Rattle.calls.specs.declared.Answer.TheVariants.{Done, Stopped}
+use Rattle.calls.specs.Stops.{Answer, Done, Stopped}
 use Rattle.calls.specs.Lengths.{tree_sized, record_sized}
 use Rattle.calls.specs.Tests.{◌then◌, admitted_by, test_marks}
 use Rattle.volume_calls.specs.Writing.{TreeLeft, Writable, written_by}
@@ -51,7 +51,7 @@ recoded d r table t m t' m' r' =
     written_by (recode_tested d r table t m (length t') (length m') (length r')) d (other_kind (kind_in r)) table (take (size_in r) (block_of tree d t)) t' m' r'
 
 -- what is asked once the table is admitted, of a source with a block of n bytes
-pub record Recodable (d n : ℕ) (table ws starts root t m t' m' r' : List ℕ) : Type 0 where
-  pub source : Lent d ws starts root t m
-  pub size_fits : n ≤ 256 * k_of (d - 1)
-  pub writable : (b : List ℕ) → length b ≤ 256 * k_of (d - 1) → Writable d table ws starts b t' m' r'
+pub record Recodable (a : Accepted) (n : ℕ) (table root t m t' m' r' : List ℕ) : Type 0 where
+  pub source : Lent a.depth root t m
+  pub size_fits : n ≤ 256 * k_of (a.depth - 1)
+  pub writable : (b : List ℕ) → length b ≤ 256 * k_of (a.depth - 1) → Writable a table b t' m' r'

@@ -1,7 +1,6 @@
 // Coding a volume anew.
-ghost use Rattle.std.specs.Prelude.{◌≡◌, ◌&&◌, ◌-◌, ◌*◌, ◌≤◌, take};
+ghost use Rattle.std.specs.Prelude.{◌≡◌, ◌&&◌, ◌-◌, ◌*◌, ◌≤◌, take, replicate};
 ghost use Rattle.parity_table.specs.Shape.{depth_fits, k_of};
-ghost use Rattle.parity_table.specs.Parse.{table_of};
 ghost use Rattle.symbol_hash.specs.SymbolHash.{symbol_hash};
 ghost use Rattle.model.specs.Shape.{tree as shape};
 ghost use Rattle.model.specs.Writer.{block_of, zero_filled};
@@ -13,9 +12,9 @@ ghost use Rattle.recoding.specs.Look.{Lent};
 ghost use Rattle.recoding.specs.Recoding.{other_kind, recode_sized, test_whole, recoded, Recodable};
 
 use crate::look::is_intact;
-use calls::{Answer, Stop, admit_by, stops_at_depth, test_marks, tree_fits};
+use calls::{Stop, admit_by, test_marks, tree_fits};
 use coded_tree::{first_place, zero_filled};
-use parity_table::{MAX_EQUATIONS, SHALLOW_EQUATIONS, is_deep};
+use parity_table::{MAX_EQUATIONS, SHALLOW_EQUATIONS, Table, is_deep};
 use symbol_hash::Kind;
 use table_bytes::{MAX_WORDS, SHALLOW_WORDS};
 use volume_calls::write_with;
@@ -42,54 +41,40 @@ fn sizes_fit(
 ) -> bool
     ensures { result ≡ depth_fits depth && recode_sized depth record_len tree marks new_tree new_marks new_record_len }
 {
-    if !tree_fits(depth, tree, marks) {
-        return false;
-    }
-    if !tree_fits(depth, new_tree, new_marks) {
-        return false;
-    }
-    if record_len != root_record::BYTES {
-        return false;
-    }
-    new_record_len == root_record::BYTES
+    tree_fits(depth, tree, marks)
+        && tree_fits(depth, new_tree, new_marks)
+        && record_len == root_record::BYTES
+        && new_record_len == root_record::BYTES
 }
 
 // Tests 4 and 14, of a tree of this kind with a block of n bytes.
 fn test_source(
     kind: Kind,
-    depth: usize,
-    words: &[u32],
-    starts: &[usize],
+    table: &Table,
     root: &[u8],
     n: usize,
     tree: &[u8],
     marks: &[u8],
-) -> Answer
-    requires { Lent depth words.now starts.now root.now tree.now marks.now × (n ≤ 256 * k_of (depth - 1)) }
+) -> Result<(), Stop>
+    requires { Lent table.now.depth root.now tree.now marks.now × (n ≤ 256 * k_of (table.now.depth - 1)) }
     ensures { result ≡ (test_marks marks.now
         then test_whole
-        (intact shape (symbol_hash kind) root.now (table_of words.now) tree.now marks.now
-        && zero_filled shape depth n tree.now)) }
+        (intact shape (symbol_hash kind) root.now table.now.layers tree.now marks.now
+        && zero_filled shape table.now.depth n tree.now)) }
 {
-    if let Answer::Stopped(s) = test_marks(marks) {
-        return Answer::Stopped(s);
+    test_marks(marks)?;
+    let depth = table.depth();
+    if !is_intact(kind, table, root, tree, marks) || !zero_filled(depth, tree, n) {
+        return Err(Stop::NotWhole);
     }
-    if !is_intact(kind, depth, words, starts, root, tree, marks) {
-        return Answer::Stopped(Stop::NotWhole);
-    }
-    if !zero_filled(depth, tree, n) {
-        return Answer::Stopped(Stop::NotWhole);
-    }
-    Answer::Done
+    Ok(())
 }
 
-// Tests 4 and 14, then the writing, by a table that is admitted, of a source of this kind with a block of n bytes.
+// Tests 4 and 14, then the writing, by a table that is admitted and its bytes, of a source of this kind with a block of n bytes.
 fn recode_with(
     kind: Kind,
-    depth: usize,
-    table: &[u8],
-    words: &[u32],
-    starts: &[usize],
+    table: &Table,
+    bytes: &[u8],
     root: &[u8],
     n: usize,
     tree: &[u8],
@@ -97,39 +82,35 @@ fn recode_with(
     new_tree: &mut [u8],
     new_marks: &mut [u8],
     new_record: &mut [u8],
-) -> Answer
-    requires { Recodable depth n table.now words.now starts.now root.now tree.now marks.now new_tree.old new_marks.old
-        new_record.old }
+) -> Result<(), Stop>
+    requires { Recodable table.now n bytes.now root.now tree.now marks.now new_tree.old new_marks.old new_record.old }
     ensures { leaves result new_tree.new new_marks.new new_record.new
         ≡ written_by
         (test_marks marks.now
         then test_whole
-        (intact shape (symbol_hash kind) root.now (table_of words.now) tree.now marks.now
-        && zero_filled shape depth n tree.now))
-        depth (other_kind kind) table.now (take n (block_of shape depth tree.now)) new_tree.old
+        (intact shape (symbol_hash kind) root.now table.now.layers tree.now marks.now
+        && zero_filled shape table.now.depth n tree.now))
+        table.now.depth (other_kind kind) bytes.now (take n (block_of shape table.now.depth tree.now)) new_tree.old
         new_marks.old new_record.old }
 {
-    if let Answer::Stopped(s) = test_source(kind, depth, words, starts, root, n, tree, marks) {
-        return Answer::Stopped(s);
-    }
-    let from = 256 * first_place(depth - 1);
+    test_source(kind, table, root, n, tree, marks)?;
+    let from = 256 * first_place(table.depth() - 1);
     let to = from + n;
     write_with(
         other(kind),
-        depth,
         table,
-        words,
-        starts,
+        bytes,
         &tree[from..to],
         new_tree,
         new_marks,
         new_record,
     );
-    Answer::Done
+    Ok(())
 }
 
-// recode, with arrays for the table's words and index.
-fn recode_in(
+// recode, with arrays of these lengths for the table's words and index. They are on the stack of a call of this function alone.
+#[inline(never)]
+fn recode_by<const WORDS: usize, const EQUATIONS: usize>(
     depth: usize,
     root_record: &[u8],
     table: &[u8],
@@ -138,14 +119,15 @@ fn recode_in(
     new_tree: &mut [u8],
     new_marks: &mut [u8],
     new_record: &mut [u8],
-    words: &mut [u32],
-    starts: &mut [usize],
-) -> Answer
-    requires { Room depth words.old starts.old }
+) -> Result<(), Stop>
+    requires room { Room depth (replicate WORDS 0) (replicate EQUATIONS 0) }
+    requires most { (WORDS ≤ MAX_WORDS) × (EQUATIONS ≤ MAX_EQUATIONS) }
     ensures { leaves result new_tree.new new_marks.new new_record.new
         ≡ recoded depth root_record.now table.now tree.now marks.now new_tree.old
         new_marks.old new_record.old }
 {
+    let mut words = [0u32; WORDS];
+    let mut starts = [0usize; EQUATIONS];
     let sized = sizes_fit(
         depth,
         root_record.len(),
@@ -155,16 +137,13 @@ fn recode_in(
         new_marks.len(),
         new_record.len(),
     );
-    if let Answer::Stopped(s) = admit_by(depth, sized, root_record, table, words, starts) {
-        return Answer::Stopped(s);
-    }
+    admit_by(depth, sized, root_record, table, &mut words, &mut starts)?;
     let count = table.len() / 4;
+    let accepted = Table::new(depth, &words[..count], &starts);
     recode_with(
         root_record::kind(root_record),
-        depth,
+        &accepted,
         table,
-        &words[..count],
-        starts,
         &root_record[root_record::ROOT_AT..],
         root_record::size(root_record),
         tree,
@@ -173,50 +152,6 @@ fn recode_in(
         new_marks,
         new_record,
     )
-}
-
-// recode for a deeper tree.
-fn recode_deep(
-    depth: usize,
-    root_record: &[u8],
-    table: &[u8],
-    tree: &[u8],
-    marks: &[u8],
-    new_tree: &mut [u8],
-    new_marks: &mut [u8],
-    new_record: &mut [u8],
-) -> Answer
-    ensures { leaves result new_tree.new new_marks.new new_record.new
-        ≡ recoded depth root_record.now table.now tree.now marks.now new_tree.old
-        new_marks.old new_record.old }
-{
-    let mut words = [0u32; MAX_WORDS];
-    let mut starts = [0usize; MAX_EQUATIONS];
-    let answer = recode_in(
-        depth,
-        root_record,
-        table,
-        tree,
-        marks,
-        new_tree,
-        new_marks,
-        new_record,
-        &mut words,
-        &mut starts,
-    );
-    if stops_at_depth(depth, answer) {
-        return recode_deep(
-            0,
-            root_record,
-            table,
-            tree,
-            marks,
-            new_tree,
-            new_marks,
-            new_record,
-        );
-    }
-    answer
 }
 
 // Writes the source's block as a volume of the other kind, by the source's record and a table that comes as bytes: tests 1, 2, 11, 3, 10, 12, 4, 14.
@@ -230,13 +165,13 @@ pub fn recode(
     new_tree: &mut [u8],
     new_marks: &mut [u8],
     new_record: &mut [u8],
-) -> Answer
+) -> Result<(), Stop>
     ensures { leaves result new_tree.new new_marks.new new_record.new
         ≡ recoded depth root_record.now table.now tree.now marks.now new_tree.old
         new_marks.old new_record.old }
 {
     if is_deep(depth) {
-        return recode_deep(
+        return recode_by::<MAX_WORDS, MAX_EQUATIONS>(
             depth,
             root_record,
             table,
@@ -247,9 +182,7 @@ pub fn recode(
             new_record,
         );
     }
-    let mut words = [0u32; SHALLOW_WORDS];
-    let mut starts = [0usize; SHALLOW_EQUATIONS];
-    recode_in(
+    recode_by::<SHALLOW_WORDS, SHALLOW_EQUATIONS>(
         depth,
         root_record,
         table,
@@ -258,7 +191,5 @@ pub fn recode(
         new_tree,
         new_marks,
         new_record,
-        &mut words,
-        &mut starts,
     )
 }

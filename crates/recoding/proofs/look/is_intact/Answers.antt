@@ -1,23 +1,16 @@
--- `is_intact` meets its contract. The loop keeps: each layer above this one is complete.
-use mathlib.Core.Path.{◌∙◌, sym}
+-- `is_intact` meets its contract: layer by layer.
+use mathlib.Core.Path.{refl, ◌∙◌}
 use native.Mathlib.Omega.{arith}
-use borrow.Author.Count.{below_more}
-use Rattle.recoding.proofs.LookLaws.{one-incomplete, each_complete}
+use Rattle.std.proofs.Common.{rules, tests}
+use Rattle.std.proofs.lemmas.Iterator.{YieldsList-from_range}
+use Rattle.std.proofs.lemmas.Iterator.Search.{all_from_yields_List}
+use Rattle.recoding.proofs.LookLaws.{complete_at, each_complete}
 use Rattle.recoding.proofs.look.is_intact.Goals as goal
-
-pub loop-j-init : goal.loop-j-init
-loop-j-init c = (omega arith, λ k h. absurd (omega arith))
-
-pub is_complete-requires : goal.is_complete-requires
-is_complete-requires c = (c.args.depth, c.requires, c.loop-j-test.true)
-
-pub returns-then-not-is_complete : goal.returns-then-not-is_complete
-returns-then-not-is_complete c =
-    one-incomplete c.requires c.args.kind c.loop-j.j c.loop-j-test.true (sym c.is_complete.ensures ∙ c.if-not-is_complete.true)
-
-pub loop-j-preserved : goal.loop-j-preserved
-loop-j-preserved c = (omega arith, below_more _ _ c.loop-j.invariant.1 (sym c.is_complete.ensures ∙ c.if-not-is_complete.false))
 
 pub returns : goal.returns
 returns c =
-    each_complete c.requires c.args.kind (λ k h. c.loop-j.invariant.1 k (omega arith))
+    let a = c.args in
+    let kept = c.depth.ensures.kept in
+    all_from_yields_List (complete_at kept a.kind a.root.now a.tree.now a.marks.now) _ _ c.all.result c.all.ensures.ran
+    (YieldsList-from_range 0 _ a.table.now.depth refl (omega (arith, c.depth.ensures.depth))) (λ x b q k. search (rules, tests))
+    ∙ each_complete kept a.kind a.root.now a.tree.now a.marks.now

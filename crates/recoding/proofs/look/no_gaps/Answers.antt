@@ -1,33 +1,32 @@
--- `no_gaps` meets its contract. The loop keeps: no symbol before this one is a gap.
-use mathlib.Core.Path.{◌∙◌, sym, ap}
-use mathlib.Core.Bool.{not}
+-- `no_gaps` meets its contract: symbol by symbol.
+use mathlib.Core.Path.{refl, ◌∙◌}
+use Prim.Native.Nat.{ℕ, suc, ◌*◌, ◌<◌}
 use native.Mathlib.Omega.{arith}
-use borrow.Author.Count.{below_more}
+use Rattle.std.proofs.Common.{rules, tests}
+use Rattle.std.proofs.lemmas.Iterator.{YieldsList-from_range, serves_from_Range}
+use Rattle.std.proofs.lemmas.Iterator.Search.{all_from_yields_List}
 use Rattle.parity_table.specs.Shape.{n_of}
 use Rattle.parity_table.proofs.Shape.{k_small}
+use Rattle.equation.specs.Rooms.{Level}
 use Rattle.equation.proofs.TurnLaws.{level_fewer}
-use Rattle.recoding.proofs.LookLaws.{one_gap, none_gap}
+use Rattle.recoding.proofs.LookLaws.{no_gap_at, none_gap}
 use Rattle.recoding.proofs.look.no_gaps.Goals as goal
 
-pub overflow_mul-i-end : goal.overflow_mul-i-end
-overflow_mul-i-end c = omega (arith, c.data_count-i-end.ensures, k_small c.args.j c.requires.layers.layer)
+pub overflow_mul-data_count : goal.overflow_mul-data_count
+overflow_mul-data_count c = omega (arith, c.data_count.ensures, k_small c.args.j c.requires.layers.layer)
 
-pub loop-i-init : goal.loop-i-init
+pub all-requires-clause-callable : goal.all-requires-clause-callable
 unfolding n_of
-loop-i-init c = (omega arith, omega (arith, c.data_count-i-end.ensures), λ k h. absurd (omega arith))
-
-pub is_gap-requires : goal.is_gap-requires
-is_gap-requires c = level_fewer _ (omega arith) c.requires
-
-pub returns-then-is_gap : goal.returns-then-is_gap
-returns-then-is_gap c =
+all-requires-clause-callable c =
     let a = c.args in
-    one_gap a.kind a.root.now a.tree.now a.marks.now a.j c.loop-i.i (omega arith) (sym c.is_gap.ensures ∙ c.if-is_gap.true)
-
-pub loop-i-preserved : goal.loop-i-preserved
-loop-i-preserved c = let l = c.loop-i in (omega arith, l.invariant.1, below_more _ _ l.invariant.2 (ap not (sym c.is_gap.ensures ∙ c.if-is_gap.false)))
+    let fewer : (x : ℕ) → x < 4 * c.data_count.result → Level a.root.now a.tree.now a.marks.now a.j (suc x) =
+    λ x h. level_fewer (suc x) (omega (arith, c.data_count.ensures)) c.requires in
+    serves_from_Range (λ x q k. search (rules, tests)) (λ x lo hi. search (rules, fewer x hi))
 
 pub returns : goal.returns
+unfolding n_of
 returns c =
     let a = c.args in
-    none_gap a.kind a.root.now a.tree.now a.marks.now a.j (λ k h. c.loop-i.invariant.2 k (omega arith))
+    all_from_yields_List (no_gap_at a.kind a.root.now a.tree.now a.marks.now a.j) _ _ c.all.result c.all.ensures.ran
+    (YieldsList-from_range 0 _ (n_of a.j) refl (omega (arith, c.data_count.ensures))) (λ x b q k. search (rules, tests))
+    ∙ none_gap a.kind a.root.now a.tree.now a.marks.now a.j
