@@ -2,10 +2,11 @@
 use mathlib.Core.Path.{◌≡◌, refl, ap, ap₂, ◌∙◌}
 use mathlib.Core.List.{List}
 use Prim.Native.Nat.{ℕ, ◌+◌, ◌*◌, ◌^◌}
-use Rattle.sha256.specs.declared.Answer.{Answer as Hashed}
-use Rattle.sha256.specs.declared.Answer.TheVariants as hashed
+use Rattle.std.specs.Prelude.{Ok, Err}
+use Rattle.std.specs.Prelude.{Result as Answered}
+use Rattle.sha256.specs.declared.WrongLength.{WrongLength}
 use Rattle.symbol_hash.specs.declared.Kind.{Kind}
-use Rattle.calls.specs.declared.Answer.{Answer}
+use Rattle.calls.specs.Stops.{Answer}
 use Rattle.calls.specs.Stops.{Small}
 use Rattle.calls.proofs.TestLaws.{small_plain}
 use Rattle.volume_calls.specs.Writing.{TreeLeft}
@@ -19,9 +20,9 @@ use Rattle.fault_calls.specs.Repairing as repairing
 use Rattle.cedunmi_c.specs.Result.{packed, hash_answer, call_result, repair_result, tree_in_c, block_in_c, sample_in_c, repair_in_c}
 
 -- the hasher's answer has no value
-pub small_hash : (a : Hashed) → Small (hash_answer a)
-small_hash hashed.Done = small_plain refl
-small_hash hashed.Length = small_plain refl
+pub small_hash : (a : Answered Unit WrongLength) → Small (hash_answer a)
+small_hash (Ok tt) = small_plain refl
+small_hash (Err e) = small_plain refl
 
 pub packed-is : (n n' f f' s s' : ℕ) → n ≡ n' → f ≡ f' → s ≡ s' → packed n (f, s) ≡ packed n' (f', s')
 packed-is n n' f f' s s' p q r =

@@ -1,12 +1,12 @@
 -- The one number that a call returns to C. Definitions only.
-use Rattle.std.specs.Prelude.{List, ℕ, ◌+◌, ◌*◌, ◌^◌}
-use Rattle.sha256.specs.declared.Answer.{Answer as Hashed}
-use Rattle.sha256.specs.declared.Answer.TheVariants as hashed
+use Rattle.std.specs.Prelude.{List, ℕ, ◌+◌, ◌*◌, ◌^◌, Ok, Err}
+use Rattle.std.specs.Prelude.{Result as Answered}
+use Rattle.sha256.specs.declared.WrongLength.{WrongLength}
 use Rattle.symbol_hash.specs.declared.Kind.{Kind}
 use Rattle.root_record.specs.Records.{kind_in}
 use Rattle.calls.specs.declared.Stop.TheVariants.{Length}
-use Rattle.calls.specs.declared.Answer.{Answer}
-use Rattle.calls.specs.declared.Answer.TheVariants.{Done, Stopped}
+use Rattle.calls.specs.Stops.{Answer}
+use Rattle.calls.specs.Stops.{Done, Stopped}
 use Rattle.calls.specs.Stops.{number_of, values_of}
 use Rattle.volume_calls.specs.Writing.{TreeLeft}
 use Rattle.volume_calls.specs.Writing as writing
@@ -29,9 +29,9 @@ abbrev pub repair_result : Kind → Result → ℕ
 repair_result kind r = packed (result_number r) (result_values kind r)
 
 -- the hasher's answer as a call's
-abbrev pub hash_answer : Hashed → Answer
-hash_answer hashed.Done = Done
-hash_answer hashed.Length = Stopped Length
+abbrev pub hash_answer : Answered Unit WrongLength → Answer
+hash_answer (Ok tt) = Done
+hash_answer (Err e) = Stopped Length
 
 -- what a call leaves, its answer as that number
 abbrev pub tree_in_c : TreeLeft Answer → TreeLeft ℕ

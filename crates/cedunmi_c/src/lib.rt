@@ -1,7 +1,7 @@
 // The C interface, declared in include/cedunmi.h: numbers and byte slices in, one number out. `cedunmi_exports` gives these calls to C.
 #![tactic(auto)]
 
-ghost use Rattle.std.specs.Prelude.{◌≡◌, true, ◌+◌, ◌*◌, ◌^◌, ◌<◌, length};
+ghost use Rattle.std.specs.Prelude.{◌≡◌, true, ◌+◌, ◌*◌, ◌^◌, ◌<◌, length, Ok};
 ghost use Rattle.octets.specs.BigEndian.{bytes_of};
 ghost use Rattle.sha256.specs.Call.{answer, after};
 ghost use Rattle.house_table.specs.House.{house_words, house_answer, house_out};
@@ -21,9 +21,9 @@ ghost use Rattle.fault_calls.specs.Repairing as repairing;
 ghost use Rattle.recoding.specs.Recoding.{recoded};
 ghost use Rattle.cedunmi_c.specs.Result.{packed, hash_answer, call_result, repair_result, tree_in_c, block_in_c, sample_in_c, repaired_in_c};
 
-use calls::{Answer, Numbers, Stop, numbers_of};
+use calls::{Numbers, Stop, numbers_of};
 use fault_calls::{Ending, Outcome, ending_of, misfilled};
-use sha256::Answer as Hashed;
+use sha256::WrongLength;
 
 // The number in the lowest eight bits, the first value in the 24 above them, the second in the upper 32.
 fn pack(n: Numbers) -> u64
@@ -36,7 +36,7 @@ fn pack(n: Numbers) -> u64
     number + first * 256 + second * 4294967296
 }
 
-fn call_result(a: Answer) -> u64
+fn call_result(a: Result<(), Stop>) -> u64
     requires { Small a }
     ensures { result ≡ call_result a }
 {
@@ -58,25 +58,32 @@ fn end_result(e: Ending) -> u64
     })
 }
 
-fn repair_result(root_record: &[u8], o: Outcome) -> u64
-    requires { Fits (kind_in root_record.now) (outcome_of o) × Recorded (length root_record.now) (outcome_of o) }
-    ensures { result ≡ repair_result (kind_in root_record.now) (outcome_of o) }
+// A repair that came to its end, by the kind that its record says.
+fn outcome_result(root_record: &[u8], o: Outcome) -> u64
+    requires { Fits (kind_in root_record.now) (outcome_of (Ok o)) × Recorded (length root_record.now) (outcome_of (Ok o)) }
+    ensures { result ≡ repair_result (kind_in root_record.now) (outcome_of (Ok o)) }
 {
     match o {
         Outcome::Ended(r) => end_result(ending_of(root_record::kind(root_record), r)),
         Outcome::Misfilled(stored) => end_result(misfilled(stored)),
-        Outcome::Stopped(s) => call_result(Answer::Stopped(s)),
+    }
+}
+
+fn repair_result(root_record: &[u8], o: Result<Outcome, Stop>) -> u64
+    requires { Fits (kind_in root_record.now) (outcome_of o) × Recorded (length root_record.now) (outcome_of o) }
+    ensures { result ≡ repair_result (kind_in root_record.now) (outcome_of o) }
+{
+    match o {
+        Ok(outcome) => outcome_result(root_record, outcome),
+        Err(s) => call_result(Err(s)),
     }
 }
 
 // The hasher's answer as a call's.
-fn hash_answer(a: Hashed) -> Answer
+fn hash_answer(a: Result<(), WrongLength>) -> Result<(), Stop>
     ensures { result ≡ hash_answer a }
 {
-    match a {
-        Hashed::Done => Answer::Done,
-        Hashed::Length => Answer::Stopped(Stop::Length),
-    }
+    a.map_err(|_| Stop::Length)
 }
 
 // The SHA-256 of a message of at most 1,048,576 bytes into a digest of 32. 0: done; 2: a length is wrong, and nothing changed.
@@ -102,7 +109,7 @@ pub fn cmt_house_table(depth: u64, table: &mut [u8]) -> u64
         ≡ house_out (house_answer depth (length table.old) (length (house_words depth) * 4)) (bytes_of (house_words depth))
         table.old) }
 {
-    call_result(calls::answer_of(house_table::write_bytes(table, depth as usize)))
+    call_result(house_table::write_bytes(table, depth as usize).map_err(Stop::from))
 }
 
 // Writes the tree of a block, its marks and its record, as a volume of kind 0, whose symbols are hashed with their places, or 1. 1: the depth; 2: a

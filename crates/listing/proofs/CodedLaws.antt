@@ -13,7 +13,7 @@ use Rattle.parity_table.specs.Shape.{depth_fits, k_of, n_of}
 use Rattle.house_table.specs.House.{house_table, house_words, house_answer, house_out}
 use Rattle.parity_table.specs.Parse.{table_of}
 use Rattle.table_bytes.specs.Bytes.{words_of}
-use Rattle.parity_table.specs.declared.Answer.{Answer as Read}
+use Rattle.parity_table.specs.Reader.{Whole, Answer as Read}
 use Rattle.house_table.proofs.HouseRules.{house-count, house_parsed}
 use Rattle.house_table.proofs.HouseParts.{answer-whole}
 use Rattle.house_table.proofs.HouseBytes.{house-bytes-words}
@@ -22,10 +22,7 @@ use Rattle.model.specs.Writer.{write_tree}
 use Rattle.model.proofs.Filling.{filled-whole}
 use Rattle.symbol_hash.specs.SymbolHash.{symbol_hash}
 use Rattle.symbol_hash.specs.declared.Kind.TheVariants.{Plain}
-use Rattle.calls.specs.declared.Stop.{Stop}
-use Rattle.calls.specs.declared.Answer.{Answer}
-use Rattle.calls.specs.declared.Answer.TheVariants.{Done, Stopped}
-use Rattle.calls.proofs.TestLaws.{stopped_not}
+use Rattle.calls.specs.Stops.{Answer, Done}
 use Rattle.calls.proofs.AdmissionLaws.{admits}
 use Rattle.calls.proofs.Taken.{house-taken}
 use Rattle.volume_calls.specs.Writing.{TreeLeft, leaves, write_sized, tree_written}
@@ -40,12 +37,12 @@ abbrev house : List ℕ
 house = bytes_of (house_words 1)
 
 -- the writer of the house table writes it
+pub house-done : (a : Read) (lent : List ℕ) → length lent ≡ 244 → a ≡ house_answer 1 (length lent) (length (house_words 1) * 4) → a ≡ Whole
+house-done a lent l ea = ea ∙ sym (answer-whole 1 (length lent) (length (house_words 1) * 4) fits (omega (arith, house-count 1)))
+
 pub house-written : (a : Read) (lent table : List ℕ) → length lent ≡ 244 → a ≡ house_answer 1 (length lent) (length (house_words 1) * 4)
     → table ≡ house_out a house lent → table ≡ house
-house-written a lent table l ea et =
-    et
-    ∙ ap (λ (r : Read). house_out r house lent)
-    (ea ∙ sym (answer-whole 1 (length lent) (length (house_words 1) * 4) fits (omega (arith, house-count 1))))
+house-written a lent table l ea et = et ∙ ap (λ (r : Read). house_out r house lent) (house-done a lent l ea)
 
 -- its bytes say the house table
 said : table_of (words_of house) ≡ house_table 1
@@ -89,5 +86,5 @@ module _ (table b : List ℕ) (et : table ≡ house) (sized : length b ≡ 1024)
         ∙ ap (λ (tbl : List (List (List ℕ))). write_tree tree (symbol_hash Plain) tbl b (lent 4096)) said)
         ∙ sym (pick_yes (eqb (length b) 1024) (listing (coded b)) [] (eq-eqb (length b) 1024 sized))
 
-    pub never_stops : (s : Stop) → a ≡ Stopped s → ⊥
-    never_stops s d = stopped_not s (sym d ∙ ap (λ (w : TreeLeft Answer). w.answer) e ∙ answered)
+    pub block-done : a ≡ Done
+    block-done = ap (λ (w : TreeLeft Answer). w.answer) e ∙ answered

@@ -9,7 +9,6 @@ use lib.Seq.{sets, sets-eq, paste, take-paste}
 use borrow.Author.Tests.{lt-ltb, le-ltb}
 use Rattle.octets.specs.Choice.{pick}
 use Rattle.octets.specs.Hex.{hex_digit, hex_of, upper}
-use Rattle.octets.proofs.ListLaws.{length_part, part_ends}
 use Rattle.house_table.proofs.HouseParts.{four}
 use Rattle.octets.proofs.Writes.{putting_start, putting_step}
 use Rattle.model.specs.Symbols.{joined, symbol_in}
@@ -58,12 +57,10 @@ module _ (t : List ℕ) where
   line_of i = line i (symbol_in t i)
 
   -- a symbol as the code takes it
-  pub symbol-length : (i : ℕ) → 256 * i + 256 ≤ length t → length (take (256 * i + 256 - 256 * i) (drop (256 * i) t)) ≡ 256
-  symbol-length i h = ap length (part_ends t (256 * i) 256) ∙ length_part t (256 * i) 256 h
-
-  pub line_of_lem : (i : ℕ) → line i (take (256 * i + 256 - 256 * i) (drop (256 * i) t)) ≡ line_of i
+  -- of the symbol s that stands there
+  pub line_of_lem : (i : ℕ) (s : List ℕ) → s ≡ take 256 (drop (256 * i) t) → line i s ≡ line_of i
   unfolding symbol_in
-  line_of_lem i = ap (line i) (part_ends t (256 * i) 256)
+  line_of_lem i s = ap (line i)
 
   -- those from symbol i on
   unfoldable pub lines_left : ℕ → List ℕ

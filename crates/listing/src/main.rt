@@ -12,6 +12,7 @@ use std::io::Read;
 fn read_full(rt: &impl Input, buffer: &mut [u8]) -> usize
     ensures { IsPrefixLen result buffer.new }
 {
+    // not `read_exact`, which does not say how much came
     let mut n: usize = 0;
     while n < buffer.len() {
         match rt.reader().read(&mut buffer[n..]) {

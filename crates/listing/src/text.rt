@@ -4,7 +4,6 @@ ghost use Rattle.std.proofs.lemmas.List.Edits.{sets};
 ghost use Rattle.io.specs.Counts.{IsPrefixLen};
 ghost use Rattle.listing.specs.Listing.{decimal, line, listing, printed};
 
-use calls::Answer;
 use symbol_hash::Kind;
 
 // Writes a number below 100 in decimal from byte at on; answers where it ends.
@@ -14,11 +13,11 @@ fn put_number(text: &mut [u8; 96], at: usize, n: u8) -> usize
         × (text.new ≡ sets text.old at (decimal n)) }
 {
     if n < 10 {
-        text[at] = 48 + n;
+        text[at] = b'0' + n;
         return at + 1;
     }
-    text[at] = 48 + n / 10;
-    text[at + 1] = 48 + n % 10;
+    text[at] = b'0' + n / 10;
+    text[at + 1] = b'0' + n % 10;
     at + 2
 }
 
@@ -42,12 +41,9 @@ fn list(tree: &[u8; 4096], text: &mut [u8; 96])
     ensures { text.new ≡ listing tree.now }
 {
     octets::copy_at(b"tree 1 16\n", text, 0);
-    let symbols = &tree[..];
     let mut at: usize = 10;
-    for i in 0..16usize {
-        let s = 256 * i;
-        let e = s + 256;
-        at = put_line(text, at, i as u8, &symbols[s..e]);
+    for i in 0..16 {
+        at = put_line(text, at, i as u8, octets::symbol_at(tree, i));
     }
 }
 
@@ -63,8 +59,8 @@ pub fn put(input: &[u8], text: &mut [u8; 96]) -> usize
     let mut tree = [0u8; 4096];
     let mut marks = [0u8; 16];
     let mut root_record = [0u8; 556];
-    house_table::write_bytes(&mut table, 1);
-    match volume_calls::write_tree(
+    house_table::write_bytes(&mut table, 1).unwrap();
+    volume_calls::write_tree(
         1,
         Kind::Plain,
         &table,
@@ -72,11 +68,8 @@ pub fn put(input: &[u8], text: &mut [u8; 96]) -> usize
         &mut tree,
         &mut marks,
         &mut root_record,
-    ) {
-        Answer::Done => {
-            list(&tree, text);
-            96
-        }
-        Answer::Stopped(_) => 0,
-    }
+    )
+    .unwrap();
+    list(&tree, text);
+    96
 }

@@ -16,7 +16,7 @@ fn message_space() -> [u8; 1048576] {
 // Writes the SHA-256 of the message to standard output, as 64 hexadecimal digits.
 fn print_digest(rt: &impl Print, message: &[u8]) {
     let mut digest = [0u8; 32];
-    sha256::digest(message, &mut digest);
+    let _ = sha256::digest(message, &mut digest);
     let mut digits = [0u8; 64];
     octets::put_hex(&digest, &mut digits);
     let _ = rt.write_all(&digits);
@@ -67,11 +67,12 @@ fn hash_frame(rt: &(impl Input + Print), piece: &mut [u8], message: &mut [u8]) -
     hash_rest(rt, times, size as usize, piece, message)
 }
 
-// A proved loop has to end, and nothing says that the input does: the turns are counted down, from a number that no run uses up.
+// A proved loop has to end, and nothing says that the input does: the turns are counted, up to a number that no run reaches.
 fn hash_all(rt: &(impl Input + Print), piece: &mut [u8], message: &mut [u8]) {
-    let mut turns = u64::MAX;
-    while turns > 0 && hash_frame(rt, piece, message) {
-        turns -= 1;
+    for _ in 0..u64::MAX {
+        if !hash_frame(rt, piece, message) {
+            return;
+        }
     }
 }
 

@@ -2,7 +2,7 @@
 use mathlib.Core.Path.{sym, ap, subst}
 use Rattle.calls.specs.Stops.{Small}
 use Rattle.volume_calls.proofs.ReadingLaws.{small}
-use Rattle.calls.specs.declared.Answer.{Answer}
+use Rattle.calls.specs.Stops.{Answer}
 use Rattle.volume_calls.specs.Reading.{BlockLeft}
 use Rattle.cedunmi_c.proofs.ResultLaws.{block-left}
 use Rattle.cedunmi_c.proofs.cmt_block_read.Goals as goal

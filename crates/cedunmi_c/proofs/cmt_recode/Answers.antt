@@ -1,7 +1,7 @@
 -- `cmt_recode` meets its contract: what the call answers, packed, and leaves.
 use mathlib.Core.Path.{sym, ap, subst}
 use Rattle.calls.specs.Stops.{Small}
-use Rattle.calls.specs.declared.Answer.{Answer}
+use Rattle.calls.specs.Stops.{Answer}
 use Rattle.volume_calls.specs.Writing.{TreeLeft}
 use Rattle.recoding.proofs.RecodingLaws.{small}
 use Rattle.cedunmi_c.proofs.ResultLaws.{tree-left}

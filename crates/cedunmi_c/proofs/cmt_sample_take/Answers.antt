@@ -2,7 +2,7 @@
 use mathlib.Core.Path.{sym, ap, subst}
 use Rattle.calls.specs.Stops.{Small}
 use Rattle.sample_calls.proofs.TakingLaws.{small}
-use Rattle.calls.specs.declared.Answer.{Answer}
+use Rattle.calls.specs.Stops.{Answer}
 use Rattle.sample_calls.specs.Taking.{SampleLeft}
 use Rattle.cedunmi_c.proofs.ResultLaws.{sample-left}
 use Rattle.cedunmi_c.proofs.cmt_sample_take.Goals as goal

@@ -2,7 +2,7 @@
 use mathlib.Core.Path.{sym, ap, subst}
 use Rattle.calls.specs.Stops.{Small}
 use Rattle.volume_calls.proofs.WritingLaws.{small_by}
-use Rattle.calls.specs.declared.Answer.{Answer}
+use Rattle.calls.specs.Stops.{Answer}
 use Rattle.volume_calls.specs.Writing.{TreeLeft}
 use Rattle.cedunmi_c.proofs.ResultLaws.{tree-left}
 use Rattle.cedunmi_c.proofs.cmt_tree_write.Goals as goal
