@@ -10,8 +10,8 @@ use Rattle.parity_table.specs.Parse.{table_of}
 use Rattle.house_table.specs.House.{house_table, house_words}
 use Rattle.house_table.proofs.HouseRules.{house-formed, house_parsed}
 use Rattle.house_table.proofs.HouseCovered.{house_covered}
-use Rattle.calls.specs.declared.Answer.{Answer}
-use Rattle.calls.specs.declared.Answer.TheVariants.{Done}
+use Rattle.calls.specs.Stops.{Answer}
+use Rattle.calls.specs.Stops.{Done}
 use Rattle.calls.specs.Stops.{number_of, values_of}
 use Rattle.calls.proofs.AdmissionLaws.{admits}
 use Rattle.calls.proofs.Taken.{house-taken}

@@ -22,7 +22,7 @@ use Rattle.model.specs.Genuine as model
 use Rattle.model.proofs.Shapes.{place_of_lem}
 use Rattle.model.proofs.Flat.{tree-same}
 use Rattle.model.proofs.NeverLess as laws
-use Rattle.calls.specs.declared.Answer.TheVariants.{Done}
+use Rattle.calls.specs.Stops.{Done}
 use Rattle.volume_calls.specs.Writing.{tree_written}
 use Rattle.fault_calls.specs.Repairing.{Result, ended, misfilled, RepairLeft, ended_by, repair_of, repaired}
 use Rattle.guarantees.specs.Layouts.{all_symbols, tree_symbols, symbol_at, mark_at, root_part, block_start}

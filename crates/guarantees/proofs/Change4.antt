@@ -19,7 +19,7 @@ use Rattle.table_bytes.specs.Bytes.{words_of}
 use Rattle.model.specs.Sampling.{sample_size}
 use Rattle.model.proofs.Members.{every-below}
 use Rattle.model.specs.Fault.{proof_layer, proof_members, proof_length, head_ok}
-use Rattle.calls.specs.declared.Answer.{Answer}
+use Rattle.calls.specs.Stops.{Answer}
 use Rattle.calls.specs.Stops.{number_of, values_of}
 use Rattle.sample_calls.specs.Checking.{check_sized}
 use Rattle.sample_calls.proofs.CheckingLaws.{sizes as check-sizes}

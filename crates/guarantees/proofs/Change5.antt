@@ -1,4 +1,5 @@
 -- 02, CR 5: tests 11 and 12 by themselves, records written and read, and what a record binds.
+use Rattle.std.specs.Prelude.{Ok, Err}
 use mathlib.Core.Path.{◌≡◌, refl, sym, ap, ap₂, ◌∙◌, subst}
 use mathlib.Core.Logic.{◌⊎◌, ◌↔◌, ◌≢◌, inl, inr, ⊎_elim}
 use mathlib.Core.Bool.{true}
@@ -25,8 +26,8 @@ use Rattle.heads.specs.Heads.{head, kind_at}
 use Rattle.symbol_hash.specs.declared.Kind.{Kind}
 use Rattle.root_record.specs.Records.{kind_number, kind_of, kind_in, record_of, size_in, count_in, hash_in, root_in, head_right, names_table}
 use Rattle.root_record.proofs.RecordLaws.{number-back, table-parts, record_length, record_root, record_size, record_right, record_names, record_read, record_read_of}
-use Rattle.calls.specs.declared.Answer.{Answer}
-use Rattle.calls.specs.declared.Answer.TheVariants.{Done, Stopped}
+use Rattle.calls.specs.Stops.{Answer}
+use Rattle.calls.specs.Stops.{Done}
 use Rattle.calls.specs.Stops.{values_of}
 use Rattle.volume_calls.specs.Reading.{block_read}
 use Rattle.volume_calls.specs.Writing.{tree_written}
@@ -228,9 +229,9 @@ module _ (d : ℕ) (r table t m o : List ℕ) (full : block_size r ≡ block_roo
 
   never_13 : (a : Answer) (st : St) (n : ℕ) → (repaired_by a d (size_in r) st t m o).answer ≢ misfilled n
   unfolding way_of
-  never_13 Done st n e =
+  never_13 (Ok tt) st n e =
       omega (arith, ap way_of (ends_so (zero_filled tree d (size_in r) st.tree) st.stored st.end (λ q. no_filling st.tree) ∙ e))
-  never_13 (Stopped s) st n e = omega (arith, ap way_of e)
+  never_13 (Err s) st n e = omega (arith, ap way_of e)
 
   full_block : (n : ℕ) → (repaired d r table t m o).answer ≢ misfilled n
   unfolding repaired

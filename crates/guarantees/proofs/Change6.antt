@@ -3,7 +3,7 @@ use mathlib.Core.Path.{◌≡◌, refl, sym, ap, ◌∙◌, subst}
 use mathlib.Core.Logic.{◌↔◌}
 use mathlib.Core.Bool.{Bool, true, false, ◌&&◌}
 use mathlib.Core.List.{List}
-use Prim.Native.Nat.{ℕ, ◌-◌, ◌*◌, ◌%◌, ◌≤◌, ◌<◌}
+use Prim.Native.Nat.{ℕ, ◌*◌, ◌%◌, ◌≤◌, ◌<◌}
 use native.Mathlib.Omega.{arith}
 use native.Mathlib.Decide.{dec_lt}
 use lib.ListN.{length}
@@ -22,7 +22,7 @@ use Rattle.table_bytes.proofs.RoundTrip.{Words, table-words}
 use Rattle.house_table.specs.House.{house_answer}
 use Rattle.model.specs.Fault.{proof_length}
 use Rattle.calls.specs.declared.Stop.TheVariants.{Length}
-use Rattle.calls.specs.declared.Answer.TheVariants.{Done, Stopped}
+use Rattle.calls.specs.Stops.{Done, Stopped}
 use Rattle.calls.specs.Stops.{number_of}
 use Rattle.calls.specs.Tests.{test_depth, test_lengths, words_tested, admitted}
 use Rattle.calls.proofs.Taken.{bytes_tested}

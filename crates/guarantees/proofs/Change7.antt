@@ -1,6 +1,6 @@
 -- 02, CR 7: "Same bytes at another place, and recoding of old volumes."
 use mathlib.Core.Path.{◌≡◌, refl, sym, ap, ap₂, ◌∙◌}
-use mathlib.Core.Logic.{◌≢◌, ◌⊎◌, inr, ⊎_elim}
+use mathlib.Core.Logic.{◌≢◌, inr, ⊎_elim}
 use mathlib.Core.Bool.{◌&&◌}
 use mathlib.Core.List.{List, [], ◌∷◌, ◌++◌}
 use Prim.Native.Nat.{ℕ, suc, ◌+◌, ◌-◌, ◌*◌, ◌/◌, ◌%◌, ◌^◌, ◌≤◌, ◌<◌}
@@ -19,7 +19,7 @@ use Rattle.symbol_hash.specs.declared.Kind.TheVariants.{Placed}
 use Rattle.root_record.specs.Records.{kind_number, kind_in}
 use Rattle.root_record.proofs.RecordLaws.{number_small, kind_back}
 use Rattle.calls.specs.declared.Stop.TheVariants.{Record}
-use Rattle.calls.specs.declared.Answer.TheVariants.{Done, Stopped}
+use Rattle.calls.specs.Stops.{Done, Stopped}
 use Rattle.calls.specs.Tests.{◌then◌, opened, words_tested}
 use Rattle.calls.proofs.TestLaws.{stopped_not, then_done}
 use Rattle.sample_calls.specs.Checking.{sample_checked}

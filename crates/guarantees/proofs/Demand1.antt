@@ -1,4 +1,6 @@
 -- Demand 1: what each call leaves.
+use Rattle.std.specs.Prelude.{Ok, Err, Result}
+use Rattle.parity_table.specs.declared.TableError.TheVariants as table_error
 use mathlib.Core.Path.{◌≡◌, refl, sym, ap, ◌∙◌}
 use mathlib.Core.List.{List}
 use Prim.Native.Nat.{ℕ}
@@ -6,11 +8,9 @@ use native.Mathlib.Omega.{arith}
 use lib.ListN.{length, take}
 use Rattle.octets.proofs.Choice.{by_test, pick_yes, pick_no}
 use Rattle.sha256.specs.Hash.{sha256}
-use Rattle.sha256.specs.Call.{fits, answer, after}
-use Rattle.sha256.specs.declared.Answer.{Answer as Hashed}
-use Rattle.sha256.specs.declared.Answer.TheVariants as hashed
-use Rattle.parity_table.specs.declared.Answer.{Answer as Read}
-use Rattle.parity_table.specs.declared.Answer.TheVariants as read
+use Rattle.sha256.specs.Call.{fits, answer, after, wrong_length}
+use Rattle.sha256.specs.declared.WrongLength.{WrongLength}
+use Rattle.parity_table.specs.Reader.{Answer as Read}
 use Rattle.model.specs.Shape.{tree}
 use Rattle.model.specs.Symbols.{sym_at}
 use Rattle.model.specs.Writer.{written_marks, block_of}
@@ -19,8 +19,8 @@ use Rattle.model.specs.Sampling.{sample_bytes}
 use Rattle.symbol_hash.specs.declared.Kind.{Kind}
 use Rattle.root_record.specs.Records.{kind_of, kind_in, size_in}
 use Rattle.calls.specs.declared.Stop.{Stop}
-use Rattle.calls.specs.declared.Answer.{Answer}
-use Rattle.calls.specs.declared.Answer.TheVariants.{Done, Stopped}
+use Rattle.calls.specs.Stops.{Answer}
+use Rattle.calls.specs.Stops.{Done, Stopped}
 use Rattle.calls.specs.Stops.{number_of}
 use Rattle.calls.specs.Tests.{read_answer}
 use Rattle.calls.proofs.TestLaws.{stopped_not}
@@ -41,44 +41,44 @@ made old new = record { described = λ e. refl; untouched = λ n. absurd (n refl
 kept : (s : Stop) (old new : List ℕ) → Condition (Stopped s ≡ Done) old new old
 kept s old new = record { described = λ e. absurd (stopped_not s e); untouched = λ n. refl }
 
-hasher : (m d : List ℕ) → Condition (answer m d ≡ hashed.Done) d (sha256 m) (after m d)
+hasher : (m d : List ℕ) → Condition (answer m d ≡ Ok tt) d (sha256 m) (after m d)
 unfolding answer after
 hasher m d =
     by_test (fits m d)
     (λ t.
-    record { described = λ q. pick_yes (fits m d) (sha256 m) d t; untouched = λ n. absurd (n (pick_yes (fits m d) hashed.Done hashed.Length t)) })
+    record { described = λ q. pick_yes (fits m d) (sha256 m) d t; untouched = λ n. absurd (n (pick_yes (fits m d) (Ok tt) (Err wrong_length) t)) })
     (λ t.
     record {
-      described = λ q. absurd (omega (arith, ap (λ (a : Hashed). number_of (hash_answer a)) (sym (pick_no (fits m d) hashed.Done hashed.Length t) ∙ q)));
+      described = λ q. absurd (omega (arith, ap (λ (a : Result Unit WrongLength). number_of (hash_answer a)) (sym (pick_no (fits m d) (Ok tt) (Err wrong_length) t) ∙ q)));
       untouched = λ n. pick_no (fits m d) (sha256 m) d t;
     })
 
 house : (new lent : List ℕ) (a : Read) → HouseWriter new lent a
-house new lent read.Depth = record { described = λ e. absurd (omega (arith, ap (λ (r : Read). number_of (read_answer r)) e)); untouched = λ n. refl }
-house new lent read.Length = record { described = λ e. absurd (omega (arith, ap (λ (r : Read). number_of (read_answer r)) e)); untouched = λ n. refl }
-house new lent (read.Wrong i) = record { described = λ e. absurd (omega (arith, ap (λ (r : Read). number_of (read_answer r)) e)); untouched = λ n. refl }
-house new lent read.Whole = record { described = λ e. refl; untouched = λ n. absurd (n refl) }
+house new lent (Err table_error.Depth) = record { described = λ e. absurd (omega (arith, ap (λ (r : Read). number_of (read_answer r)) e)); untouched = λ n. refl }
+house new lent (Err table_error.Length) = record { described = λ e. absurd (omega (arith, ap (λ (r : Read). number_of (read_answer r)) e)); untouched = λ n. refl }
+house new lent (Err (table_error.Wrong i)) = record { described = λ e. absurd (omega (arith, ap (λ (r : Read). number_of (read_answer r)) e)); untouched = λ n. refl }
+house new lent (Ok tt) = record { described = λ e. refl; untouched = λ n. absurd (n refl) }
 
 tree_writer : (depth : ℕ) (kind : Kind) (table block t m r : List ℕ) (a : Answer)
     → TreeWriter depth kind table block t m r (written_by a depth kind table block t m r)
-tree_writer depth kind table block t m r Done =
+tree_writer depth kind table block t m r (Ok tt) =
     record { tree-bytes = made t (written_tree depth kind table block t); mark-bytes = made m (written_marks tree depth); record_bytes_lem = made r (written_record depth kind table block t) }
-tree_writer depth kind table block t m r (Stopped s) = record { tree-bytes = kept s t _; mark-bytes = kept s m _; record_bytes_lem = kept s r _ }
+tree_writer depth kind table block t m r (Err s) = record { tree-bytes = kept s t _; mark-bytes = kept s m _; record_bytes_lem = kept s r _ }
 
 block_reader : (depth : ℕ) (r t b : List ℕ) (a : Answer) → Condition ((read_by a depth r t b).answer ≡ Done) b (block_given depth r t b) (read_by a depth r t b).block
-block_reader depth r t b Done = made b (block_given depth r t b)
-block_reader depth r t b (Stopped s) = kept s b _
+block_reader depth r t b (Ok tt) = made b (block_given depth r t b)
+block_reader depth r t b (Err s) = kept s b _
 
 sampler : (depth i : ℕ) (t s : List ℕ) (a : Answer)
     → Condition ((taken_by a depth i t s).answer ≡ Done) s (sample_bytes tree (sym_at tree t) depth i) (taken_by a depth i t s).sample
-sampler depth i t s Done = made s (sample_bytes tree (sym_at tree t) depth i)
-sampler depth i t s (Stopped w) = kept w s _
+sampler depth i t s (Ok tt) = made s (sample_bytes tree (sym_at tree t) depth i)
+sampler depth i t s (Err w) = kept w s _
 
 repairer : (depth : ℕ) (r table t m o : List ℕ) (a : Answer) → Repairer r table t m o a (repaired_by a depth (size_in r) (repair_of r table t m o) t m o)
-repairer depth r table t m o Done =
+repairer depth r table t m o (Ok tt) =
     let st : St = repair_of r table t m o in
     record { tree-bytes = made t st.tree; mark-bytes = made m st.marks; out-bytes = made o st.out }
-repairer depth r table t m o (Stopped s) = record { tree-bytes = kept s t _; mark-bytes = kept s m _; out-bytes = kept s o _ }
+repairer depth r table t m o (Err s) = record { tree-bytes = kept s t _; mark-bytes = kept s m _; out-bytes = kept s o _ }
 
 -- ---- the demand
 

@@ -41,8 +41,8 @@ use Rattle.sampling.proofs.SymbolLaws.{in_tree, sample-place_lt}
 use Rattle.model.proofs.Samples.{accepted-leads, leads-accepted, taken-length, taken-accepted, accepted_true}
 use Rattle.root_record.specs.Records.{kind_in, record_of, size_in, root_in, head_right, names_table}
 use Rattle.root_record.proofs.RecordLaws.{record_kind, record_length, record_root, record_size, record_right, record_names, head-parts}
-use Rattle.calls.specs.declared.Answer.{Answer}
-use Rattle.calls.specs.declared.Answer.TheVariants.{Done}
+use Rattle.calls.specs.Stops.{Answer}
+use Rattle.calls.specs.Stops.{Done}
 use Rattle.calls.specs.Stops.{number_of}
 use Rattle.calls.specs.Marks.{lowest_bad}
 use Rattle.volume_calls.specs.Reading.{BlockLeft, read_sized, lowest_absent, test_base, block_given, block_read}

@@ -1,4 +1,5 @@
 -- Demand 3: the checker is sound, and every repair of well-formed input ends in one of four ways, or whole but misfilled.
+use Rattle.std.specs.Prelude.{Ok, Err}
 use mathlib.Core.Path.{◌≡◌, refl, sym, ap, ap₂, ◌∙◌, subst}
 use mathlib.Core.Logic.{◌⊎◌, ◌↔◌, ◌≢◌, inl, inr, ⊎_elim}
 use mathlib.Core.Bool.{Bool, true, false, not, ◌&&◌, ◌||◌}
@@ -31,9 +32,9 @@ use Rattle.model.proofs.Shapes.{place_lt}
 use Rattle.model.proofs.Flat.{sym_at-length}
 use Rattle.model.proofs.Filling.{zero_is, not_zero}
 use Rattle.root_record.specs.Records.{kind_in, size_in, root_in}
-use Rattle.calls.specs.declared.Answer.{Answer}
+use Rattle.calls.specs.Stops.{Answer}
 use Rattle.calls.specs.declared.Stop.{Stop}
-use Rattle.calls.specs.declared.Answer.TheVariants.{Done, Stopped}
+use Rattle.calls.specs.Stops.{Done, Stopped}
 use Rattle.fault_calls.specs.Repairing.{Result, ended, misfilled, stopped, repair_sized, end_number, ended_by, repair_tested, repair_of, repaired_by, repaired}
 use Rattle.calls.specs.Marks.{lowest_bad}
 use Rattle.fault_calls.proofs.Sound.{checker_sound}
@@ -177,14 +178,14 @@ ends_way blank s (twins j n) = omega arith
 
 stops_so : (a : Answer) (d n : ℕ) (st : St) (t m o : List ℕ) (s : Stop) → (repaired_by a d n st t m o).answer ≡ stopped s → a ≡ Stopped s
 unfolding way_of stop_of
-stops_so Done d n st t m o s e = absurd (omega (arith, ends_way (zero_filled tree d n st.tree) st.stored st.end, ap way_of e))
-stops_so (Stopped w) d n st t m o s e = ap Stopped (ap (stop_of s) e)
+stops_so (Ok tt) d n st t m o s e = absurd (omega (arith, ends_way (zero_filled tree d n st.tree) st.stored st.end, ap way_of e))
+stops_so (Err w) d n st t m o s e = ap Stopped (ap (stop_of s) e)
 
 -- and 13 comes of input that passed the tests
 went_on : (a : Answer) (d n : ℕ) (st : St) (t m o : List ℕ) (s : ℕ) → (repaired_by a d n st t m o).answer ≡ misfilled s → a ≡ Done
 unfolding way_of
-went_on Done d n st t m o s e = refl
-went_on (Stopped w) d n st t m o s e = absurd (omega (arith, ap way_of e))
+went_on (Ok tt) d n st t m o s e = refl
+went_on (Err w) d n st t m o s e = absurd (omega (arith, ap way_of e))
 
 pub passed_13 : (d : ℕ) (r table t m o : List ℕ) (s : ℕ) → (repaired d r table t m o).answer ≡ misfilled s → repair_tested d r table t m o ≡ Done
 unfolding repaired

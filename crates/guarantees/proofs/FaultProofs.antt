@@ -27,8 +27,8 @@ use Rattle.model.proofs.Ways.{after_at}
 use Rattle.model.proofs.ProofWays.{FirstBreaks, WaysSay, ways_say, ways_are}
 use Rattle.calls.specs.declared.Stop.{Stop}
 use Rattle.calls.specs.declared.Stop.TheVariants.{Length, Head, NoFault}
-use Rattle.calls.specs.declared.Answer.{Answer}
-use Rattle.calls.specs.declared.Answer.TheVariants.{Done, Stopped}
+use Rattle.calls.specs.Stops.{Answer}
+use Rattle.calls.specs.Stops.{Done, Stopped}
 use Rattle.calls.specs.Stops.{number_of, values_of}
 use Rattle.fault_calls.specs.Checking.{proof_sized, judged, proof_checked}
 use Rattle.root_record.specs.Records.{kind_in, root_in}

@@ -24,7 +24,7 @@ use Rattle.model.proofs.Shapes.{tree_ok, place_of_lem}
 use Rattle.model.proofs.Frame.{byte-below}
 use Rattle.model.proofs.FourEnds.{repair-final}
 use Rattle.model.proofs.Genuine.{genuine-end}
-use Rattle.calls.specs.declared.Answer.TheVariants.{Done}
+use Rattle.calls.specs.Stops.{Done}
 use Rattle.fault_calls.specs.Repairing.{ended, end_number, repair_tested, repair_of, repaired}
 use Rattle.fault_calls.proofs.RepairingLaws.{formed}
 use Rattle.guarantees.specs.Layouts.{all_symbols, mark_at, root_part}
@@ -32,7 +32,7 @@ use Rattle.guarantees.specs.Trees.{Hasher, members, AgreesWith}
 use Rattle.guarantees.specs.Terms.{equations_of}
 use Rattle.guarantees.specs.Refusals.{TreeLengths, OutputLength}
 use Rattle.guarantees.specs.Demand3.{Repair, EndsWhole, EndsMisfilled, EndsFault, EndsUnavailable, EndsTwins}
-use Rattle.guarantees.specs.Change12.{Genuine, GenuineInput, Completes, StopsIn, GenuineEnds, Stuck, NoneStuck, FirstStuck, ByPlaces}
+use Rattle.guarantees.specs.Change12.{GenuineInput, Completes, StopsIn, GenuineEnds, Stuck, NoneStuck, FirstStuck, ByPlaces}
 use Rattle.guarantees.proofs.Layouts.{tree-symbols, symbol_at_lem, mark_at_lem}
 use Rattle.guarantees.proofs.Trees.{hash_in_lem, with_agrees}
 use Rattle.guarantees.proofs.Refusals.{absent_said}

@@ -46,7 +46,7 @@ use Rattle.model.proofs.Hashes.{column_lt}
 use Rattle.model.proofs.Tables.{table_laws}
 use Rattle.model.proofs.FaultWriter.{GoodProof, proof_good}
 use Rattle.model.proofs.Sound.{accepted-is}
-use Rattle.calls.specs.declared.Answer.TheVariants.{Done}
+use Rattle.calls.specs.Stops.{Done}
 use Rattle.fault_calls.specs.Checking.{proof_sized, judged, proof_checked}
 use Rattle.root_record.specs.Records.{record_of, kind_in, root_in, head_right, names_table}
 use Rattle.root_record.proofs.RecordLaws.{record_length, record_kind, record_root, record_right, record_names}

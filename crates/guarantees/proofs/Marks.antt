@@ -16,10 +16,10 @@ use Rattle.model.specs.Repair.{absent_at}
 use Rattle.model.specs.Sampling.{sample_size, sample_layer, sample_number}
 use Rattle.model.proofs.Shapes.{tree_ok, place_lt}
 use Rattle.model.proofs.Counts.{lowest-is}
-use Rattle.sampling.specs.Absent.{absent, found_below, first_absent}
+use Rattle.sampling.specs.Absent.{absent, first_absent}
 use Rattle.sampling.specs.Lent.{BaseSymbol}
 use Rattle.sampling.proofs.SymbolLaws.{sample-place_lt}
-use Rattle.sampling.specs.declared.Found.TheVariants.{At, Nothing}
+use Rattle.std.specs.Prelude.{Some, None}
 use Rattle.calls.specs.Marks.{is_bad, lowest_bad}
 use Rattle.volume_calls.specs.Reading.{lowest_absent}
 use Rattle.calls.proofs.MarkLaws.{bad_no}
@@ -60,8 +60,8 @@ module _ (depth : ℕ) (some : 1 ≤ depth) (m : List ℕ) (held : (p : ℕ) →
         | no q ↦ omega arith
       ]
 
-  pub none_needed : (i : ℕ) → BaseSymbol depth i → first_absent depth i m ≡ Nothing
-  unfolding first_absent found_below absent absent_at
+  pub none_needed : (i : ℕ) → BaseSymbol depth i → first_absent depth i m ≡ None
+  unfolding first_absent absent absent_at
   none_needed i base =
       let low = lowest-is (absent depth i m) 0 (sample_size depth) in
       let x : ℕ = lowest (absent depth i m) 0 (sample_size depth) in
@@ -75,4 +75,4 @@ module _ (depth : ℕ) (some : 1 ≤ depth) (m : List ℕ) (held : (p : ℕ) →
             (held (place tree (sample_layer depth x) (sample_number tree depth i x)) (sample-place_lt depth i x base q)))))
         | no q ↦ omega arith
       ] in
-      pick_no (ltb x (sample_size depth)) (At x) Nothing (le-ltb x (sample_size depth) past)
+      pick_no (ltb x (sample_size depth)) (Some x) None (le-ltb x (sample_size depth) past)

@@ -14,8 +14,8 @@ use Rattle.table_bytes.specs.Bytes.{length_fits}
 use Rattle.root_record.specs.Records.{head_right, names_table}
 use Rattle.volume_calls.specs.Writing.{write_sized}
 use Rattle.fault_calls.specs.Checking.{proof_sized}
-use Rattle.calls.specs.declared.Answer.{Answer}
-use Rattle.calls.specs.declared.Answer.TheVariants.{Done}
+use Rattle.calls.specs.Stops.{Answer}
+use Rattle.calls.specs.Stops.{Done}
 use Rattle.calls.specs.Tests.{◌then◌}
 use Rattle.calls.proofs.AdmissionLaws.{TableTaken}
 use Rattle.calls.proofs.TestLaws.{marks-right}

@@ -29,8 +29,8 @@ use Rattle.model.proofs.Flat.{tree-same}
 use Rattle.model.proofs.Binding.{hashes}
 use Rattle.model.proofs.Writer.{block-symbol, marks-one, marks-length}
 use Rattle.model.proofs.Filling.{length-block, zero_filled_lem, back-filled, zero_is}
-use Rattle.calls.specs.declared.Answer.{Answer}
-use Rattle.calls.specs.declared.Answer.TheVariants.{Done, Stopped}
+use Rattle.calls.specs.Stops.{Answer}
+use Rattle.calls.specs.Stops.{Done, Stopped}
 use Rattle.calls.specs.declared.Stop.TheVariants.{NotWhole}
 use Rattle.calls.specs.Stops.{number_of}
 use Rattle.calls.specs.Tests.{◌then◌, admitted_by, test_marks}

@@ -1,4 +1,6 @@
 -- Every call answers as its tests say: with which number and values, and just when.
+use Rattle.std.specs.Prelude.{Ok, Err, Result}
+use Rattle.parity_table.specs.declared.TableError.TheVariants as table_error
 use mathlib.Core.Path.{◌≡◌, refl, sym, ap, ap₂, ◌∙◌, subst}
 use mathlib.Core.Logic.{◌≢◌}
 use mathlib.Core.Bool.{Bool, true, false, not, ◌&&◌, true≢false}
@@ -12,20 +14,17 @@ use borrow.Author.Tests.{ltb-true, ltb-false, leb-true, eqb-true, eqb-false, lt-
 use Rattle.octets.specs.Choice.{pick}
 use Rattle.octets.proofs.Choice.{by_test, pick_ind, and_yes, yes_and, both, not_yes}
 use Rattle.sha256.specs.Call.{longest, fits, answer}
-use Rattle.sha256.specs.declared.Answer.{Answer as Hashed}
-use Rattle.sha256.specs.declared.Answer.TheVariants as hashed
+use Rattle.sha256.specs.declared.WrongLength.{WrongLength}
 use Rattle.parity_table.specs.Shape.{depth_fits, k_of, n_of}
-use Rattle.parity_table.specs.declared.Answer.{Answer as Read}
-use Rattle.parity_table.specs.declared.Answer.TheVariants as read
+use Rattle.parity_table.specs.Reader.{Answer as Read}
+use Rattle.parity_table.specs.Reader as read
 use Rattle.parity_table.specs.Right.{Right}
 use Rattle.parity_table.specs.Reader.{read_of}
 use Rattle.table_bytes.specs.Bytes.{length_fits, words_of}
 use Rattle.parity_table.specs.Table.{TableOk}
 use Rattle.parity_table.specs.Parse.{table_of}
 use Rattle.parity_table.proofs.Parse.{formed-rules}
-use Rattle.coverage.specs.declared.Coverage.{Coverage}
-use Rattle.coverage.specs.declared.Coverage.TheVariants as coverage
-use Rattle.coverage.specs.Coverage.{coverage_of, Right as Covers}
+use Rattle.coverage.specs.Coverage.{Coverage, Covered, UncoveredAt, coverage_of, Right as Covers}
 use Rattle.coverage.proofs.Right.{coverage_right, covered_found, not_covered, first_unique as thin-unique}
 use Rattle.house_table.specs.House.{house_words, house_answer}
 use Rattle.parity_table.proofs.Shape.{depth_is}
@@ -42,15 +41,15 @@ use Rattle.model.proofs.Shapes.{place_lt}
 use Rattle.model.proofs.Samples.{Fit, all_fit, BrokenSample, sample-breaks}
 use Rattle.symbol_hash.specs.SymbolHash.{symbol_hash}
 use Rattle.symbol_hash.specs.declared.Kind.{Kind}
-use Rattle.sampling.specs.declared.Found.TheVariants.{At, Nothing}
-use Rattle.sampling.specs.Absent.{absent, found_below, first_absent}
+use Rattle.std.specs.Prelude.{Some, None}
+use Rattle.sampling.specs.Absent.{absent, first_absent}
 use Rattle.sampling.specs.Lent.{BaseSymbol}
 use Rattle.sampling.proofs.SymbolLaws.{sample-place_lt}
 use Rattle.root_record.specs.Records.{kind_in, root_in, head_right, names_table}
 use Rattle.calls.specs.declared.Stop.{Stop}
 use Rattle.calls.specs.declared.Stop.TheVariants.{Depth, Length, Table, Mark, Number, Head, Hash, NoFault, Absent, Uncovered, Record, OtherTable, NotWhole}
-use Rattle.calls.specs.declared.Answer.{Answer}
-use Rattle.calls.specs.declared.Answer.TheVariants.{Done, Stopped}
+use Rattle.calls.specs.Stops.{Answer}
+use Rattle.calls.specs.Stops.{Done, Stopped}
 use Rattle.calls.specs.Stops.{number_of, values_of}
 use Rattle.calls.specs.Marks.{is_bad}
 use Rattle.calls.specs.Lengths.{tree_sized, block_fits, block_sized, record_sized, sample_sized}
@@ -98,12 +97,12 @@ depth-wrong d f r = true≢false (sym (depth-fits d r) ∙ f)
 -- ---- one test after another
 
 pub then_assoc : (a b c : Answer) → ((a then b) then c) ≡ (a then b then c)
-then_assoc Done b c = refl
-then_assoc (Stopped s) b c = refl
+then_assoc (Ok tt) b c = refl
+then_assoc (Err s) b c = refl
 
 then_none : (a : Answer) → (a then Done) ≡ a
-then_none Done = refl
-then_none (Stopped s) = refl
+then_none (Ok tt) = refl
+then_none (Err s) = refl
 
 -- a test without a value, by a test that says whether it is right
 by_right : (k : ℕ) {later : ℕ → ℕ × ℕ → Type 0} (R : Type 0) (b : Bool) (w : Stop) (a : Answer) → number_of (Stopped w) ≡ k → values_of (Stopped w) ≡ (0, 0)
@@ -141,19 +140,19 @@ module _ (d : ℕ) (f : depth_fits d ≡ true) where
   words-cases P ws wrong whole = go (read_of d ws) (read_right d ws)
     where
       go : (r : Read) → Right d ws r → P r
-      go read.Depth x = absurd (both f x)
-      go read.Length x = absurd x
-      go (read.Wrong i) x = wrong i (first-wrong d ws i x.1)
-      go read.Whole x = whole (formed-right d ws x.1)
+      go (Err table_error.Depth) x = absurd (both f x)
+      go (Err table_error.Length) x = absurd x
+      go (Err (table_error.Wrong i)) x = wrong i (first-wrong d ws i x.1)
+      go (Ok tt) x = whole (formed-right d ws x.1)
 
 -- the coverage of one that keeps the rules
-pub cover_cases : (d : ℕ) (tbl : List (List (List ℕ))) (P : Coverage → Type 0) → TableOk d tbl → ((j i : ℕ) → FirstNotInTwo d tbl j i → P (coverage.Uncovered j i))
-    → (AllInTwo d tbl → P coverage.Covered) → P (coverage_of d tbl)
+pub cover_cases : (d : ℕ) (tbl : List (List (List ℕ))) (P : Coverage → Type 0) → TableOk d tbl → ((j i : ℕ) → FirstNotInTwo d tbl j i → P (UncoveredAt j i))
+    → (AllInTwo d tbl → P Covered) → P (coverage_of d tbl)
 cover_cases d tbl P o thin all = go (coverage_of d tbl) (coverage_right d tbl o)
   where
     go : (c : Coverage) → Covers d tbl c → P c
-    go coverage.Covered x = all (covered_all d tbl x)
-    go (coverage.Uncovered j i) x = thin j i (first_not d tbl j i x)
+    go (Ok tt) x = all (covered_all d tbl x)
+    go (Err u) x = thin u.layer u.symbol (first_not d tbl u.layer u.symbol x)
 
 -- tests 3 and 10, of words at a depth that fits
 module _ (d : ℕ) (ws : List ℕ) {later : ℕ → ℕ × ℕ → Type 0} where
@@ -324,7 +323,7 @@ module _ (m : List ℕ) (j i : ℕ) (low : get_or m (place tree j i) 0 ≤ 1) wh
 hasher : (m d : List ℕ) → Just (hash_answer (answer m d)) (hash_tests m d)
 unfolding answer fits
 hasher m d =
-    pick_ind (λ (a : Hashed). Just (hash_answer a) (hash_tests m d)) (leb (length m) longest && eqb (length d) 32)
+    pick_ind (λ (a : Result Unit WrongLength). Just (hash_answer a) (hash_tests m d)) (leb (length m) longest && eqb (length d) 32)
     (λ t.
     let (p, q) = and_yes (leb (length m) longest) (eqb (length d) 32) t in
     passes-unless (leb-true (length m) longest p, eqb-true (length d) 32 q) all_done)
@@ -448,7 +447,7 @@ sampled_number_lem d i (suc y) =
 sampled_mark : (d i x : ℕ) (m : List ℕ) → mark_at m (sampled_layer d x) (sampled_number d i x) ≡ get_or m (place tree (sample_layer d x) (sample_number tree d i x)) 0
 sampled_mark d i x m = ap₂ (λ (l n : ℕ). mark_at m l n) (sampled_layer_lem d x) (sampled_number_lem d i x) ∙ mark_at_lem m (sample_layer d x) (sample_number tree d i x)
 
-needed-pick : (b : Bool) (x : ℕ) → (pick b (Stopped (Absent x)) Done then Done) ≡ needed (pick b (At x) Nothing)
+needed-pick : (b : Bool) (x : ℕ) → (pick b (Stopped (Absent x)) Done then Done) ≡ needed (pick b (Some x) None)
 unfolding pick
 needed-pick true x = refl
 needed-pick false x = refl
@@ -469,7 +468,7 @@ module _ (d i : ℕ) (t m s : List ℕ) where
         absent-seen m (sample_layer d x) (sample_number tree d i x) low_sampled (sym (sampled_mark d i x m) ∙ e)
 
   sampler : Just (sample_taken d i t m s).answer (sampler_tests d i t m s)
-  unfolding first_absent found_below k_of n_of
+  unfolding first_absent k_of n_of
   sampler =
       subst (λ (z : Answer). Just z (sampler_tests d i t m s)) (sym (sample-answer d i t m s))
       (by_opened d (TreeLengths d t m × SampleLength d s) (take_sized d (length t) (length m) (length s))
@@ -686,30 +685,30 @@ module _ (d : ℕ) (r table t m t' m' r' : List ℕ) where
 -- ---- the number 0
 
 pub done-only : (a : Answer) → number_of a ≡ 0 → a ≡ Done
-done-only Done e = refl
-done-only (Stopped Depth) e = absurd (omega arith)
-done-only (Stopped Length) e = absurd (omega arith)
-done-only (Stopped (Table i)) e = absurd (omega arith)
-done-only (Stopped (Mark p)) e = absurd (omega arith)
-done-only (Stopped Number) e = absurd (omega arith)
-done-only (Stopped Head) e = absurd (omega arith)
-done-only (Stopped (Hash l p)) e = absurd (omega arith)
-done-only (Stopped NoFault) e = absurd (omega arith)
-done-only (Stopped (Absent x)) e = absurd (omega arith)
-done-only (Stopped (Uncovered j i)) e = absurd (omega arith)
-done-only (Stopped Record) e = absurd (omega arith)
-done-only (Stopped OtherTable) e = absurd (omega arith)
-done-only (Stopped NotWhole) e = absurd (omega arith)
+done-only (Ok tt) e = refl
+done-only (Err Depth) e = absurd (omega arith)
+done-only (Err Length) e = absurd (omega arith)
+done-only (Err (Table i)) e = absurd (omega arith)
+done-only (Err (Mark p)) e = absurd (omega arith)
+done-only (Err Number) e = absurd (omega arith)
+done-only (Err Head) e = absurd (omega arith)
+done-only (Err (Hash l p)) e = absurd (omega arith)
+done-only (Err NoFault) e = absurd (omega arith)
+done-only (Err (Absent x)) e = absurd (omega arith)
+done-only (Err (Uncovered j i)) e = absurd (omega arith)
+done-only (Err Record) e = absurd (omega arith)
+done-only (Err OtherTable) e = absurd (omega arith)
+done-only (Err NotWhole) e = absurd (omega arith)
 
 whole-only : (a : Read) → number_of (read_answer a) ≡ 0 → a ≡ read.Whole
-whole-only read.Depth e = absurd (omega arith)
-whole-only read.Length e = absurd (omega arith)
-whole-only (read.Wrong i) e = absurd (omega arith)
-whole-only read.Whole e = refl
+whole-only (Err table_error.Depth) e = absurd (omega arith)
+whole-only (Err table_error.Length) e = absurd (omega arith)
+whole-only (Err (table_error.Wrong i)) e = absurd (omega arith)
+whole-only (Ok tt) e = refl
 
-hashed-only : (a : Hashed) → number_of (hash_answer a) ≡ 0 → a ≡ hashed.Done
-hashed-only hashed.Done e = refl
-hashed-only hashed.Length e = absurd (omega arith)
+hashed-only : (a : Result Unit WrongLength) → number_of (hash_answer a) ≡ 0 → a ≡ Ok tt
+hashed-only (Ok tt) e = refl
+hashed-only (Err w) e = absurd (omega arith)
 
 -- ---- all of them
 
@@ -718,7 +717,7 @@ refusals =
     record {
       done_call = λ a. (done-only a, λ e. ap number_of e);
       done-read = λ a. (whole-only a, λ e. ap (λ (r : Read). number_of (read_answer r)) e);
-      done-hash = λ a. (hashed-only a, λ e. ap (λ (h : Hashed). number_of (hash_answer h)) e);
+      done-hash = λ a. (hashed-only a, λ e. ap (λ (h : Result Unit WrongLength). number_of (hash_answer h)) e);
       hasher = hasher;
       table-words = table-words;
       table-bytes = table-bytes;

@@ -34,8 +34,8 @@ use Rattle.model.proofs.Filling.{filled-whole, full-filled}
 use Rattle.sha256.specs.Hash.{sha256}
 use Rattle.root_record.specs.Records.{kind_number, record_of, kind_in, size_in, root_in, head_right, names_table}
 use Rattle.root_record.proofs.RecordLaws.{record_length, record_kind as of-kind, record_root, record_size, record_right as of_right, record_names as of-names}
-use Rattle.calls.specs.declared.Answer.{Answer}
-use Rattle.calls.specs.declared.Answer.TheVariants.{Done}
+use Rattle.calls.specs.Stops.{Answer}
+use Rattle.calls.specs.Stops.{Done}
 use Rattle.calls.specs.Marks.{is_bad, lowest_bad}
 use Rattle.volume_calls.specs.Writing.{write_sized, tree_written}
 use Rattle.fault_calls.specs.Repairing.{Result, ended, misfilled, RepairLeft, leaves, repair_sized, ended_by, repair_tested, repair_of, repaired_by, repaired}

@@ -1,4 +1,5 @@
 -- What a C program reads from the number that a call returns is what the call answered, and from a record what the calls read.
+use Rattle.std.specs.Prelude.{Ok, Err}
 use mathlib.Core.Path.{◌≡◌, refl, sym, ap, ap₂, ◌∙◌, subst}
 use mathlib.Core.Logic.{◌≢◌}
 use mathlib.Core.Bool.{Bool, true, false}
@@ -21,8 +22,8 @@ use Rattle.root_record.specs.Records.{kind_number, kind_in, size_in, root_in}
 use Rattle.symbol_hash.specs.SymbolHash.{symbol_hash}
 use Rattle.symbol_hash.specs.declared.Kind.{Kind}
 use Rattle.symbol_hash.specs.declared.Kind.TheVariants.{Plain, Placed}
-use Rattle.calls.specs.declared.Answer.{Answer}
-use Rattle.calls.specs.declared.Answer.TheVariants.{Done, Stopped}
+use Rattle.calls.specs.Stops.{Answer}
+use Rattle.calls.specs.Stops.{Done, Stopped}
 use Rattle.calls.specs.Stops.{number_of, values_of, Small}
 use Rattle.calls.specs.Tests.{read_answer}
 use Rattle.calls.proofs.AdmissionLaws.{small_read, small_admitted}
@@ -69,8 +70,8 @@ said_house depth n =
 -- a call that stopped
 of_refusal : (kind : Kind) (a : Answer) (d n : ℕ) (st : St) (t m o : List ℕ) → Small a → a ≢ Done
     → Says (repair_result kind (repaired_by a d n st t m o).answer) (number_of a) (values_of a)
-of_refusal kind Done d n st t m o s x = absurd (x refl)
-of_refusal kind (Stopped w) d n st t m o s x = said (Stopped w) s
+of_refusal kind (Ok tt) d n st t m o s x = absurd (x refl)
+of_refusal kind (Err w) d n st t m o s x = said (Stopped w) s
 
 no_end : (kind : Kind) (a : Answer) (d n : ℕ) (st : St) (t m o : List ℕ) → Small a → a ≢ Done → SaysNoEnd (repair_result kind (repaired_by a d n st t m o).answer)
 no_end kind a d n st t m o s x =
@@ -186,11 +187,11 @@ module _ (depth : ℕ) (r table t m o : List ℕ) where
   repair_said : (a : Answer) → repair_tested depth r table t m o ≡ a → a ≡ Done → (n : ℕ)
       → Fits (kind_in r) (repaired_by a depth n (repair_of r table t m o) t m o).answer
       → Said (kind_in r) (repaired_by a depth n (repair_of r table t m o) t m o).answer
-  repair_said Done e d n f =
+  repair_said (Ok tt) e d n f =
       let st : St = repair_of r table t m o in
       ended_said (kind_in r) (zero_filled tree depth n st.tree) st.stored st.end f
       (ended_not (kind_in r) (root_in r) (equations_of table) t m o st st.end (four_ways depth r table t m o e).ends) (twins-low e)
-  repair_said (Stopped w) e d n f = absurd (stopped_not w d)
+  repair_said (Err w) e d n f = absurd (stopped_not w d)
 
 -- ---- records
 

@@ -1,6 +1,6 @@
 -- A tree that a repair calls whole without storing anything: it does so whatever its output buffer holds, since that is a matter of the tree.
 use mathlib.Core.Path.{◌≡◌, refl, sym, ap, ap₂, ◌∙◌}
-use mathlib.Core.Bool.{Bool, true, false, false≢true}
+use mathlib.Core.Bool.{Bool, true, false≢true}
 use mathlib.Core.List.{List}
 use Prim.Native.Nat.{ℕ, ◌+◌, ◌-◌, ◌*◌}
 use native.Mathlib.Omega.{arith}
@@ -19,8 +19,8 @@ use Rattle.model.specs.Ends.{Sized, Roomy, Intact, Unchanged}
 use Rattle.model.proofs.Shapes.{tree_ok}
 use Rattle.model.proofs.Tables.{TableLaws, table_roomy}
 use Rattle.model.proofs.Intact.{intact_unchanged, whole-intact}
-use Rattle.calls.specs.declared.Answer.{Answer}
-use Rattle.calls.specs.declared.Answer.TheVariants.{Done}
+use Rattle.calls.specs.Stops.{Answer}
+use Rattle.calls.specs.Stops.{Done}
 use Rattle.calls.proofs.AdmissionLaws.{table_laws_of}
 use Rattle.fault_calls.specs.Repairing.{Result, ended, misfilled, stopped, result_values, ended_by, repair_tested, repair_of, repaired_by, repaired}
 use Rattle.fault_calls.proofs.RepairingLaws.{Formed, formed, ends_so}

@@ -1,6 +1,6 @@
 -- "What stops a call": a call makes its tests in their order and stops at the first that fails, with that test's number and values. Definitions only.
 use Rattle.std.specs.Prelude.{◌≡◌, ◌↔◌, ℕ}
-use Rattle.calls.specs.declared.Answer.{Answer}
+use Rattle.calls.specs.Stops.{Answer}
 use Rattle.calls.specs.Stops.{number_of, values_of}
 
 -- what a call answers: a number, and the values that are returned with it, 0 where there is none

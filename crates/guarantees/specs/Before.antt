@@ -3,8 +3,8 @@
 -- that is told the kind by its number, came with CR 7: those of before are the same with these two numbers. Definitions only.
 use Rattle.std.specs.Prelude.{Bool, true, ◌&&◌, List, ℕ, ◌+◌, ◌-◌, ◌*◌, ◌%◌, length, take, replicate, leb, eqb}
 use Rattle.octets.specs.Choice.{pick}
-use Rattle.parity_table.specs.declared.Answer.{Answer as Read}
-use Rattle.parity_table.specs.declared.Answer.TheVariants as read
+use Rattle.parity_table.specs.Reader.{Answer as Read}
+use Rattle.parity_table.specs.Reader as read
 use Rattle.parity_table.specs.Reader.{layered, run}
 use Rattle.parity_table.specs.Parse.{table_of}
 use Rattle.table_bytes.specs.Bytes.{words_of}
@@ -19,8 +19,8 @@ use Rattle.model.specs.SampleCheck.{sample_check}
 use Rattle.sampling.specs.Absent.{first_absent}
 use Rattle.root_record.specs.Records.{kind_of, kind_in, size_in, root_in}
 use Rattle.calls.specs.declared.Stop.TheVariants.{Depth}
-use Rattle.calls.specs.declared.Answer.{Answer}
-use Rattle.calls.specs.declared.Answer.TheVariants.{Done, Stopped}
+use Rattle.calls.specs.Stops.{Answer}
+use Rattle.calls.specs.Stops.{Done, Stopped}
 use Rattle.calls.specs.Tests.{◌then◌, test_lengths, test_head, read_answer, cover_answer, test_named, test_marks, test_number, words_tested, admitted}
 use Rattle.volume_calls.specs.Reading.{BlockLeft, read_sized, test_base, read_by, block_read}
 use Rattle.volume_calls.specs.Writing.{TreeLeft, write_sized, written_by, tree_written, test_kind, tree_written_by}

@@ -12,7 +12,7 @@ use Rattle.model.specs.Shape.{tree, places}
 use Rattle.model.specs.Symbols.{zeros, sym_at, put_at}
 use Rattle.model.specs.Fault.{proof_length}
 use Rattle.model.specs.Repair.{End, working, whole, unavailable, St, absent_at, lowest_eq, step, enter}
-use Rattle.calls.specs.declared.Answer.TheVariants.{Done}
+use Rattle.calls.specs.Stops.{Done}
 use Rattle.calls.specs.Stops.{number_of}
 use Rattle.calls.specs.Tests.{read_answer}
 use Rattle.volume_calls.specs.Writing.{tree_written}

@@ -9,8 +9,8 @@ use Rattle.table_bytes.specs.Bytes.{words_of}
 use Rattle.parity_table.specs.Parse.{table_of}
 use Rattle.house_table.specs.House.{house_table, house_words}
 use Rattle.symbol_hash.specs.declared.Kind.{Kind}
-use Rattle.calls.specs.declared.Answer.{Answer}
-use Rattle.calls.specs.declared.Answer.TheVariants.{Done}
+use Rattle.calls.specs.Stops.{Answer}
+use Rattle.calls.specs.Stops.{Done}
 use Rattle.calls.specs.Tests.{words_tested, admitted}
 use Rattle.volume_calls.specs.Writing.{tree_written, tree_written_by}
 use Rattle.fault_calls.specs.Checking.{proof_checked}

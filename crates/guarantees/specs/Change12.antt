@@ -5,7 +5,7 @@
 use Rattle.std.specs.Prelude.{◌≡◌, ◌⊎◌, ◌↔◌, ◌≢◌, Bool, true, List, ℕ, ◌*◌, ◌≤◌, ◌<◌, get_or}
 use Rattle.model.specs.Repair.{whole, fault, unavailable, twins}
 use Rattle.symbol_hash.specs.declared.Kind.{Kind}
-use Rattle.calls.specs.declared.Answer.TheVariants.{Done}
+use Rattle.calls.specs.Stops.{Done}
 use Rattle.volume_calls.specs.Writing.{tree_written}
 use Rattle.fault_calls.specs.Repairing.{Result, ended, misfilled, RepairLeft, repair_tested, repaired}
 use Rattle.guarantees.specs.Layouts.{data_symbols, all_symbols, tree_symbols, symbol_at, mark_at, kind_no, root_part}

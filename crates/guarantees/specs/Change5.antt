@@ -8,8 +8,8 @@ use Rattle.octets.specs.BigEndian.{bytes_of}
 use Rattle.sha256.specs.Hash.{sha256}
 use Rattle.table_bytes.specs.Bytes.{words_of}
 use Rattle.symbol_hash.specs.declared.Kind.{Kind}
-use Rattle.calls.specs.declared.Answer.{Answer}
-use Rattle.calls.specs.declared.Answer.TheVariants.{Done}
+use Rattle.calls.specs.Stops.{Answer}
+use Rattle.calls.specs.Stops.{Done}
 use Rattle.calls.specs.Stops.{number_of}
 use Rattle.volume_calls.specs.Reading.{block_read}
 use Rattle.volume_calls.specs.Writing.{tree_written}

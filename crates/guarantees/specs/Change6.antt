@@ -6,7 +6,7 @@ use Rattle.std.specs.Prelude.{◌≡◌, ◌↔◌, true, List, ℕ, ◌-◌, �
 use Rattle.octets.specs.BigEndian.{bytes_of}
 use Rattle.house_table.specs.House.{house_words, house_answer}
 use Rattle.symbol_hash.specs.declared.Kind.{Kind}
-use Rattle.calls.specs.declared.Answer.TheVariants.{Done}
+use Rattle.calls.specs.Stops.{Done}
 use Rattle.calls.specs.Stops.{number_of}
 use Rattle.calls.specs.Tests.{words_tested, admitted}
 use Rattle.volume_calls.specs.Reading.{block_read}

@@ -9,7 +9,7 @@ use Rattle.sha256.specs.Hash.{sha256}
 use Rattle.symbol_hash.specs.SymbolHash.{symbol_hash}
 use Rattle.symbol_hash.specs.declared.Kind.{Kind}
 use Rattle.symbol_hash.specs.declared.Kind.TheVariants.{Placed}
-use Rattle.calls.specs.declared.Answer.TheVariants.{Done}
+use Rattle.calls.specs.Stops.{Done}
 use Rattle.calls.specs.Stops.{number_of}
 use Rattle.model.specs.Repair.{whole}
 use Rattle.root_record.specs.Records.{kind_in}

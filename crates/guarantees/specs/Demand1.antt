@@ -5,13 +5,12 @@
 -- The contract of each call names one definition, which gives its answer and what each lent buffer holds afterwards (the hasher's and the house table's
 -- name two: the answer, and the buffer), for every input, and has no `requires`: so a call finds bad input for itself. Below is what these definitions say, for each public call. A buffer that no definition
 -- names is only read. That every call ends, and reads and writes only inside what it was lent, is the language's own theorem of every function.
-use Rattle.std.specs.Prelude.{◌≡◌, List, ℕ, ◌*◌, length, take}
+use Rattle.std.specs.Prelude.{◌≡◌, List, ℕ, ◌*◌, length, take, Ok}
 use Rattle.octets.specs.BigEndian.{bytes_of}
 use Rattle.sha256.specs.Hash.{sha256}
 use Rattle.sha256.specs.Call.{answer, after}
-use Rattle.sha256.specs.declared.Answer.TheVariants as hashed
-use Rattle.parity_table.specs.declared.Answer.{Answer as Read}
-use Rattle.parity_table.specs.declared.Answer.TheVariants.{Whole}
+use Rattle.parity_table.specs.Reader.{Answer as Read}
+use Rattle.parity_table.specs.Reader.{Whole}
 use Rattle.house_table.specs.House.{house_words, house_answer, house_out}
 use Rattle.model.specs.Shape.{tree}
 use Rattle.model.specs.Symbols.{sym_at}
@@ -20,8 +19,8 @@ use Rattle.model.specs.Sampling.{sample_bytes}
 use Rattle.symbol_hash.specs.SymbolHash.{symbol_hash}
 use Rattle.symbol_hash.specs.declared.Kind.{Kind}
 use Rattle.root_record.specs.Records.{kind_of, kind_in, size_in, record_of}
-use Rattle.calls.specs.declared.Answer.{Answer}
-use Rattle.calls.specs.declared.Answer.TheVariants.{Done}
+use Rattle.calls.specs.Stops.{Answer}
+use Rattle.calls.specs.Stops.{Done}
 use Rattle.volume_calls.specs.Reading.{block_given, block_read}
 use Rattle.volume_calls.specs.Writing.{TreeLeft, tree_written, tree_written_by}
 use Rattle.sample_calls.specs.Taking.{sample_taken}
@@ -61,7 +60,7 @@ pub record Demand1 : Type 0 where
   pub refusals : Refusals
   pub proof-checker : ProofCheckerAnswers
   -- every lent buffer
-  pub hasher : (m d : List ℕ) → Condition (answer m d ≡ hashed.Done) d (sha256 m) (after m d)
+  pub hasher : (m d : List ℕ) → Condition (answer m d ≡ Ok tt) d (sha256 m) (after m d)
   pub house-words : (depth : ℕ) (lent : List ℕ) → HouseWriter (house_words depth) lent (house_answer depth (length lent) (length (house_words depth)))
   pub house-bytes : (depth : ℕ) (lent : List ℕ)
       → HouseWriter (bytes_of (house_words depth)) lent (house_answer depth (length lent) (length (house_words depth) * 4))

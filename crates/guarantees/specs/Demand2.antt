@@ -5,7 +5,7 @@
 use Rattle.std.specs.Prelude.{◌≡◌, ◌⊎◌, ◌↔◌, List, ℕ, ◌+◌, ◌-◌, ◌*◌, ◌≤◌, ◌<◌, length, get_or, take, drop}
 use Rattle.sha256.specs.Hash.{sha256}
 use Rattle.table_bytes.specs.Bytes.{words_of}
-use Rattle.calls.specs.declared.Answer.TheVariants.{Done}
+use Rattle.calls.specs.Stops.{Done}
 use Rattle.volume_calls.specs.Reading.{block_read}
 use Rattle.volume_calls.specs.Writing.{tree_written}
 use Rattle.sample_calls.specs.Checking.{sample_checked}

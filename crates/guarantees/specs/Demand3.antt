@@ -4,7 +4,7 @@ use Rattle.std.specs.Prelude.{◌≡◌, ◌⊎◌, ◌↔◌, ◌≢◌, Bool, 
 use Rattle.octets.specs.Choice.{pick}
 use Rattle.model.specs.Repair.{whole, fault, unavailable, twins, St}
 use Rattle.calls.specs.declared.Stop.{Stop}
-use Rattle.calls.specs.declared.Answer.TheVariants.{Done, Stopped}
+use Rattle.calls.specs.Stops.{Done, Stopped}
 use Rattle.fault_calls.specs.Checking.{proof_checked}
 use Rattle.fault_calls.specs.Repairing.{Result, repair_tested, repair_of, repaired, ended, misfilled, stopped}
 use Rattle.guarantees.specs.Layouts.{symbol_no, data_symbols, all_symbols, tree_symbols, symbol_at, mark_at, hash_for, XorOf, kind_no, block_size, root_part, block_room, block_start}

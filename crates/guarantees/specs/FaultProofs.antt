@@ -3,7 +3,7 @@ use Rattle.std.specs.Prelude.{◌≡◌, ◌⊎◌, ◌↔◌, List, ◌∷◌, 
 use Rattle.table_bytes.specs.Bytes.{words_of}
 use Rattle.model.specs.Shape.{tree}
 use Rattle.model.specs.Fault.{proof_bytes, ProofHolds}
-use Rattle.calls.specs.declared.Answer.TheVariants.{Done}
+use Rattle.calls.specs.Stops.{Done}
 use Rattle.fault_calls.specs.Checking.{proof_checked}
 use Rattle.guarantees.specs.Layouts.{bytes_from, data_symbols, all_symbols, hash_for, XorOf, up_from, word_no, kind_value, kind_no, root_part}
 use Rattle.guarantees.specs.Tables.{TableRules, TableRight, AllInTwo}

@@ -1,17 +1,16 @@
 -- "What stops a call", of every call but the check of a fault proof (FaultProofs.antt): which number and values, and just when. Each test stands in the papers'
 -- words, and a call makes its tests in this order. Statements only.
-use Rattle.std.specs.Prelude.{◌≡◌, ◌⊎◌, ◌↔◌, ◌≢◌, true, List, ℕ, suc, ◌+◌, ◌-◌, ◌*◌, ◌%◌, ◌^◌, ◌≤◌, ◌<◌, length, get_or}
+use Rattle.std.specs.Prelude.{◌≡◌, ◌⊎◌, ◌↔◌, ◌≢◌, true, List, ℕ, suc, ◌+◌, ◌-◌, ◌*◌, ◌%◌, ◌^◌, ◌≤◌, ◌<◌, length, get_or, Ok, Result}
 use Rattle.sha256.specs.Hash.{sha256}
 use Rattle.sha256.specs.Call.{answer}
-use Rattle.sha256.specs.declared.Answer.{Answer as Hashed}
-use Rattle.sha256.specs.declared.Answer.TheVariants as hashed
-use Rattle.parity_table.specs.declared.Answer.{Answer as Read}
-use Rattle.parity_table.specs.declared.Answer.TheVariants.{Whole}
+use Rattle.sha256.specs.declared.WrongLength.{WrongLength}
+use Rattle.parity_table.specs.Reader.{Answer as Read}
+use Rattle.parity_table.specs.Reader.{Whole}
 use Rattle.parity_table.specs.Parse.{table_of}
 use Rattle.table_bytes.specs.Bytes.{words_of}
 use Rattle.house_table.specs.House.{house_words, house_answer}
-use Rattle.calls.specs.declared.Answer.{Answer}
-use Rattle.calls.specs.declared.Answer.TheVariants.{Done}
+use Rattle.calls.specs.Stops.{Answer}
+use Rattle.calls.specs.Stops.{Done}
 use Rattle.calls.specs.Stops.{number_of}
 use Rattle.calls.specs.Tests.{read_answer, words_tested, admitted}
 use Rattle.volume_calls.specs.Reading.{block_read}
@@ -221,7 +220,7 @@ pub record Refusals : Type 0 where
   -- 0 is done, or accepted, and nothing else is
   pub done_call : (a : Answer) → (number_of a ≡ 0) ↔ (a ≡ Done)
   pub done-read : (a : Read) → (number_of (read_answer a) ≡ 0) ↔ (a ≡ Whole)
-  pub done-hash : (a : Hashed) → (number_of (hash_answer a) ≡ 0) ↔ (a ≡ hashed.Done)
+  pub done-hash : (a : Result Unit WrongLength) → (number_of (hash_answer a) ≡ 0) ↔ (a ≡ Ok tt)
   pub hasher : (m d : List ℕ) → Just (hash_answer (answer m d)) (hash_tests m d)
   pub table-words : (d : ℕ) (ws : List ℕ) → Just (words_tested d ws) (words_tests d ws)
   pub table-bytes : (d : ℕ) (table : List ℕ) → Just (admitted d true table) (table_tests d table)

@@ -1,6 +1,6 @@
 -- What a C program reads from the one number that a call returns, and from a record. The functions are those of include/cedunmi.h, by their arithmetic.
 -- Statements only.
-use Rattle.std.specs.Prelude.{◌≡◌, ◌↔◌, ◌≢◌, true, List, ℕ, ◌+◌, ◌-◌, ◌*◌, ◌/◌, ◌%◌, ◌^◌, length, get_or, ltb, eqb}
+use Rattle.std.specs.Prelude.{◌≡◌, ◌↔◌, ◌≢◌, true, List, ℕ, ◌+◌, ◌-◌, ◌*◌, ◌/◌, ◌%◌, ◌^◌, length, get_or, ltb, eqb, Ok, Err}
 use Rattle.octets.specs.Choice.{pick}
 use Rattle.sha256.specs.Call.{answer}
 use Rattle.house_table.specs.House.{house_words, house_answer}
@@ -9,8 +9,8 @@ use Rattle.repair.specs.declared.End.{End as ReportEnd}
 use Rattle.repair.specs.declared.End.TheVariants as report
 use Rattle.repair.specs.Reports.{end_of}
 use Rattle.calls.specs.declared.Stop.{Stop}
-use Rattle.calls.specs.declared.Answer.{Answer}
-use Rattle.calls.specs.declared.Answer.TheVariants.{Done}
+use Rattle.calls.specs.Stops.{Answer}
+use Rattle.calls.specs.Stops.{Done}
 use Rattle.calls.specs.Stops.{number_of, values_of}
 use Rattle.calls.specs.Tests.{read_answer, admitted}
 use Rattle.fault_calls.specs.declared.Outcome.TheVariants as outcome
@@ -132,8 +132,8 @@ pub record Results : Type 0 where
       × (end_of (report.Unavailable layer) ≡ unavailable layer) × (end_of (report.Twins layer number) ≡ twins layer number)
   -- and how `repair_tree` comes out: at one of these ends, misfilled, or refused
   pub outcomes : (stored : ℕ) (end : ReportEnd) (stop : Stop)
-      → (outcome_of (outcome.Ended (record { stored = stored; end = end })) ≡ ended stored (end_of end))
-      × (outcome_of (outcome.Misfilled stored) ≡ misfilled stored) × (outcome_of (outcome.Stopped stop) ≡ stopped stop)
+      → (outcome_of (Ok (outcome.Ended (record { stored = stored; end = end }))) ≡ ended stored (end_of end))
+      × (outcome_of (Ok (outcome.Misfilled stored)) ≡ misfilled stored) × (outcome_of (Err stop) ≡ stopped stop)
   pub of_hasher : (m digest : List ℕ) → SaysAnswer (hash_answer (answer m digest))
   pub of_table_check : (depth : ℕ) (table : List ℕ) → SaysAnswer (admitted depth true table)
   pub of_house_table : (depth n : ℕ) → SaysAnswer (read_answer (house_answer depth n (length (house_words depth) * 4)))
