@@ -1,12 +1,12 @@
 -- The block in the base of a tree, as the code meets it: put there and filled up, read back, and its filling tested.
 use mathlib.Core.Path.{◌≡◌, refl, sym, ap, ap₂, ◌∙◌}
 use mathlib.Core.Bool.{Bool, ◌&&◌}
-use mathlib.Core.List.{List, [], ◌∷◌, ◌++◌, append_assoc}
+use mathlib.Core.List.{List, [], ◌∷◌, ◌++◌, append-nil, append_assoc}
 use Prim.Native.Nat.{ℕ, ◌+◌, ◌-◌, ◌*◌, ◌≤◌}
 use native.Mathlib.Nat.{add-zero}
 use native.Mathlib.Omega.{arith}
 use lib.Dec.{eqb}
-use lib.ListN.{length, take, drop, replicate, length-append, length-drop, length-replicate}
+use lib.ListN.{length, take, drop, replicate, drop_of_length-le, length-append, length-drop, length-replicate}
 use lib.Seq.{paste, length-paste, take-paste, take_all, take-length, take-take, drop-drop}
 use borrow.Rule.Slice.PartMut.{mid_of, put_mid}
 use Rattle.octets.specs.ByteLists.{same}
@@ -18,6 +18,12 @@ use Rattle.model.specs.Writer.{block_of, filled, zero_filled}
 use Rattle.model.proofs.Shapes.{tree_ok}
 use Rattle.model.proofs.Flat.{paste-right}
 use Rattle.coded_tree.proofs.WriterLaws.{layer-room}
+
+-- a copy that fills its buffer
+pub paste_all : (d s : List ℕ) → length s ≡ length d → paste d 0 s (length s) ≡ s
+paste_all d s l =
+    let z : 0 + length s ≡ length d = omega arith in
+    ap₂ ◌++◌ (take-length s) (ap (λ n. drop n d) z ∙ drop_of_length-le d {i = length d} (omega arith)) ∙ append-nil s
 
 -- u is t after a copy of s to it; the bytes behind s, up to m of them, become zeros
 module _ (t s u z : List ℕ) (at m k : ℕ) (fits : length s ≤ m) (room : at + m ≤ length t) (ek : k ≡ m - length s) (eu : u ≡ paste t at s (length s)) where

@@ -25,11 +25,11 @@ Hashed t above base k j i =
     (above ≡ places tree j) × (base ≡ places tree (suc j)) × (k ≡ k_of j) × (j < max_depth) × (i < n_of (suc j)) × (256 * (base + n_of (suc j)) ≤ length t)
 
 -- its hash into layer j
-pub hash_put : (kind : Kind) (t s u h : List ℕ) (above base k j i : ℕ) → Hashed t above base k j i
+pub hash_put : (kind : Kind) (t s u h : List ℕ) (above base k j i : ℕ) → above ≡ places tree j → base ≡ places tree (suc j) → k ≡ k_of j
     → s ≡ take 256 (drop (256 * (base + i)) t) → h ≡ symbol_hash kind (j + 1) i s
     → u ≡ paste t (256 * (above + i % k) + 32 * (i / k)) h (length h) → u ≡ put_hash tree (symbol_hash kind) j i t
 unfolding put_hash hash_place place
-hash_put kind t s u h above base k j i (ea, eb, ek, _, _, _) es eh eu =
+hash_put kind t s u h above base k j i ea eb ek es eh eu =
     let is : h ≡ symbol_hash kind (suc j) i (sym_at tree t (suc j) i) =
     eh ∙ ap₂ (λ l v. symbol_hash kind l i v) (add-one j) (es ∙ sym (sym_at_there t (suc j) base eb i)) in
     let l : length h ≡ 32 = ap length is ∙ length-symbol_hash kind (suc j) i _ in
@@ -38,15 +38,19 @@ hash_put kind t s u h above base k j i (ea, eb, ek, _, _, _) es eh eu =
     ∙ ap (λ v. paste t (256 * (places tree j + i % k_of j) + 32 * (i / k_of j)) v 32) is
 
 -- the hash stays in layer j, and 32 bytes are there for it
-pub hash-room : (t : List ℕ) (above base k j i : ℕ) → Hashed t above base k j i → (0 < k) × (256 * (above + i % k) + 32 * (i / k) + 32 ≤ length t) × (i % k < k) × (i / k < 8)
+pub hash-room : (t : List ℕ) (above base k j i : ℕ) → above ≡ places tree j → base ≡ places tree (suc j) → k ≡ k_of j → i < n_of (suc j)
+    → 256 * (base + n_of (suc j)) ≤ length t → (0 < k) × (256 * (above + i % k) + 32 * (i / k) + 32 ≤ length t) × (i % k < k) × (i / k < 8)
 unfolding places
-hash-room t above base k j i (ea, eb, ek, _, hi, room) =
+hash-room t above base k j i ea eb ek hi room =
     let p : 0 < k = omega (arith, tree_ok.shape.some j) in
     let c : i / k_of j < 8 = column_lt tree tree_ok j i hi in
     let q : i / k < 8 = omega (arith, ap (λ v. i / v) ek) in
     let m : i % k < k = mod-lt i p in
     let n : n_of j ≡ 4 * k_of j = tree_ok.rate j in
     (p, omega arith, m, q)
+
+pub hashed-room : (t : List ℕ) (above base k j i : ℕ) → Hashed t above base k j i → (0 < k) × (256 * (above + i % k) + 32 * (i / k) + 32 ≤ length t) × (i % k < k) × (i / k < 8)
+hashed-room t above base k j i (ea, eb, ek, _, hi, room) = hash-room t above base k j i ea eb ek hi room
 
 pub hashes-next : (kind : Kind) (j i m : ℕ) (t u : List ℕ) → u ≡ put_hash tree (symbol_hash kind) j i t
     → put_hashes tree (symbol_hash kind) j i (suc m) t ≡ put_hashes tree (symbol_hash kind) j (i + 1) m u

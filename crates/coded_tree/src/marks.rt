@@ -13,5 +13,5 @@ pub fn first_absent(marks: &[u8], j: usize, n: usize) -> Option<usize>
     ensures { result ≡ found (absent_at shape marks.now j) n }
 {
     let base = first_place(j);
-    marks[base..base + n].iter().position(|mark| *mark != 1)
+    (0..n).find(|&i| marks[base + i] != 1)
 }

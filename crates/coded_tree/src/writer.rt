@@ -34,7 +34,7 @@ fn put_block(depth: usize, block: &[u8], tree: &mut [u8])
     let from = 256 * first_place(depth - 1);
     let filling = from + block.len();
     let end = from + 256 * data_count(depth - 1);
-    tree[from..filling].copy_from_slice(block);
+    octets::copy_at(block, tree, from);
     tree[filling..end].fill(0);
 }
 
@@ -78,8 +78,8 @@ pub fn read_block(depth: usize, tree: &[u8], block: &mut [u8])
         × (length block.old ≤ 256 * k_of (depth - 1)) }
     ensures { block.new ≡ take (length block.old) (block_of shape depth tree.now) }
 {
-    let whole = block_in(depth, tree);
-    block.copy_from_slice(&whole[..block.len()]);
+    let front = &block_in(depth, tree)[..block.len()];
+    octets::copy_at(front, block, 0);
 }
 
 // Whether the base's data symbols are zero from byte n on.
@@ -87,5 +87,6 @@ pub fn zero_filled(depth: usize, tree: &[u8], n: usize) -> bool
     requires { (1 ≤ depth) × (depth ≤ max_depth) × (length tree.now ≡ 256 * places shape depth) × (n ≤ 256 * k_of (depth - 1)) }
     ensures { result ≡ zero_filled shape depth n tree.now }
 {
-    octets::is_zero(&block_in(depth, tree)[n..])
+    let block = block_in(depth, tree);
+    octets::is_zero(&block[n..])
 }

@@ -10,7 +10,7 @@ ghost use Rattle.std.proofs.Math.Seq.{paste};
 ghost use Rattle.octets.specs.BigEndian.{be, word_at};
 
 pub use hex::put_hex;
-pub use lists::{equal_at, is_zero, symbol_at, xor_at};
+pub use lists::{equal_at, greatest, is_zero, symbol_at, xor_at};
 
 // The word in the four bytes from byte at on.
 pub fn word_at(s: &[u8], at: usize) -> u32
@@ -25,13 +25,16 @@ pub fn put_word(s: &mut [u8], at: usize, x: u32)
     requires { at + 4 ≤ length s.old }
     ensures { s.new ≡ sets s.old at (be 4 x) }
 {
-    s[at..at + 4].copy_from_slice(&x.to_be_bytes());
+    let [a, b, c, d] = x.to_be_bytes();
+    s[at..at + 4].copy_from_slice(&[a, b, c, d]);
 }
 
-// Copies s into d, from byte at on.
+// Copies s into d, from byte at on. Byte by byte: `copy_from_slice` would have the archive for C ask for `memmove` too.
 pub fn copy_at(s: &[u8], d: &mut [u8], at: usize)
     requires { at + length s.now ≤ length d.old }
     ensures { d.new ≡ paste d.old at s.now (length s.now) }
 {
-    d[at..at + s.len()].copy_from_slice(s);
+    for (i, &x) in s.iter().enumerate() {
+        d[at + i] = x;
+    }
 }

@@ -1,5 +1,5 @@
 // Parts of byte slices: found, compared, and taken together by exclusive-or.
-ghost use Rattle.std.specs.Prelude.{◌≡◌, ◌+◌, ◌*◌, ◌≤◌, length, take, drop, replicate};
+ghost use Rattle.std.specs.Prelude.{◌≡◌, ◌+◌, ◌*◌, ◌≤◌, length, take, drop, replicate, fold, max};
 ghost use Rattle.octets.specs.ByteLists.{same, xors};
 
 // Whether the bytes of s are those of t from byte at on.
@@ -10,11 +10,22 @@ pub fn equal_at(s: &[u8], t: &[u8], at: usize) -> bool
     s == &t[at..at + s.len()]
 }
 
-// Whether every byte of s is zero. The greatest byte says it: a pass that never stops early is made one of vectors, and `all` would stop.
+// The greatest of the bytes of s, 0 where there is none. A pass that never stops early is made one of vectors, and `any` or `all` would stop.
+pub fn greatest(s: &[u8]) -> u8
+    ensures { result ≡ fold max 0 s.now }
+{
+    let mut most: u8 = 0;
+    for &x in s {
+        most = most.max(x);
+    }
+    most
+}
+
+// Whether every byte of s is zero: the greatest says it.
 pub fn is_zero(s: &[u8]) -> bool
     ensures { result ≡ same s.now (replicate (length s.now) 0) }
 {
-    s.iter().fold(0u8, |most, &x| most.max(x)) == 0
+    greatest(s) == 0
 }
 
 // The exclusive-or of s and the bytes of t from byte at on, into s.
