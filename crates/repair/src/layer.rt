@@ -4,7 +4,7 @@ ghost use Rattle.parity_table.specs.Shape.{max_depth, k_of};
 ghost use Rattle.model.specs.Shape.{tree as shape, places};
 ghost use Rattle.incidence.specs.Incidence.{Threadable, Threaded};
 ghost use Rattle.peeling.specs.Search.{Countable, Counted, Ordered};
-ghost use Rattle.repair.specs.Buffers.{Given, OwnLists, SameLists};
+ghost use Rattle.repair.specs.Buffers.{Given, OwnLists, RoomFor, SameLists};
 ghost use Rattle.peeling.specs.States.{refuted as refuted_as};
 ghost use Rattle.repair.specs.Reports.{end_of, passes, settled, Layered};
 
@@ -85,9 +85,8 @@ fn set_up(
     );
 }
 
-// Repairs layer j, with so many symbols stored before. The lists for the search have just the entries of this layer: of its symbols `last`, of its
-// equations the others, two in `order`. What they hold doesn't matter.
-pub fn repair_layer(
+// repair_layer, with lists that have just the entries of this layer: of its symbols `last`, of its equations the others, two in `order`.
+fn repair_with(
     kind: Kind,
     table: &Table,
     root: &[u8],
@@ -121,4 +120,45 @@ pub fn repair_layer(
         stored: run.stored,
         end: settle(run.outcome, marks, j),
     }
+}
+
+// Repairs layer j, with so many symbols stored before. What the lists for the search hold doesn't matter.
+pub fn repair_layer(
+    kind: Kind,
+    table: &Table,
+    root: &[u8],
+    lists: SearchLists,
+    tree: &mut [u8],
+    marks: &mut [u8],
+    out: &mut [u8],
+    j: usize,
+    stored: usize,
+) -> Passed
+    requires { Given table.now.depth root.now tree.old marks.old out.old × (j < table.now.depth) × (stored ≤ 2 ^ 20)
+        × RoomFor (k_of j) lists }
+    ensures { Layered kind root.now table.now.layers j tree.old marks.old out.old
+        tree.new marks.new out.new stored result.stored result.end
+        × (result.stored ≤ stored + 3 * k_of j) }
+{
+    let SearchLists {
+        used,
+        absent,
+        order,
+        last,
+        next,
+    } = lists;
+    // the depth is a tree's, and so j one of its layers
+    prove!(j < table.depth());
+    let k = data_count(j);
+    let n = 3 * k;
+    let mut own = SearchLists {
+        used: &mut used[..n],
+        absent: &mut absent[..n],
+        order: &mut order[..2 * n],
+        last: &mut last[..4 * k],
+        next: &mut *next,
+    };
+    // named, so that the fronts come back before the lists do
+    let passed = repair_with(kind, table, root, &mut own, tree, marks, out, j, stored);
+    passed
 }

@@ -10,7 +10,7 @@ ghost use Rattle.repair.specs.Buffers.{Given, RoomFor};
 ghost use Rattle.repair.specs.Reports.{Repaired};
 
 use layer::repair_layer;
-use parity_table::{Table, data_count};
+use parity_table::Table;
 use symbol_hash::Kind;
 
 // The lists of the search for the next equation of a layer: of each equation, whether it is used and how many members are absent; the order of the
@@ -52,7 +52,6 @@ pub struct Report {
 }
 
 // Repairs a tree whose symbols are hashed by their volume's kind. What the lists for the search in a layer hold doesn't matter.
-#[tactic(auto, using(crate::proofs::LayerLaws::k_below))]
 pub fn repair(
     kind: Kind,
     table: &Table,
@@ -77,16 +76,14 @@ pub fn repair(
     let depth = table.depth();
     let mut stored = 0;
     for j in 0..depth {
-        let k = data_count(j);
-        let n = 3 * k;
-        let mut own = SearchLists {
-            used: &mut used[..n],
-            absent: &mut absent[..n],
-            order: &mut order[..2 * n],
-            last: &mut last[..4 * k],
+        let lists = SearchLists {
+            used: &mut *used,
+            absent: &mut *absent,
+            order: &mut *order,
+            last: &mut *last,
             next: &mut *next,
         };
-        let passed = repair_layer(kind, table, root, &mut own, tree, marks, out, j, stored);
+        let passed = repair_layer(kind, table, root, lists, tree, marks, out, j, stored);
         stored = passed.stored;
         if let Some(end) = passed.end {
             return Report { stored, end };

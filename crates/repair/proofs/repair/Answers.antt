@@ -1,6 +1,5 @@
--- `repair` meets its contract. The loop keeps: the layers from j on give what all of them give. The front of each list is the layer's own.
-use Rattle.std.proofs.Common.{◌*◌, ◌+◌, arith, sym}
-use lib.Seq.{length-take-le}
+-- `repair` meets its contract. The loop keeps: the layers from j on give what all of them give.
+use Rattle.std.proofs.Common.{◌+◌, arith}
 use Rattle.repair.proofs.LayerLaws.{given_keep, k_below}
 use Rattle.repair.proofs.RepairLaws.{deep-end, deep_on, deep_start, deep_stop, stored-below, stored_on, stored_small, stored_start}
 use Rattle.repair.proofs.repair.Goals as goal
@@ -12,42 +11,15 @@ loop-j-init c =
       deep = deep_start c.args.kind c.args.root.now c.args.table.now.layers c.args.tree.now c.args.marks.now c.args.out.now;
     }
 
-pub data_count-k-requires : goal.data_count-k-requires
-data_count-k-requires c = omega (arith, c.depth-depth.ensures.kept.shallow)
-
-pub slice_bounds-own-end-in-loop-j : goal.slice_bounds-own-end-in-loop-j
-slice_bounds-own-end-in-loop-j c =
-    sym (length-take-le _ c.loop-j.used (omega (arith, k_below c.loop-j.j c.args.table.now.depth (omega (arith, c.depth-depth.ensures.kept.some)))))
-
-pub slice_bounds-own-end-in-loop-j-3 : goal.slice_bounds-own-end-in-loop-j-3
-slice_bounds-own-end-in-loop-j-3 c =
-    sym (length-take-le _ c.loop-j.absent (omega (arith, k_below c.loop-j.j c.args.table.now.depth (omega (arith, c.depth-depth.ensures.kept.some)))))
-
-pub slice_bounds-own-end-in-loop-j-5 : goal.slice_bounds-own-end-in-loop-j-5
-slice_bounds-own-end-in-loop-j-5 c =
-    sym (length-take-le _ c.loop-j.order (omega (arith, k_below c.loop-j.j c.args.table.now.depth (omega (arith, c.depth-depth.ensures.kept.some)))))
-
-pub slice_bounds-own-end-in-loop-j-7 : goal.slice_bounds-own-end-in-loop-j-7
-slice_bounds-own-end-in-loop-j-7 c =
-    sym (length-take-le _ c.loop-j.last (omega (arith, k_below c.loop-j.j c.args.table.now.depth (omega (arith, c.depth-depth.ensures.kept.some)))))
-
 pub repair_layer-passed-requires : goal.repair_layer-passed-requires
 repair_layer-passed-requires c =
     let l = c.loop-j in
     let k = l.auto in
-    let d = c.depth-depth.ensures.kept.shallow in
-    let b = k_below l.j c.args.table.now.depth (omega (arith, c.depth-depth.ensures.kept.some)) in
-    let r = c.data_count-k.result in (
+    let d = c.depth-depth.ensures.kept.shallow in (
       given_keep k.tree k.marks k.out c.requires.0,
       omega arith,
       omega (arith, stored_small l.j (omega (arith, d)), l.invariant.few),
-      record {
-        used-full = omega (arith, length-take-le (3 * r) l.used (omega arith));
-        absent-full = omega (arith, length-take-le (3 * r) l.absent (omega arith));
-        order_full = omega (arith, length-take-le (2 * (3 * r)) l.order (omega arith));
-        last-full = omega (arith, length-take-le (4 * r) l.last (omega arith));
-        next-room = omega arith;
-      },
+      grind (arith, k_below),
     )
 
 pub returns-in-Some : goal.returns-in-Some

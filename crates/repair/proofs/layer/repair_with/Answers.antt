@@ -1,4 +1,4 @@
--- `repair_layer` meets its contract: sweep, peeling and (c), with the layer's own lists.
+-- `repair_with` meets its contract: sweep, peeling and (c), with the layer's own lists.
 use mathlib.Core.List.{List}
 use mathlib.Core.Path.{◌∙◌, ap, refl, subst, sym}
 use Prim.Native.Nat.{ℕ}
@@ -11,7 +11,7 @@ use Rattle.model.proofs.Shapes.{tree_ok}
 use Rattle.model.specs.Shape.{places, tree}
 use Rattle.equation.specs.Rooms.{Level}
 use Rattle.repair.proofs.LayerLaws.{countable, equations, given_keep, layer_below, layered, level, own_keep, peelable, reads, threadable}
-use Rattle.repair.proofs.layer.repair_layer.Goals as goal
+use Rattle.repair.proofs.layer.repair_with.Goals as goal
 
 pub number_of-from-requires : goal.number_of-from-requires
 unfolding k_of
