@@ -8,7 +8,9 @@ use native.Mathlib.Decide.{dec_lt}
 use native.Mathlib.Omega.{arith}
 use lib.ListN.{length, take, drop, replicate, length-take, length-drop, length-append, length-replicate}
 use lib.Seq.{take_all, take_at}
+use lib.Dec.{eqb, ltb}
 use lib.Pow.{pow_mono}
+use borrow.Author.Tests.{eqb-true, ltb-true}
 use Rattle.octets.proofs.Choice.{by_test, and_yes, yes_and}
 use Rattle.parity_table.specs.Shape.{max_depth, depth_fits, is_deep, k_of, shallow}
 use Rattle.parity_table.specs.declared.TableError.TheVariants as error
@@ -20,14 +22,15 @@ use Rattle.table_bytes.proofs.ByteForm.{words-front, words_of-length, quarter_mo
 use Rattle.parity_table.proofs.Accepts.{accepted-depth, accepted-table, index-length, refused-wrong}
 use Rattle.parity_table.proofs.Front.{accepted-short, read-front}
 use Rattle.parity_table.proofs.Longest.{longest-room}
-use Rattle.parity_table.proofs.Shape.{depth_is, k_small, not_deep}
+use Rattle.parity_table.proofs.Shape.{depth_is, depth_low, k_small, not_deep}
 use Rattle.coverage.specs.Coverage.{Coverage, Covered, UncoveredAt, coverage_of}
 use Rattle.coverage.proofs.Right.{found-low}
 use Rattle.model.specs.Shape.{tree}
 use Rattle.model.proofs.Tables.{TableLaws, table_laws}
-use Rattle.calls.specs.Stops.{Answer, Done, Small}
+use Rattle.calls.specs.declared.Stop.TheVariants.{Depth, Length, Table, Mark, Number, Head, Hash, NoFault, Absent, Uncovered, Record, OtherTable, NotWhole}
+use Rattle.calls.specs.Stops.{Answer, Done, Stopped, Small, number_of}
 use Rattle.calls.specs.Tests.{◌then◌, left, read_answer, cover_answer, opened, words_tested, admitted, words_left, starts_left}
-use Rattle.calls.specs.Room.{Room, WordsRoom}
+use Rattle.calls.specs.Room.{Room, WordsRoom, stops_at_depth}
 use Rattle.calls.proofs.TestLaws.{stopped_not, then_done, opened_by, no_depth, opens, small_plain, small_then, small_opened}
 
 pub read_whole : (r : Read) → read_answer r ≡ Done → r ≡ Whole
@@ -254,3 +257,29 @@ pub small_admitted : (d : ℕ) (sized : Bool) (table : List ℕ) → Small (admi
 small_admitted d sized table =
     small_then (opened d (sized && length_fits (length table))) (words_tested d (words_of table)) (small_opened d (sized && length_fits (length table)))
     (small_table d sized table)
+
+-- ---- answer 1
+
+pub depth_stop : (a : Answer) → number_of a ≡ 1 → a ≡ Stopped Depth
+depth_stop (Ok tt) e = absurd (omega arith)
+depth_stop (Err Depth) e = refl
+depth_stop (Err Length) e = absurd (omega arith)
+depth_stop (Err (Table i)) e = absurd (omega arith)
+depth_stop (Err (Mark p)) e = absurd (omega arith)
+depth_stop (Err Number) e = absurd (omega arith)
+depth_stop (Err Head) e = absurd (omega arith)
+depth_stop (Err (Hash l p)) e = absurd (omega arith)
+depth_stop (Err NoFault) e = absurd (omega arith)
+depth_stop (Err (Absent x)) e = absurd (omega arith)
+depth_stop (Err (Uncovered j i)) e = absurd (omega arith)
+depth_stop (Err Record) e = absurd (omega arith)
+depth_stop (Err OtherTable) e = absurd (omega arith)
+depth_stop (Err NotWhole) e = absurd (omega arith)
+
+pub at_depth : (d : ℕ) (a : Answer) → stops_at_depth d a ≡ true → (0 < d) × (a ≡ Stopped Depth)
+unfolding stops_at_depth
+at_depth d a t = let (e, h) = and_yes (eqb (number_of a) 1) (ltb 0 d) t in (ltb-true 0 d h, depth_stop a (eqb-true (number_of a) 1 e))
+
+-- the answer at depth 0
+pub none-admitted : (sized : Bool) (table : List ℕ) → Stopped Depth ≡ admitted 0 sized table
+none-admitted sized table = ap (λ (a : Answer). a then words_tested 0 (words_of table)) (no_depth 0 (sized && length_fits (length table)) (sym (depth_low 0 (omega arith))))

@@ -9,10 +9,11 @@ use lib.Seq.{take_all}
 use Rattle.octets.proofs.Choice.{by_test, yes_and, pick_yes, pick_no, pick_ind}
 use Rattle.sha256.specs.Call.{longest}
 use Rattle.parity_table.specs.Shape.{depth_fits}
+use Rattle.parity_table.proofs.Shape.{depth_low}
 use Rattle.table_bytes.specs.Bytes.{words_of, length_fits}
 use Rattle.table_bytes.proofs.ByteForm.{quarter_most}
 use Rattle.root_record.specs.Records.{root_in, head_right, names_table}
-use Rattle.calls.specs.declared.Stop.TheVariants.{Record, OtherTable}
+use Rattle.calls.specs.declared.Stop.TheVariants.{Depth, Record, OtherTable}
 use Rattle.calls.specs.Stops.{Answer, Done, Stopped, Small}
 use Rattle.calls.specs.Room.{Room}
 use Rattle.calls.specs.Tests.{◌then◌, left, test_head, test_named, opened, headed, words_tested, admitted, admitted_by, words_left, starts_left}
@@ -158,3 +159,9 @@ admitted_by-sized d s w r table e =
     (λ f.
     ap (λ (a : Answer). (a then test_head d r) then words_tested d (words_of table) then test_named r table)
     (sym (no_depth d (s && length_fits (length table)) f) ∙ no_depth d (w && length_fits (length table)) f))
+
+-- the answer at depth 0
+pub none-admitted_by : (sized : Bool) (r table : List ℕ) → Stopped Depth ≡ admitted_by 0 sized r table
+none-admitted_by sized r table =
+    ap (λ (a : Answer). (a then test_head 0 r) then words_tested 0 (words_of table) then test_named r table)
+    (no_depth 0 (sized && length_fits (length table)) (sym (depth_low 0 (omega arith))))

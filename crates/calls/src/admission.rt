@@ -1,12 +1,12 @@
 // Tests 1 and 2, then those of a record and of a table. A call that is lent a table makes its words and index in buffers of its own.
 ghost use Rattle.std.specs.Prelude.{◌≡◌, true, ◌&&◌, ◌≤◌, length, take, replicate};
 ghost use Rattle.parity_table.specs.Parse.{index_of, over};
-ghost use Rattle.calls.specs.Room.{Room, WordsRoom};
+ghost use Rattle.calls.specs.Room.{Room, WordsRoom, stops_at_depth};
 ghost use Rattle.table_bytes.specs.Bytes.{length_fits};
 ghost use Rattle.calls.specs.Tests.{opened, headed, admitted, admitted_by, left, words_left, starts_left};
 
 use crate::records::{test_head, test_named};
-use crate::{Stop, check_words};
+use crate::{Stop, check_words, numbers_of};
 use parity_table::{depth_fits, index, is_deep};
 use table_bytes::{MAX_WORDS, SHALLOW_WORDS, length_fits, words_from};
 
@@ -41,6 +41,15 @@ fn test_table(depth: usize, sized: bool, table: &[u8], words: &mut [u32]) -> Res
     enter(depth, sized && length_fits(table.len()))?;
     let n = words_from(table, words);
     check_words(&words[..n], depth)
+}
+
+// Whether an answer is 1, at another depth than 0. Functions with large arrays asked it when they called themselves to stay out of other frames
+// (docs/DECISIONS.md, "Arrays of deeper calls"); it is kept for who uses it.
+#[tactic(auto, unfolding(crate::specs::Room::stops_at_depth))]
+pub fn stops_at_depth(depth: usize, a: Result<(), Stop>) -> bool
+    ensures { result ≡ stops_at_depth depth a }
+{
+    numbers_of(a).number == 1 && 0 < depth
 }
 
 // check_table with room for so many words, which is on the stack of a call of this function alone.

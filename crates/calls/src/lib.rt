@@ -9,7 +9,7 @@ mod numbering; // an answer as numbers
 mod records; // 11, 12: a record, and the table that it names
 mod table; // 3, 10: a table
 
-pub use admission::{admit, admit_by, check_table, enter, enter_by};
+pub use admission::{admit, admit_by, check_table, enter, enter_by, stops_at_depth};
 pub use base::test_number;
 pub use lengths::tree_fits;
 pub use marks::test_marks;

@@ -97,7 +97,7 @@ absent_in ms m j x e =
     subst (λ (z : ℕ). 1 ≤ count (is_it z) ms) (sym first) (first_member (absent_at tree m j) ms some)
 
 -- .. and absent
-first-is-absent : (ms m : List ℕ) (j x : ℕ) → find (absent_at tree m j) ms ≡ Some x → absent_at tree m j x ≡ true
+pub first-is-absent : (ms m : List ℕ) (j x : ℕ) → find (absent_at tree m j) ms ≡ Some x → absent_at tree m j x ≡ true
 first-is-absent ms m j x e =
     let (some, first) = found-first (absent_at tree m j) ms x e in
     ap (absent_at tree m j) first ∙ first_of-passes (absent_at tree m j) ms some

@@ -15,8 +15,18 @@ fits m d = nat_le (length m) longest && length d == 32
 abbrev pub wrong_length : WrongLength
 wrong_length = record {}
 
-unfoldable pub answer : List ℕ → List ℕ → Result Unit WrongLength
-answer m d = pick (fits m d) (Ok tt) (Err wrong_length)
+-- what the hasher answers: done, or a length is wrong
+abbrev pub Answer : Type 0
+Answer = Result Unit WrongLength
+
+abbrev pub Done : Answer
+Done = Ok tt
+
+abbrev pub Length : Answer
+Length = Err wrong_length
+
+unfoldable pub answer : List ℕ → List ℕ → Answer
+answer m d = pick (fits m d) Done Length
 
 -- what the digest holds afterwards
 unfoldable pub after : List ℕ → List ℕ → List ℕ
