@@ -1,5 +1,5 @@
 // Checking a fault proof.
-ghost use Rattle.std.specs.Prelude.{◌≡◌, ◌≤◌, replicate, Err};
+ghost use Rattle.std.specs.Prelude.{◌≡◌, ◌≤◌, replicate};
 ghost use Rattle.fault_proof.specs.Verdicts.{verdict_of};
 ghost use Rattle.calls.specs.Room.{Room};
 ghost use Rattle.fault_calls.specs.Checking.{proof_sized, judged, proof_checked};
@@ -9,15 +9,17 @@ use fault_proof::Refusal;
 use parity_table::{MAX_EQUATIONS, SHALLOW_EQUATIONS, Table, is_deep};
 use table_bytes::{MAX_WORDS, SHALLOW_WORDS};
 
-// Why a proof is turned down, as why the call stopped. No `From`, since neither type is of this crate.
-fn stop_of(refusal: Refusal) -> Stop
-    ensures { Err result ≡ judged (verdict_of (Err refusal)) }
+// The checker's verdict as an answer: why a proof is turned down, as why the call stopped. No `From`, since neither type is of this crate, and no
+// `map_err`: the five cases stand side by side, as in the definition.
+fn answer_of(v: Result<(), Refusal>) -> Result<(), Stop>
+    ensures { result ≡ judged (verdict_of v) }
 {
-    match refusal {
-        Refusal::WrongHead => Stop::Head,
-        Refusal::WrongLength => Stop::Length,
-        Refusal::Broken { layer, position } => Stop::Hash { layer, position },
-        Refusal::NoFault => Stop::NoFault,
+    match v {
+        Ok(()) => Ok(()),
+        Err(Refusal::WrongHead) => Err(Stop::Head),
+        Err(Refusal::WrongLength) => Err(Stop::Length),
+        Err(Refusal::Broken { layer, position }) => Err(Stop::Hash { layer, position }),
+        Err(Refusal::NoFault) => Err(Stop::NoFault),
     }
 }
 
@@ -48,7 +50,7 @@ fn check_by<const WORDS: usize, const EQUATIONS: usize>(
     let n = table.len() / 4;
     let root = &root_record[root_record::ROOT_AT..];
     let table = Table::new(depth, &words[..n], &starts);
-    fault_proof::check(kind, &table, root, proof).map_err(stop_of)
+    answer_of(fault_proof::check(kind, &table, root, proof))
 }
 
 // Checks a fault proof against a record and a table that comes as bytes: tests 1, 2, 11, 3, 10, 12, 6, then 2 again for the length its head

@@ -7,7 +7,7 @@ ghost use Rattle.symbol_hash.specs.SymbolHash.{symbol_hash};
 ghost use Rattle.peeling.specs.Levels.{Peelable, Reads};
 ghost use Rattle.peeling.specs.States.{Came, Kept, gain_of};
 
-use crate::search::{lower, pick};
+use crate::search::{lower, past, pick};
 use crate::{Refutation, Run};
 use equation::{Turn, take};
 use symbol_hash::Kind;
@@ -60,7 +60,7 @@ pub fn peel_layer(
 {
     let mut at = 0;
     while let Some(e) = pick(used, absent, order, at) {
-        at = at.max(e + 1);
+        at = past(at, e);
         let number = from + e;
         let turn = take(
             kind, root, words, starts, number, tree, marks, out, used, j, e,

@@ -1,6 +1,6 @@
 // The next equation to take: for each equation the number of its absent members, a cursor that goes over the equations once, and in a tournament those
 // before the cursor that are unused and have at most one. A stored symbol changes only the equations that it stands in.
-ghost use Rattle.std.specs.Prelude.{◌≡◌, List, ℕ, ◌+◌, ◌-◌, ◌*◌, ◌^◌, ◌≤◌, ◌<◌, MatchOption, length, get_or, set};
+ghost use Rattle.std.specs.Prelude.{◌≡◌, List, ℕ, ◌+◌, ◌-◌, ◌*◌, ◌^◌, ◌≤◌, ◌<◌, MatchOption, max, length, get_or, set};
 ghost use Rattle.model.specs.Shape.{tree as shape};
 ghost use Rattle.model.specs.Symbols.{count};
 ghost use Rattle.model.specs.Repair.{absent_at};
@@ -73,6 +73,14 @@ pub fn pick(used: &[u8], absent: &[u8], order: &mut [u32], at: usize) -> Option<
     }
     set(order, e, n as u32);
     Some(e)
+}
+
+// The cursor, once equation e is taken: past it. No `max`: one before the cursor leaves it as it is, and another takes it on.
+pub fn past(at: usize, e: usize) -> usize
+    requires { e < 2 ^ 30 }
+    ensures { result ≡ max at (e + 1) }
+{
+    if e < at { at } else { e + 1 }
 }
 
 // Equation q has one absent member fewer. Where it is before the cursor and has one left, it enters the order; where it has none it was there already,

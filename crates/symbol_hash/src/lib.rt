@@ -62,12 +62,10 @@ pub fn hash(kind: Kind, layer: usize, number: usize, symbol: &[u8]) -> [u8; 32]
     requires { length symbol.now ≡ 256 }
     ensures { result ≡ symbol_hash kind layer number symbol.now }
 {
+    let mut digest = [0u8; 32];
     match kind {
-        Kind::Plain => sha256::digest_of(symbol),
-        Kind::Placed => {
-            let mut digest = [0u8; 32];
-            sha256::digest_with_word(place_word(layer, number), symbol, &mut digest);
-            digest
-        }
+        Kind::Plain => digest = sha256::digest_of(symbol),
+        Kind::Placed => sha256::digest_with_word(place_word(layer, number), symbol, &mut digest),
     }
+    digest
 }

@@ -10,7 +10,7 @@ pub returns-in-Plain : goal.returns-in-Plain
 unfolding symbol_hash
 returns-in-Plain c =
     let a = c.args in
-    c.digest_of.ensures ∙ sym (ap (λ k. symbol_hash k a.layer a.number a.symbol.now) c.in-Plain.is)
+    c.digest_of-digest.ensures ∙ sym (ap (λ k. symbol_hash k a.layer a.number a.symbol.now) c.in-Plain.is)
 
 pub returns-in-Placed : goal.returns-in-Placed
 unfolding symbol_hash

@@ -1,14 +1,11 @@
 -- `check_by` meets its contract: refused by a test, or as the verdict says.
-use mathlib.Core.Path.{◌≡◌, sym, ap, ◌∙◌}
+use mathlib.Core.Path.{sym, ap, ◌∙◌}
 use Prim.Native.Nat.{ℕ}
 use native.Mathlib.Omega.{arith}
 use lib.ListN.{length, length-replicate}
 use Rattle.std.proofs.lemmas.Result.{err_from_is_err_and}
-use Rattle.std.proofs.Common.{rules, tests}
 use Rattle.parity_table.specs.Accepted.{Accepted}
 use Rattle.parity_table.specs.Parse.{table_of}
-use Rattle.fault_proof.specs.Verdicts.{verdict_of}
-use Rattle.fault_calls.specs.Checking.{judged}
 use Rattle.calls.proofs.RecordLaws.{ready_by, root_length, root_part_lem}
 use Rattle.fault_calls.proofs.CheckingLaws.{lengths, refused, sizes, went_on}
 use Rattle.fault_calls.proofs.checking.check_by.Goals as goal
@@ -59,6 +56,5 @@ returns over c =
     let g = c.args in
     let e = c.in_ok-admit_by.ensures.0 in
     let k = ready_by g.depth _ g.root_record.now g.table.now e _ _ _ _ c.requires.room c.admit_by.ensures.1 c.admit_by.ensures.2 in
-    let m : c.map_err.result ≡ judged (verdict_of c.check.result) = search (rules, tests) in
-    m
+    c.answer_of.ensures
     ∙ went_on g.depth g.root_record.now g.table.now g.proof.now c.sizes_fit-sized.ensures _ _ _ _ c.kind-kind.ensures (root_part_lem g.root_record.now) (ap (λ (t : Accepted). t.layers) c.new-table.ensures ∙ ap table_of k.words_there) c.check.ensures e
